@@ -118,10 +118,11 @@ feed_at bs None h = tt
 feed_at bs (Some k) h =
     let e = position_or_len_is (λ b. b == 10) bs k 0 (omega (arith, h.0.high)) (λ j lt. not_true _ (h.0.before j (omega arith) lt)) (λ lt. h.1) in
     let q : position_or_len (λ b. b == 10) bs < length bs = omega (arith, e, h.0.high) in
-    let byte : get_or bs k 0 ≡ 10 = grind (arith, h.1) in
-    (split_at_first (λ b. b == 10) bs 0 q ∙ rw (e, byte) refl,
-     All-from_get_or (λ b. (b == 10) ≡ false) (take k bs) 0 (λ j lt. let small : j < k = omega (arith, lt, length-take k bs) in
-       rw (get_or-take k bs j 0 small) (not_true _ (h.0.before j (omega arith) small))))
+    let byte : get_or bs k 0 ≡ 10 = grind (arith, h.1) in (
+      split_at_first (λ b. b == 10) bs 0 q ∙ rw (e, byte) refl,
+      All-from_get_or (λ b. (b == 10) ≡ false) (take k bs) 0 (λ j lt. let small : j < k = omega (arith, lt, length-take k bs) in
+          rw (get_or-take k bs j 0 small) (not_true _ (h.0.before j (omega arith) small))),
+    )
 
 pub ready_raw : (bs : List ℕ) (at : ℕ) (long : Bool) (line : List ℕ) (left : Option (List ℕ)) → FeedAt bs at → Kept line long (take at bs)
     → TakesRaw (prepend_known bs left) (prepend_known (drop (at + 1) bs) left) true long line
