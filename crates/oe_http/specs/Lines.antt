@@ -1,5 +1,5 @@
 -- The lines of an input, one at a time.
-use Rattle.std.specs.Prelude.{ℕ, ◌≡◌, ◌≤◌, ◌<◌, ◌==◌, Bool, true, false, if◌then◌else◌, List, [], ◌∷◌, ◌++◌, length, take, drop, ◌+◌, All, Option, Some, None}
+use Rattle.std.specs.Prelude.{ℕ, ◌-◌, ◌≢◌, get_or, ◌≡◌, ◌≤◌, ◌<◌, ◌==◌, Bool, true, false, if◌then◌else◌, List, [], ◌∷◌, ◌++◌, length, take, drop, ◌+◌, All, Option, Some, None}
 use Rattle.std.specs.Str.Lines.{lines}
 use Rattle.std.specs.Io.KnownBytes.{Consumes, IsAtEnd}
 use Rattle.oe_http.specs.declared.lines.Next.{Next}
@@ -28,6 +28,16 @@ pub record TakesRaw (before after : Option (List ℕ)) (has_feed is_long : Bool)
 -- a line feed is at this place, and none before it
 abbrev pub FeedAt : List ℕ → ℕ → Type 0
 FeedAt bytes at = (bytes ≡ take at bytes ++ 10 ∷ drop (at + 1) bytes) × All (λ b. (b == 10) ≡ false) (take at bytes)
+
+-- a line feed is among some bytes
+abbrev pub HasFeed : List ℕ → Type 0
+HasFeed bytes = (at : ℕ) × (at < length bytes) × (get_or bytes at 0 ≡ 10)
+
+-- the whole lines of some bytes end here, at 0 where there is none
+pub record WholeLinesEnd (bytes : List ℕ) (at : ℕ) : Type 0 where
+  pub within : at ≤ length bytes
+  pub feed : 0 < at → get_or bytes (at - 1) 0 ≡ 10
+  pub behind : (j : ℕ) → at ≤ j → j < length bytes → get_or bytes j 0 ≢ 10
 
 -- what the next line is
 abbrev pub LineIs : List ℕ → List ℕ → Next → List ℕ → Type 0

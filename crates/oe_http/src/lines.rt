@@ -3,11 +3,11 @@ ghost use Rattle.std.specs.Prelude.{◌≡◌, ◌≢◌, Option, ◌≤◌, ◌
 ghost use Rattle.oe_http.specs.Causes.{Rose};
 ghost use Rattle.std.specs.Str.Lines.{strip_carriage_return};
 ghost use Rattle.std.specs.Io.KnownBytes.{Keeps, IsAtEnd};
-ghost use Rattle.oe_http.specs.Lines.{TakesRaw, Kept, GivesLine, IsSized, FeedAt};
+ghost use Rattle.oe_http.specs.Lines.{TakesRaw, Kept, GivesLine, IsSized, FeedAt, HasFeed, WholeLinesEnd};
 ghost use Rattle.oe_http.specs.Pending.{Pending, unread, most_left, GivesByte, FellBy};
 
 use crate::{Failed, Source};
-use memchr::memchr;
+use memchr::{memchr, memrchr};
 use std::alloc::{AllocError, AllocFailed};
 use std::marker::Model;
 
@@ -135,12 +135,25 @@ fn first_feed(bytes: &[u8]) -> Option<usize>
     memchr(b'\n', bytes)
 }
 
+#[tactic(auto, using(crate::proofs::FeedFacts::lines_end_at, crate::proofs::FeedFacts::lines_end_none))]
+// Where the whole lines of some bytes end.
+fn whole_lines_end(bytes: &[u8]) -> usize
+    ensures { WholeLinesEnd bytes.now result }
+{
+    match memrchr(b'\n', bytes) {
+        Some(at) => at + 1,
+        None => 0,
+    }
+}
+
 /// Bytes of a source that are read block by block.
 #[derive(Drop)]
 pub struct LineReader {
     block: [u8; BLOCK],
     start: usize,
     end: usize,
+    // Where the whole lines of the block end.
+    feeds: usize,
     taken: u64,
 }
 
@@ -149,7 +162,7 @@ impl Model for LineReader {
 
     ghost view = { λ r. record { bytes = slice_range r.block r.start r.end; taken = r.taken } };
 
-    ghost invariant = { λ r. (r.start ≤ r.end) × (r.end ≤ 65536) × (r.taken ≤ 2 ^ 40 + 65536) };
+    ghost invariant = { λ r. (r.start ≤ r.end) × (r.end ≤ 65536) × (r.taken ≤ 2 ^ 40 + 65536) × WholeLinesEnd (take r.end r.block) r.feeds };
 }
 
 impl LineReader {
@@ -161,13 +174,17 @@ impl LineReader {
             block: [0; BLOCK],
             start: 0,
             end: 0,
+            feeds: 0,
             taken: 0,
         }
     }
 
     /// Whether the end of a line is pending.
-    pub fn has_line(&self) -> bool {
-        self.ready().is_some()
+    pub fn has_line(&self) -> bool
+        ensures yes { result ≡ true → HasFeed self.now.bytes }
+        ensures no { result ≡ false → HasFeed self.now.bytes → ⊥ }
+    {
+        self.start < self.feeds
     }
 
     /// The next byte, or none at the end.
@@ -297,6 +314,7 @@ impl LineReader {
         Ok(false)
     }
 
+    #[tactic(auto, using(crate::proofs::FeedFacts::lines_end_empty))]
     // Reads a block where no byte is pending. Answers whether one is then.
     fn fill<S: Source>(&mut self, source: &mut S) -> Result<bool, ReadError>
         ensures kept { IfOk result (λ _. Keeps (unread self.old (S.left source.old)) (unread self.new (S.left source.new))) }
@@ -316,9 +334,12 @@ impl LineReader {
         if self.taken >= MOST_TAKEN {
             return Err(ReadError::InputLong);
         }
-        let count = source.read(&mut self.block)?;
         self.start = 0;
+        self.end = 0;
+        self.feeds = 0;
+        let count = source.read(&mut self.block)?;
         self.end = count;
+        self.feeds = whole_lines_end(&self.block[..count]);
         self.taken += count as u64;
         Ok(count > 0)
     }
