@@ -1,6 +1,6 @@
 //! Exact comparisons with one square root.
 
-ghost use Rattle.std.specs.Prelude.{◌≡◌, ◌↔◌, ◌*◌, ◌^◌, ◌<◌, ℕ, ℤ, ◌*ℤ◌, pos, unsigned_abs, IsTrue};
+ghost use Rattle.std.specs.Prelude.{◌≡◌, ◌↔◌, ◌*◌, ◌^◌, ◌<◌, ℕ, ℤ, ◌*ℤ◌, ◌≤ℤ◌, ◌<ℤ◌, pos, unsigned_abs, IsTrue};
 ghost use Rattle.std.specs.Ordering.{int_cmp};
 ghost use Rattle.grid_exact.specs.Root.{signed_square as signed_square_of, AboveRoot, AtLeastRoot, AtMostRoot, BelowRoot, AtMostTable, BelowTable, ProductFits};
 
@@ -70,6 +70,14 @@ pub fn is_above_root(a: i128, b: i128, n: u128) -> bool
     ensures { IsTrue result ↔ AboveRoot a b n }
 {
     cmp_root(a, b, n).is_gt()
+}
+
+/// A law, with nothing to run: where `n` is the square of `m`, the comparison is with `b * m`.
+#[tactic(auto, using(crate::proofs::RootTables::squares))]
+pub fn root_of_square()
+    ensures at_most { (a b : ℤ) (m : ℕ) → AtMostRoot a b (m * m) ↔ (a ≤ℤ (b *ℤ pos m)) }
+    ensures below { (a b : ℤ) (m : ℕ) → BelowRoot a b (m * m) ↔ (a <ℤ (b *ℤ pos m)) }
+{
 }
 
 /// A law, with nothing to run: the comparisons of signed squares are those of the table by the signs of `a` and `b`.
