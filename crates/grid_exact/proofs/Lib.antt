@@ -1,1 +1,10 @@
 pub mod AreaLemmas
+pub mod IntLaws
+pub mod RootTables
+pub mod RootOrder
+pub mod RootSums
+pub mod Vectors
+pub mod Sizes
+pub mod SlopeLemmas
+pub mod ExcessLemmas
+pub mod Booleans

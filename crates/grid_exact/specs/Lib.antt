@@ -1,2 +1,8 @@
 pub mod Grid
 pub mod Area
+pub mod Root
+pub mod Level
+pub mod Excess
+pub mod Vector
+pub mod Products
+pub mod Laws

@@ -1,0 +1,147 @@
+-- Reads, one after another, of bytes that are known where the source tells.
+use Rattle.std.proofs.Common.{arith, ℕ, ◌-◌, ◌≡◌, ◌≤◌, ◌<◌, ◌==◌, Bool, true, false, List, [], ◌∷◌, ◌++◌, length, Option, Some, None, All, refl, sym, suc, take, length-take, slice_index, cond, append-nil, ◌∙◌, ap, append_assoc, drop, ◌+◌, get_or, get_or-take, IfSome, slice_range, drop-drop}
+use Rattle.std.specs.Io.KnownBytes.{Consumes}
+use Rattle.std.proofs.lemmas.List.Elements.{All-push, All-from_get_or}
+use Rattle.std.specs.Io.KnownBytes.{prepend_known}
+use Rattle.std.specs.List.{position_or_len, before_first, after_first}
+use Rattle.std.proofs.lemmas.List.Sums.{position_or_len_is, split_at_first, fails_before_first, passes_at_first}
+use Rattle.memchr.specs.Find.{IsFirstByte, is_byte}
+use Rattle.oe_http.specs.Lines.{FeedAt}
+use Rattle.std.proofs.lemmas.List.{nil_from_length, drop-take}
+use Rattle.oe_http.specs.Pending.{FellBy}
+use Rattle.oe_http.specs.Lines.{Kept, HasRead, TakesRaw, GivesLine, IsSized}
+use Rattle.std.specs.List.{slice_split}
+use Rattle.std.specs.Str.Lines.{lines, lines_of_parts, strip_carriage_return}
+use Rattle.std.proofs.lemmas.List.Splits.{slice_split_at, slice_split_none, length-slice_split}
+use Rattle.oe_http.specs.declared.lines.Next.{Next}
+use Rattle.oe_http.specs.declared.lines.Next.TheVariants as next
+
+pub fell_on : (x y z : Option (List ℕ)) (a b c : ℕ) → a ≤ b → b ≤ c → FellBy (b - a) x y → FellBy (c - b) y z → FellBy (c - a) x z
+fell_on None y z a b c p q h k = tt
+fell_on (Some xs) None z a b c p q h k = absurd h
+fell_on (Some xs) (Some ys) None a b c p q h k = absurd k
+fell_on (Some xs) (Some ys) (Some zs) a b c p q h k = omega arith
+
+pub consumes_on : (x y z : Option (List ℕ)) (p q : List ℕ) → Consumes x y p → Consumes y z q → Consumes x z (p ++ q)
+consumes_on None y z p q h k = tt
+consumes_on (Some xs) None z p q h k = absurd h
+consumes_on (Some xs) (Some ys) None p q h k = absurd k
+consumes_on (Some xs) (Some ys) (Some zs) p q h k = h ∙ ap (λ t. p ++ t) k ∙ sym (append_assoc p q zs)
+
+pub read_end : (x y z : Option (List ℕ)) (long : Bool) (line : List ℕ) → HasRead x y long line → Consumes y z (10 ∷ []) → TakesRaw x z true long line
+read_end x y z long line h k = record {
+  raw = h.raw;
+  takes = consumes_on x y z h.raw (10 ∷ []) h.takes k;
+  ends = λ e. absurd (cc);
+  plain = h.plain;
+  kept = h.kept;
+}
+
+pub read_on : (x y z : Option (List ℕ)) (long long' : Bool) (line line' : List ℕ) (b : ℕ) → HasRead x y long line → Consumes y z (b ∷ []) → (b == 10) ≡ false
+    → ((raw : List ℕ) → Kept line long raw → Kept line' long' (raw ++ b ∷ [])) → HasRead x z long' line'
+read_on x y z long long' line line' b h k other kept = record {
+  raw = h.raw ++ b ∷ [];
+  takes = consumes_on x y z h.raw (b ∷ []) h.takes k;
+  plain = All-push (λ c. (c == 10) ≡ false) h.raw b h.plain other;
+  kept = kept h.raw h.kept;
+}
+
+-- a line that ends with a line feed
+lines_fed : (raw ys : List ℕ) → All (λ b. (b == 10) ≡ false) raw → lines ((raw ++ 10 ∷ []) ++ ys) ≡ strip_carriage_return raw ∷ lines ys
+lines_fed raw ys plain =
+    rw (append_assoc raw (10 ∷ []) ys, slice_split_at (λ b. b == 10) raw 10 ys plain refl) (parts (slice_split (λ b. b == 10) ys) (omega (arith, length-slice_split (λ b. b == 10) ys)))
+  where
+    parts : (more : List (List ℕ)) → 0 < length more → lines_of_parts (raw ∷ more) ≡ strip_carriage_return raw ∷ lines_of_parts more
+    parts [] h = absurd (omega arith)
+    parts (y ∷ more) h = refl
+
+suc_test : (n : ℕ) → (suc n == 0) ≡ false
+suc_test n = grind arith
+
+-- where nothing follows, the bytes that were taken are all
+all_taken : (raw xs ys : List ℕ) → xs ≡ (raw ++ []) ++ ys → ys ≡ [] → xs ≡ raw
+all_taken raw xs ys e f = rw (e, f, append-nil (raw ++ []), append-nil raw) refl
+
+-- a line that ends with the input
+lines_last : (raw xs ys : List ℕ) → xs ≡ (raw ++ []) ++ ys → ys ≡ [] → 0 < length raw → All (λ b. (b == 10) ≡ false) raw → lines xs ≡ raw ∷ lines ys
+lines_last [] xs ys e f h plain = absurd (omega arith)
+lines_last (b ∷ raw) xs ys e f h plain =
+    rw (all_taken (b ∷ raw) xs ys e f, f, slice_split_none (λ c. c == 10) (b ∷ raw) plain, suc_test (length raw)) refl
+
+-- taking a carriage return off a line that is too long leaves it too long
+strip_long : (raw : List ℕ) → 8193 < length raw → 8192 < length (strip_carriage_return raw)
+strip_long raw h =
+    elim (slice_index raw (length raw - 1) == 13) as (λ b. 8192 < length (cond b (take (length raw - 1) raw) raw)) [
+      | true ↦ omega (arith, length-take {A = ℕ})
+      | false ↦ omega arith
+    ]
+
+pub gives_long : (x y : Option (List ℕ)) (fed : Bool) (line line' : List ℕ) → TakesRaw x y fed true line → GivesLine x y next.TooLong line'
+gives_long None y fed line line' t = tt
+gives_long (Some xs) None fed line line' t = absurd t.takes
+gives_long (Some xs) (Some ys) true line line' t = (strip_carriage_return t.raw, rw t.takes (lines_fed t.raw ys t.plain), strip_long t.raw t.kept)
+gives_long (Some xs) (Some ys) false line line' t = (t.raw, lines_last t.raw xs ys t.takes (t.ends refl) (omega (arith, t.kept)) t.plain, omega (arith, t.kept))
+
+pub gives_fed : (x y : Option (List ℕ)) (line line' : List ℕ) (n : Next) → TakesRaw x y true false line → line' ≡ strip_carriage_return line → IsSized n line' → GivesLine x y n line'
+gives_fed None y line line' n t e s = tt
+gives_fed (Some xs) None line line' n t e s = absurd t.takes
+gives_fed (Some xs) (Some ys) line line' next.Whole t e s = (rw (t.takes, e, t.kept.0) (lines_fed t.raw ys t.plain), s)
+gives_fed (Some xs) (Some ys) line line' next.TooLong t e s = (line', rw (t.takes, e, t.kept.0) (lines_fed t.raw ys t.plain), s)
+gives_fed (Some xs) (Some ys) line line' next.End t e s = absurd s
+
+pub gives_last : (x y : Option (List ℕ)) (line line' : List ℕ) (n : Next) → TakesRaw x y false false line → 0 < length line → IsSized n line → line' ≡ line → GivesLine x y n line'
+gives_last None y line line' n t some s e = tt
+gives_last (Some xs) None line line' n t some s e = absurd t.takes
+gives_last (Some xs) (Some ys) line line' next.Whole t some s e = (rw (e, t.kept.0) (lines_last t.raw xs ys t.takes (t.ends refl) (omega (arith, ap length t.kept.0)) t.plain), omega (arith, ap length e))
+gives_last (Some xs) (Some ys) line line' next.TooLong t some s e = (line, rw t.kept.0 (lines_last t.raw xs ys t.takes (t.ends refl) (omega (arith, ap length t.kept.0)) t.plain), s)
+gives_last (Some xs) (Some ys) line line' next.End t some s e = absurd s
+
+pub gives_end : (x y : Option (List ℕ)) (line line' : List ℕ) → TakesRaw x y false false line → length line ≡ 0 → GivesLine x y next.End line'
+gives_end None y line line' t none = tt
+gives_end (Some xs) None line line' t none = absurd t.takes
+gives_end (Some xs) (Some ys) line line' t none = (all_taken t.raw xs ys t.takes (t.ends refl) ∙ nil_from_length t.raw (omega (arith, ap length t.kept.0)), t.ends refl)
+
+pub fell_none : (x : Option (List ℕ)) (a : ℕ) → FellBy (a - a) x x
+fell_none None a = tt
+fell_none (Some xs) a = omega arith
+
+not_true : (b : Bool) → (b ≡ true → ⊥) → b ≡ false
+not_true true h = absurd (h refl)
+not_true false h = refl
+
+pub feed_within : (bs : List ℕ) (r : Option ℕ) → IsFirstByte (is_byte 10) bs r → IfSome r (λ at. at < length bs)
+feed_within bs None h = tt
+feed_within bs (Some k) h = h.0.high
+
+pub feed_at : (bs : List ℕ) (r : Option ℕ) → IsFirstByte (is_byte 10) bs r → IfSome r (λ at. FeedAt bs at)
+feed_at bs None h = tt
+feed_at bs (Some k) h =
+    let e = position_or_len_is (λ b. b == 10) bs k 0 (omega (arith, h.0.high)) (λ j lt. not_true _ (h.0.before j (omega arith) lt)) (λ lt. h.1) in
+    let q : position_or_len (λ b. b == 10) bs < length bs = omega (arith, e, h.0.high) in
+    let byte : get_or bs k 0 ≡ 10 = grind (arith, h.1) in (
+      split_at_first (λ b. b == 10) bs 0 q ∙ rw (e, byte) refl,
+      All-from_get_or (λ b. (b == 10) ≡ false) (take k bs) 0 (λ j lt. let small : j < k = omega (arith, lt, length-take k bs) in
+          rw (get_or-take k bs j 0 small) (not_true _ (h.0.before j (omega arith) small))),
+    )
+
+pub ready_raw : (bs : List ℕ) (at : ℕ) (long : Bool) (line : List ℕ) (left : Option (List ℕ)) → FeedAt bs at → Kept line long (take at bs)
+    → TakesRaw (prepend_known bs left) (prepend_known (drop (at + 1) bs) left) true long line
+ready_raw bs at long line None f k = record { raw = take at bs; takes = tt; ends = λ e. absurd (cc); plain = f.1; kept = k }
+ready_raw bs at long line (Some ys) f k = record {
+  raw = take at bs;
+  takes = ap (λ t. t ++ ys) f.0 ∙ append_assoc (take at bs) (10 ∷ drop (at + 1) bs) ys ∙ sym (append_assoc (take at bs) (10 ∷ []) (drop (at + 1) bs ++ ys));
+  ends = λ e. absurd (cc);
+  plain = f.1;
+  kept = k;
+}
+
+pub ready_short : (bs p old line new : List ℕ) (at : ℕ) (left : Option (List ℕ)) → FeedAt bs at → old ≡ [] → p ≡ bs → line ≡ old ++ take at p → new ≡ drop (at + 1) bs → at ≤ 8193
+    → TakesRaw (prepend_known bs left) (prepend_known new left) true false line
+ready_short bs p old line new at left f e q l n small =
+    rw n (ready_raw bs at false line left f (rw (l, e, q) refl, omega (arith, length-take at bs)))
+
+pub skipped : (xs bs : List ℕ) (start end count : ℕ) → slice_range xs start end ≡ bs → start ≤ end → count ≤ length bs → slice_range xs (start + count) end ≡ drop count bs
+skipped xs bs start end count e le small =
+    let short : count ≤ end - start = omega (arith, ap length e, length-take (end - start) (drop start xs)) in
+    let m : end - start ≡ count + (end - (start + count)) = omega (arith, le, short) in
+    rw (← e, m, drop-take count (end - (start + count)) (drop start xs), drop-drop count start xs) refl

@@ -1,0 +1,12 @@
+-- What the streams over memory have left and hold.
+use Rattle.std.specs.Prelude.{ℕ, List, drop}
+use Rattle.oe_http.specs.declared.fakes.FakeSource.{FakeSource}
+use Rattle.oe_http.specs.declared.fakes.FakeSink.{FakeSink}
+
+-- the bytes that a source has not handed out
+abbrev pub bytes_left : FakeSource → List ℕ
+bytes_left s = drop s.at s.bytes
+
+-- the bytes that a sink was given
+abbrev pub bytes_held : FakeSink → List ℕ
+bytes_held s = s.bytes.items

@@ -1,0 +1,5 @@
+pub mod Causes
+pub mod Fakes
+pub mod Lines
+pub mod Pending
+pub mod Written

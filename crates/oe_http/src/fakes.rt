@@ -1,0 +1,117 @@
+// Streams over memory that fail at chosen calls.
+ghost use Rattle.std.specs.Prelude.{◌≡◌, ◌≤◌, Some, IfOk, [], drop, take, min, length};
+
+use crate::{Failed, Sink, Source};
+use grid_exact::{Bytes, NoMemory};
+use std::alloc::Global;
+
+/// A source of these bytes, at most so many in one read. It counts its reads from 1 and fails at the listed ones.
+#[derive(Drop)]
+pub struct FakeSource {
+    bytes: Bytes,
+    at: usize,
+    most: usize,
+    fail: Vec<u64>,
+    calls: u64,
+    faults: u64,
+    ghost within: { at ≤ length bytes },
+    ghost some: { 1 ≤ most },
+}
+
+impl FakeSource {
+    ghost use Rattle.oe_http.specs.Fakes.{bytes_left};
+
+    pub fn new(bytes: Bytes, most: usize, fail: Vec<u64>) -> Self
+        requires some { 1 ≤ most }
+        ensures left { bytes_left result ≡ bytes }
+    {
+        FakeSource {
+            bytes,
+            at: 0,
+            most,
+            fail,
+            calls: 0,
+            faults: 0,
+        }
+    }
+}
+
+// Copies the front of some bytes, as much of it as there is room for, and at most so many bytes. Answers how many.
+fn copy_front(buf: &mut [u8], bytes: &[u8], most: usize) -> usize
+    ensures count { result ≡ min (min (length bytes.now) most) (length buf.old) }
+    ensures front { take result buf.new ≡ take result bytes.now }
+{
+    let count = bytes.len().min(most).min(buf.len());
+    buf[..count].copy_from_slice(&bytes[..count]);
+    count
+}
+
+impl Source for FakeSource {
+    ghost left = { λ s. Some (drop s.at s.bytes) };
+
+    ghost faults = { λ s. s.faults };
+
+    fn read(&mut self, buf: &mut [u8]) -> Result<usize, Failed> {
+        self.calls = self.calls.saturating_add(1);
+        if self.fail.contains(&self.calls) {
+            self.faults = self.faults.saturating_add(1);
+            return Err(Failed);
+        }
+        let count = copy_front(buf, &self.bytes.as_slice()[self.at..], self.most);
+        self.at += count;
+        Ok(count)
+    }
+}
+
+/// A sink with room for so many bytes. It counts its writes from 1. A write past the room fails, and so do the
+/// listed ones.
+#[derive(Drop)]
+pub struct FakeSink {
+    bytes: Vec<u8>,
+    room: usize,
+    fail: Vec<u64>,
+    calls: u64,
+    faults: u64,
+}
+
+impl FakeSink {
+    ghost use Rattle.oe_http.specs.Fakes.{bytes_held};
+
+    pub fn new(alloc: Global, room: usize, fail: Vec<u64>) -> Result<FakeSink, NoMemory>
+        ensures empty { IfOk result (λ sink. bytes_held sink ≡ []) }
+    {
+        Ok(FakeSink {
+            bytes: Vec::with_capacity(alloc, room)?,
+            room,
+            fail,
+            calls: 0,
+            faults: 0,
+        })
+    }
+
+    /// The bytes that it was given.
+    pub fn bytes(&self) -> &[u8]
+        ensures held { result.now ≡ bytes_held self.now }
+    {
+        &self.bytes
+    }
+}
+
+impl Sink for FakeSink {
+    ghost held = { λ s. Some s.bytes.items };
+
+    ghost faults = { λ s. s.faults };
+
+    fn write(&mut self, buf: &[u8]) -> Result<usize, Failed> {
+        self.calls = self.calls.saturating_add(1);
+        let is_full = buf.len() > self.room.saturating_sub(self.bytes.len());
+        if is_full
+            || self.fail.contains(&self.calls)
+            || self.bytes.extend_from_slice(buf).is_err()
+        {
+            self.faults = self.faults.saturating_add(1);
+            return Err(Failed);
+        }
+        Ok(buf.len())
+    }
+}

@@ -1,0 +1,22 @@
+// A text, written whole.
+ghost use Rattle.std.specs.Prelude.{List, ℕ, [], OnOk, OnErr};
+ghost use Rattle.oe_http.specs.Causes.{HasCause};
+ghost use Rattle.oe_http.specs.Written.{Sent};
+
+use crate::{Failed, Sink};
+
+#[tactic(auto, using(crate::proofs::SentFacts::sent_start, crate::proofs::SentFacts::sent_on, crate::proofs::SentFacts::sent_keep))]
+/// Writes all of a text. Where the sink fails, a front of the text was written.
+pub fn write_whole<O: Sink>(output: &mut O, text: &[u8]) -> Result<(), Failed>
+    ensures ok { OnOk result (Sent (O.held output.old) (O.held output.new) text.now []) }
+    ensures err { OnErr result ((rest : List ℕ) × Sent (O.held output.old) (O.held output.new) text.now rest) }
+    ensures cause { HasCause (O.faults output.old) (O.faults output.new) result }
+{
+    let mut rest = text;
+    while !rest.is_empty() {
+        let count = output.write(rest)?;
+        let (_, after) = rest.split_at(count);
+        rest = after;
+    }
+    Ok(())
+}

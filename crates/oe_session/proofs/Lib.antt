@@ -1,0 +1,2 @@
+pub mod SessionFacts
+pub mod WaitingFacts
