@@ -7,7 +7,7 @@ use Rattle.grid_exact.specs.Root.{AtLeastRoot, AboveRoot, signed_square}
 use Rattle.grid_exact.specs.Excess.{Surface, excess_of, most_excess}
 use Rattle.grid_exact.specs.Vector.{length_of}
 use Rattle.airport_register.specs.Categories.{is_described}
-use Rattle.airport_register.specs.Lengths.{square_length}
+use Rattle.airport_register.specs.Runways.{length_square}
 use Rattle.airport_register.specs.Sites.{Site}
 use Rattle.airport_register.specs.declared.airfield.Airport.{Airport}
 use Rattle.airport_register.specs.declared.runway.Runway.{Runway}
@@ -20,7 +20,7 @@ square_distance a s = length_of (s.at.x -ℤ a.arp.x) (s.at.y -ℤ a.arp.y)
 
 -- a runway of more than 3,200 feet
 abbrev pub is_long : Runway → Bool
-is_long r = nat_lt (32000 * 32000) (square_length r)
+is_long r = nat_lt (32000 * 32000) (length_square r)
 
 -- the airport is of a described category and has a long runway, and the site is at most 5.99 nautical miles, of 60,761 each,
 -- from its reference point: 100 * d <= 599 * 60,761
