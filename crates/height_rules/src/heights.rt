@@ -27,6 +27,7 @@ pub(crate) fn top_for_notice(filing: &Filing) -> i64
     ensures value { result ≡ notice_top filing.now }
     ensures level { IsLevel result }
     ensures low { filing.now.terrain ≤ℤ result }
+    ensures high { result ≤ℤ pos 301000 }
 {
     filing.ground + (filing.height + allowance(filing))
 }
@@ -37,6 +38,7 @@ pub(crate) fn top_for_standards(filing: &Filing) -> i64
     ensures value { result ≡ standards_top filing.now }
     ensures level { IsLevel result }
     ensures low { filing.now.terrain ≤ℤ result }
+    ensures high { result ≤ℤ pos 301000 }
 {
     if filing.flags.controlled {
         return filing.ground + filing.height;

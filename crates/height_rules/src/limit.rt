@@ -1,6 +1,6 @@
 //! The limit near an airport, over one point.
 
-ghost use Rattle.std.specs.Prelude.{◌≡◌, ◌<◌, ◌≤◌, ◌^◌, unsigned_abs};
+ghost use Rattle.std.specs.Prelude.{◌≡◌, ◌<◌, ◌≤◌, ◌^◌, ℤ, ◌≤ℤ◌, unsigned_abs};
 ghost use Rattle.grid_exact.specs.Level.{IsLevel};
 ghost use Rattle.height_rules.specs.Limits.{IsLow, IsAtLimit, IsAboveLimit, is_inner, reach_of};
 
@@ -19,6 +19,28 @@ pub(crate) struct NearLimit {
 }
 
 impl NearLimit {
+    /// The limit over the higher of ground and airport, at this square of the distance.
+    pub(crate) fn new(base: i64, square_distance: u128) -> NearLimit
+        requires low { IsLow base }
+        requires short { square_distance ≤ 2 ^ 55 }
+        ensures base { result.base ≡ base }
+        ensures square_distance { result.square_distance ≡ square_distance }
+    {
+        NearLimit {
+            base,
+            square_distance,
+        }
+    }
+
+    /// The lowest level that it has anywhere.
+    #[tactic(auto, using(crate::proofs::NearFacts::floor_of))]
+    pub(crate) fn lowest(&self) -> i64
+        ensures level { IsLevel result }
+        ensures lowest { (z : ℤ) → IsAtLimit self.now.square_distance self.now.base z → result ≤ℤ z }
+    {
+        self.base + 2000
+    }
+
     /// Whether the point is within three nautical miles.
     fn is_inside(&self) -> bool
         ensures { result ≡ is_inner self.now.square_distance }
