@@ -4,6 +4,7 @@
 #![tactic(auto)]
 
 mod airfield;
+mod amend;
 mod amendment;
 mod category;
 mod field_id;
