@@ -17,19 +17,22 @@ mod root;
 mod slope;
 mod sloping;
 mod steps;
+#[cfg(test)]
+mod tests;
 mod text;
 mod vector;
 
 pub use area::Area;
 pub use cap::Cap;
-pub use coordinate::{COORDINATE_REACH, least_coordinate};
+pub use coordinate::{COORDINATE_REACH, greatest_coordinate, least_coordinate};
 pub use flat::flat_excess;
 pub use level::{LEVEL_LIMIT, least_level};
 pub use memory::NoMemory;
 pub use numbers::{is_at_most, is_below, minus, plus, product, scale};
 pub use point::{COORDINATE_LIMIT, OffGrid, Point};
 pub use root::{
-    cmp_root, is_above_root, is_at_least_root, is_at_most_root, is_below_root, root_tables,
+    cmp_root, is_above_root, is_at_least_root, is_at_most_root, is_below_root, root_of_square,
+    root_tables,
 };
 pub use slope::Slope;
 pub use sloping::{Rising, Sloping, excess, least_reached};
