@@ -1,6 +1,6 @@
 -- Reads, one after another, of bytes that are known where the source tells.
 use Rattle.std.proofs.Common.{arith, ℕ, ◌-◌, ◌≡◌, ◌≤◌, ◌<◌, ◌==◌, Bool, true, false, List, [], ◌∷◌, ◌++◌, length, Option, Some, None, All, refl, sym, suc, take, length-take, slice_index, cond, append-nil, ◌∙◌, ap, append_assoc, drop, ◌+◌, get_or, get_or-take, IfSome, slice_range, drop-drop}
-use Rattle.std.specs.Io.KnownBytes.{Consumes}
+use Rattle.std.specs.Io.KnownBytes.{Consumes, Keeps}
 use Rattle.std.proofs.lemmas.List.Elements.{All-push, All-from_get_or}
 use Rattle.std.specs.Io.KnownBytes.{prepend_known}
 use Rattle.std.specs.List.{position_or_len, before_first, after_first}
@@ -9,7 +9,7 @@ use Rattle.memchr.specs.Find.{IsFirstByte, is_byte}
 use Rattle.oe_http.specs.Lines.{FeedAt}
 use Rattle.std.proofs.lemmas.List.{nil_from_length, drop-take}
 use Rattle.oe_http.specs.Pending.{FellBy}
-use Rattle.oe_http.specs.Lines.{Kept, HasRead, TakesRaw, GivesLine, IsSized}
+use Rattle.oe_http.specs.Lines.{Kept, HasRead, TakesPart, TakesRaw, GivesLine, IsSized}
 use Rattle.std.specs.List.{slice_split}
 use Rattle.std.specs.Str.Lines.{lines, lines_of_parts, strip_carriage_return}
 use Rattle.std.proofs.lemmas.List.Splits.{slice_split_at, slice_split_none, length-slice_split}
@@ -36,6 +36,15 @@ read_end x y z long line h k = record {
   plain = h.plain;
   kept = h.kept;
 }
+
+pub consumes_keep : (x y z : Option (List ℕ)) (p : List ℕ) → Consumes x y p → Keeps y z → Consumes x z p
+consumes_keep None y z p h k = tt
+consumes_keep (Some xs) None z p h k = absurd h
+consumes_keep (Some xs) (Some ys) None p h k = absurd k
+consumes_keep (Some xs) (Some ys) (Some zs) p h k = rw k h
+
+pub read_part : (x y z : Option (List ℕ)) (long : Bool) (line : List ℕ) → HasRead x y long line → Keeps y z → TakesPart x z
+read_part x y z long line h k = (h.raw, consumes_keep x y z h.raw h.takes k, h.plain)
 
 pub read_on : (x y z : Option (List ℕ)) (long long' : Bool) (line line' : List ℕ) (b : ℕ) → HasRead x y long line → Consumes y z (b ∷ []) → (b == 10) ≡ false
     → ((raw : List ℕ) → Kept line long raw → Kept line' long' (raw ++ b ∷ [])) → HasRead x z long' line'

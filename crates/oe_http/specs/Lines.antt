@@ -25,6 +25,10 @@ pub record TakesRaw (before after : Option (List ℕ)) (has_feed is_long : Bool)
   pub plain : All (λ b. (b == 10) ≡ false) raw
   pub kept : Kept line is_long raw
 
+-- bytes were taken that end no line, where the source tells
+abbrev pub TakesPart : Option (List ℕ) → Option (List ℕ) → Type 0
+TakesPart before after = (part : List ℕ) × Consumes before after part × All (λ b. (b == 10) ≡ false) part
+
 -- a line feed is at this place, and none before it
 abbrev pub FeedAt : List ℕ → ℕ → Type 0
 FeedAt bytes at = (bytes ≡ take at bytes ++ 10 ∷ drop (at + 1) bytes) × All (λ b. (b == 10) ≡ false) (take at bytes)

@@ -1,9 +1,9 @@
 // Lines end with a line feed, and the last one may end with the input.
-ghost use Rattle.std.specs.Prelude.{◌≡◌, ◌≢◌, Option, ◌≤◌, ◌<◌, ◌+◌, ◌-◌, ◌^◌, List, ℕ, [], ◌∷◌, ◌++◌, true, false, IfOk, IfErr, OnOk, IsErrOf, IsSome, IfSome, length, slice_range, take, drop};
+ghost use Rattle.std.specs.Prelude.{◌≡◌, ◌≢◌, Option, ◌≤◌, ◌<◌, ◌+◌, ◌-◌, ◌^◌, List, ℕ, [], ◌∷◌, ◌++◌, true, false, IfOk, IfErr, OnOk, OnErr, IsErrOf, IsSome, IfSome, length, slice_range, take, drop};
 ghost use Rattle.oe_http.specs.Causes.{Rose};
 ghost use Rattle.std.specs.Str.Lines.{strip_carriage_return};
 ghost use Rattle.std.specs.Io.KnownBytes.{Keeps, IsAtEnd};
-ghost use Rattle.oe_http.specs.Lines.{TakesRaw, Kept, GivesLine, IsSized, FeedAt, HasFeed, WholeLinesEnd};
+ghost use Rattle.oe_http.specs.Lines.{TakesRaw, Kept, GivesLine, IsSized, FeedAt, HasFeed, TakesPart, WholeLinesEnd};
 ghost use Rattle.oe_http.specs.Pending.{Pending, unread, most_left, GivesByte, FellBy};
 
 use crate::{Failed, Source};
@@ -190,6 +190,7 @@ impl LineReader {
     /// The next byte, or none at the end.
     pub fn next_byte<S: Source>(&mut self, source: &mut S) -> Result<Option<u8>, ReadError>
         ensures byte { IfOk result (λ byte. GivesByte (unread self.old (S.left source.old)) (unread self.new (S.left source.new)) byte) }
+        ensures kept { OnErr result (Keeps (unread self.old (S.left source.old)) (S.left source.new)) }
         ensures turns { IfOk result (λ byte. IsSome byte → most_left self.new < most_left self.old) }
         ensures turns_end { OnOk result (most_left self.new ≤ most_left self.old) }
         ensures more { self.old.taken ≤ self.new.taken }
@@ -206,7 +207,8 @@ impl LineReader {
         }
     }
 
-    /// Reads the next line, without what ends it. After an `Err` the rest of a line may be lost.
+    /// Reads the next line, without what ends it. After an `Err` a part of a line may be lost, and no whole one
+    /// unless memory was refused.
     pub fn next_line<S: Source>(
         &mut self,
         source: &mut S,
@@ -214,6 +216,7 @@ impl LineReader {
     ) -> Result<Next, ReadError>
         ensures line { IfOk result (λ n. GivesLine (unread self.old (S.left source.old)) (unread self.new (S.left source.new)) n line.new.items) }
         ensures short { IfOk result (λ n. n ≡ Next.Whole → length line.new.items ≤ 8192) }
+        ensures part { IfErr result (λ e. e ≢ ReadError.NoMemory → TakesPart (unread self.old (S.left source.old)) (S.left source.new)) }
         ensures turns { IfOk result (λ n. n ≢ Next.End → most_left self.new < most_left self.old) }
         ensures more { self.old.taken ≤ self.new.taken }
         ensures taken { FellBy (self.new.taken - self.old.taken) (S.left source.old) (S.left source.new) }
@@ -226,7 +229,7 @@ impl LineReader {
         Ok(finish(raw, line))
     }
 
-    #[tactic(auto, using(crate::proofs::LineFacts::fell_none, crate::proofs::LineFacts::fell_on, crate::proofs::LineFacts::read_on, crate::proofs::LineFacts::read_end))]
+    #[tactic(auto, using(crate::proofs::LineFacts::fell_none, crate::proofs::LineFacts::fell_on, crate::proofs::LineFacts::read_on, crate::proofs::LineFacts::read_end, crate::proofs::LineFacts::read_part))]
     // The bytes of a line and what ends them. A line that is not kept whole is long.
     fn take_raw<S: Source>(
         &mut self,
@@ -235,6 +238,7 @@ impl LineReader {
     ) -> Result<RawLine, ReadError>
         requires { line.old.items ≡ [] }
         ensures raw { IfOk result (λ raw. TakesRaw (unread self.old (S.left source.old)) (unread self.new (S.left source.new)) raw.has_feed raw.is_long line.new.items) }
+        ensures part { IfErr result (λ e. e ≢ ReadError.NoMemory → TakesPart (unread self.old (S.left source.old)) (S.left source.new)) }
         ensures turns { IfOk result (λ raw. raw.has_feed ≡ true → most_left self.new < most_left self.old) }
         ensures turns_long { IfOk result (λ raw. raw.is_long ≡ true → most_left self.new < most_left self.old) }
         ensures turns_last { OnOk result (most_left self.new + length line.new.items ≤ most_left self.old) }
@@ -318,6 +322,7 @@ impl LineReader {
     // Reads a block where no byte is pending. Answers whether one is then.
     fn fill<S: Source>(&mut self, source: &mut S) -> Result<bool, ReadError>
         ensures kept { IfOk result (λ _. Keeps (unread self.old (S.left source.old)) (unread self.new (S.left source.new))) }
+        ensures kept_at_fault { OnErr result (Keeps (unread self.old (S.left source.old)) (S.left source.new)) }
         ensures found { IfOk result (λ found. found ≡ true → 0 < length self.new.bytes) }
         ensures end { IfOk result (λ found. found ≡ false → IsAtEnd (unread self.new (S.left source.new))) }
         ensures turns { OnOk result (most_left self.new ≡ most_left self.old) }

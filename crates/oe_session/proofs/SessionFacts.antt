@@ -1,18 +1,40 @@
 -- A session, line by line.
-use Rattle.std.proofs.Common.{ap, arith, ◌≡◌, ◌≤◌, ◌-◌, inl, inr, ℕ, List, [], ◌∷◌, ◌++◌, Option, Some, None, refl, append_assoc}
+use Rattle.std.proofs.Common.{ap, arith, ◌≡◌, ◌≤◌, ◌-◌, inl, inr, ℕ, List, [], ◌∷◌, ◌++◌, Option, Some, None, refl, sym, ◌∙◌, subst, append_assoc, append-nil}
 use Rattle.std.specs.Str.Lines.{lines}
 use Rattle.std.specs.Io.KnownBytes.{Appends}
 use Rattle.oe_http.specs.Pending.{Pending, unread, FellBy}
+use Rattle.oe_http.specs.Lines.{TakesPart}
 use Rattle.oe_http.proofs.SentFacts.{appends_none, appends_on}
 use Rattle.oe_session.specs.Machine.{Runs, Starts}
-use Rattle.oe_session.specs.Session.{Answered, Begun, RepliesOne, EndsRead, TookAtLeast, ReadToEnd}
+use Rattle.oe_session.specs.Session.{Answered, AnsweredFront, AnsweredRead, Begun, RepliesOne, EndsRead, TookAtLeast, ReadToEnd}
 
--- the texts so far, and what is still to come, are those to the whole input
+-- runs, one after another
+pub runs_on : {St : Type 0} (step : St → List ℕ → List ℕ → St → Type 0) (a b c : St) (done more : List (List ℕ)) (t u : List ℕ)
+    → Runs step a done t b → Runs step b more u c → Runs step a (done ++ more) (t ++ u) c
+runs_on step a b c [] more t u r q = rw r.0 (subst (λ s. Runs step s more u c) r.1 q)
+runs_on step a b c (l ∷ done) more t u r q =
+    (r.0, r.1 ++ u, r.2, r.3, runs_on step r.2 b c done more r.1 u r.4 q, ap (λ x. x ++ u) r.5 ∙ append_assoc r.0 r.1 u)
+
+starts_on : {St : Type 0} (step : St → List ℕ → List ℕ → St → Type 0) (a b : St) (done more : List (List ℕ)) (t u : List ℕ)
+    → Runs step a done t b → Starts step b more u → Starts step a (done ++ more) (t ++ u)
+starts_on step a b [] more t u r q = rw r.0 (subst (λ s. Starts step s more u) r.1 q)
+starts_on step a b (l ∷ done) more t u r q =
+    inr (inr (r.0, r.1 ++ u, r.2, r.3, starts_on step r.2 b done more r.1 u r.4 q, ap (λ x. x ++ u) r.5 ∙ append_assoc r.0 r.1 u))
+
+runs_one : {St : Type 0} (step : St → List ℕ → List ℕ → St → Type 0) (a b : St) (line reply : List ℕ) → step a line reply b → Runs step a (line ∷ []) reply b
+runs_one step a b line reply s = (reply, [], b, s, (refl, refl), sym (append-nil reply))
+
+starts_none : {St : Type 0} (step : St → List ℕ → List ℕ → St → Type 0) (s : St) (ls : List (List ℕ)) → Starts step s ls []
+starts_none step s [] = refl
+starts_none step s (l ∷ ls) = inl refl
+
+-- the lines so far have their texts, and these lines and those still to come are all
 pub record MidRun {St : Type 0} (step : St → List ℕ → List ℕ → St → Type 0) (start now : St) (xs ys : List ℕ) (before after : Option (List ℕ)) : Type 0 where
+  pub done : List (List ℕ)
   pub sent : List ℕ
   pub appends : Appends before after sent
-  pub whole : (t : List ℕ) (end : St) → Runs step now (lines ys) t end → Runs step start (lines xs) (sent ++ t) end
-  pub part : (t : List ℕ) → Starts step now (lines ys) t → Starts step start (lines xs) (sent ++ t)
+  pub split : lines xs ≡ done ++ lines ys
+  pub ran : Runs step start done sent now
 
 -- the same, where the streams tell
 abbrev pub Underway : {St : Type 0} → (St → List ℕ → List ℕ → St → Type 0) → St → St → Option (List ℕ) → Option (List ℕ) → Option (List ℕ) → Option (List ℕ) → Type 0
@@ -22,7 +44,7 @@ Underway step start now (Some xs) (Some ys) h k = MidRun step start now xs ys h 
 
 pub underway_start : {St : Type 0} (step : St → List ℕ → List ℕ → St → Type 0) (s : St) (p : Pending) (x h : Option (List ℕ)) → p.bytes ≡ [] → Underway step s s x (unread p x) h h
 underway_start step s p None h e = tt
-underway_start step s p (Some xs) h e = rw e (record { sent = []; appends = appends_none h; whole = λ t end a. a; part = λ t b. b })
+underway_start step s p (Some xs) h e = rw e (record { done = []; sent = []; appends = appends_none h; split = refl; ran = (refl, refl) })
 
 pub underway_on : {St : Type 0} (step : St → List ℕ → List ℕ → St → Type 0) (a b c : St) (x y z h k m : Option (List ℕ))
     → Underway step a b x y h k → RepliesOne step b c y z k m → Underway step a c x z h m
@@ -30,10 +52,11 @@ underway_on step a b c None y z h k m u r = tt
 underway_on step a b c (Some xs) None z h k m u r = absurd u
 underway_on step a b c (Some xs) (Some ys) None h k m u r = absurd r
 underway_on step a b c (Some xs) (Some ys) (Some zs) h k m u r = record {
+  done = u.done ++ r.0 ∷ [];
   sent = u.sent ++ r.1;
   appends = appends_on h k m u.sent r.1 u.appends r.4;
-  whole = λ t end more. rw (append_assoc u.sent r.1 t) (u.whole (r.1 ++ t) end (rw r.2 (r.1, t, c, r.3, more, refl)));
-  part = λ t more. rw (append_assoc u.sent r.1 t) (u.part (r.1 ++ t) (rw r.2 (inr (inr (r.1, t, c, r.3, more, refl)))));
+  split = u.split ∙ ap (λ ls. u.done ++ ls) r.2 ∙ sym (append_assoc u.done (r.0 ∷ []) (lines zs));
+  ran = runs_on step a b c u.done (r.0 ∷ []) u.sent r.1 u.ran (runs_one step b c r.0 r.1 r.3);
 }
 
 pub underway_end : {St : Type 0} (step : St → List ℕ → List ℕ → St → Type 0) (a b : St) (x y z h k : Option (List ℕ))
@@ -41,16 +64,27 @@ pub underway_end : {St : Type 0} (step : St → List ℕ → List ℕ → St →
 underway_end step a b None y z h k u e = tt
 underway_end step a b (Some xs) None z h k u e = absurd u
 underway_end step a b (Some xs) (Some ys) None h k u e = absurd e
-underway_end step a b (Some xs) (Some ys) (Some zs) h k u e = (u.sent ++ [], appends_on h k k u.sent [] u.appends (appends_none k), u.whole [] b (rw e.0 (refl, refl)))
-
-starts_none : {St : Type 0} (step : St → List ℕ → List ℕ → St → Type 0) (s : St) (ls : List (List ℕ)) → Starts step s ls []
-starts_none step s [] = refl
-starts_none step s (l ∷ ls) = inl refl
+underway_end step a b (Some xs) (Some ys) (Some zs) h k u e =
+    let all : lines xs ≡ u.done = u.split ∙ ap (λ t. u.done ++ lines t) e.0 ∙ append-nil u.done in
+    (u.sent, u.appends, rw all u.ran)
 
 pub underway_stop : {St : Type 0} (step : St → List ℕ → List ℕ → St → Type 0) (a b : St) (x y h k : Option (List ℕ)) → Underway step a b x y h k → Begun step a x h k
 underway_stop step a b None y h k u = tt
 underway_stop step a b (Some xs) None h k u = absurd u
-underway_stop step a b (Some xs) (Some ys) h k u = (u.sent ++ [], appends_on h k k u.sent [] u.appends (appends_none k), u.part [] (starts_none step b (lines ys)))
+underway_stop step a b (Some xs) (Some ys) h k u =
+    (u.sent ++ [], rw (append-nil u.sent) u.appends, rw u.split (starts_on step a b u.done (lines ys) u.sent [] u.ran (starts_none step b (lines ys))))
+
+pub underway_front : {St : Type 0} (step : St → List ℕ → List ℕ → St → Type 0) (a b : St) (x y h k : Option (List ℕ)) → Underway step a b x y h k → AnsweredFront step a x h k
+underway_front step a b None y h k u = tt
+underway_front step a b (Some xs) None h k u = absurd u
+underway_front step a b (Some xs) (Some ys) h k u = (u.done, lines ys, u.sent, b, u.split, u.appends, u.ran)
+
+pub underway_read : {St : Type 0} (step : St → List ℕ → List ℕ → St → Type 0) (a b : St) (x y z h k : Option (List ℕ))
+    → Underway step a b x y h k → TakesPart y z → AnsweredRead step a b x z h k
+underway_read step a b None y z h k u p = tt
+underway_read step a b (Some xs) None z h k u p = absurd u
+underway_read step a b (Some xs) (Some ys) None h k u p = absurd p.1
+underway_read step a b (Some xs) (Some ys) (Some zs) h k u p = (u.done, p.0, u.sent, u.split ∙ ap (λ t. u.done ++ lines t) p.1, p.2, u.appends, u.ran)
 
 pub fell_more : (x y z : Option (List ℕ)) (b c : ℕ) → FellBy b x y → b ≤ c → FellBy (c - b) y z → FellBy c x z
 fell_more None y z b c p q r = tt

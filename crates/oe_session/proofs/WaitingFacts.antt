@@ -8,7 +8,7 @@ use Rattle.oe_http.specs.Lines.{GivesLine}
 use Rattle.oe_http.specs.declared.lines.Next.TheVariants as next
 use Rattle.oe_http.proofs.SentFacts.{appends_none, appends_on}
 use Rattle.oe_session.specs.Machine.{Starts}
-use Rattle.oe_session.specs.Session.{Answered, Begun, RepliesOne}
+use Rattle.oe_session.specs.Session.{Begun, RepliesOne}
 use Rattle.oe_session.proofs.SessionFacts.{Underway, underway_stop}
 
 front_nil : (a b : List ℕ) → a ++ b ≡ [] → a ≡ []
@@ -66,7 +66,7 @@ grown_moved h k m p q g s = (g.0 ++ s.front, appends_on h k m g.0 s.front g.1 s.
 underway_known : {St : Type 0} (step : St → List ℕ → List ℕ → St → Type 0) (a b : St) (x y h : Option (List ℕ)) (ks : List ℕ) → Underway step a b x y h None → Underway step a b x y h (Some ks)
 underway_known step a b None y h ks u = tt
 underway_known step a b (Some xs) None h ks u = absurd u
-underway_known step a b (Some xs) (Some ys) None ks u = record { sent = u.sent; appends = tt; whole = u.whole; part = u.part }
+underway_known step a b (Some xs) (Some ys) None ks u = record { done = u.done; sent = u.sent; appends = tt; split = u.split; ran = u.ran }
 underway_known step a b (Some xs) (Some ys) (Some hs) ks u = absurd u.appends
 
 pub underway_moved : {St : Type 0} (step : St → List ℕ → List ℕ → St → Type 0) (a b : St) (x y h k m : Option (List ℕ)) (p q : List ℕ)
@@ -82,18 +82,14 @@ pub begun_moved : {St : Type 0} (step : St → List ℕ → List ℕ → St → 
 begun_moved step a b x y h k m p rest u g s = begun_now step a b x y h m rest (underway_moved step a b x y h k m p rest u s) (grown_moved h k m p rest g s)
 
 -- where nothing waits, that is what was written
-answered_empty : {St : Type 0} (step : St → List ℕ → List ℕ → St → Type 0) (a b : St) (x h k : Option (List ℕ)) → Answered step a b x h (append_known k []) → Answered step a b x h k
-answered_empty step a b x h None r = r
-answered_empty step a b x h (Some ks) r = subst (λ t. Answered step a b x h (Some t)) (append-nil ks) r
+underway_empty : {St : Type 0} (step : St → List ℕ → List ℕ → St → Type 0) (a b : St) (x y h k : Option (List ℕ)) → Underway step a b x y h (append_known k []) → Underway step a b x y h k
+underway_empty step a b x y h None u = u
+underway_empty step a b x y h (Some ks) u = subst (λ t. Underway step a b x y h (Some t)) (append-nil ks) u
 
-answered_known : {St : Type 0} (step : St → List ℕ → List ℕ → St → Type 0) (a b : St) (x h : Option (List ℕ)) (ks : List ℕ) → Answered step a b x h None → Answered step a b x h (Some ks)
-answered_known step a b None h ks r = tt
-answered_known step a b (Some xs) None ks r = r
-answered_known step a b (Some xs) (Some hs) ks r = absurd r.1
-
-pub answered_sent : {St : Type 0} (step : St → List ℕ → List ℕ → St → Type 0) (a b : St) (x h k m : Option (List ℕ)) (p : List ℕ)
-    → Answered step a b x h (append_known k p) → Sent k m p [] → Answered step a b x h m
-answered_sent step a b x h k m p r s = answered_empty step a b x h m (waits_less k m p [] s (Answered step a b x h) r (answered_known step a b x h))
+-- what waited was written
+pub underway_sent : {St : Type 0} (step : St → List ℕ → List ℕ → St → Type 0) (a b : St) (x y h k m : Option (List ℕ)) (p : List ℕ)
+    → Underway step a b x y h (append_known k p) → Sent k m p [] → Underway step a b x y h m
+underway_sent step a b x y h k m p u s = underway_empty step a b x y h m (underway_moved step a b x y h k m p [] u s)
 
 -- a reply waits behind the others
 waits_more : (k : Option (List ℕ)) (old new reply : List ℕ) → new ≡ old ++ reply → Appends (append_known k old) (append_known k new) reply

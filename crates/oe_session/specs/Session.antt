@@ -1,5 +1,5 @@
 -- What a session writes for what it reads.
-use Rattle.std.specs.Prelude.{ℕ, ◌+◌, List, [], ◌∷◌, ◌++◌, ◌≡◌, ◌≤◌, length, Option, Some, None}
+use Rattle.std.specs.Prelude.{ℕ, ◌+◌, ◌==◌, false, All, List, [], ◌∷◌, ◌++◌, ◌≡◌, ◌≤◌, length, Option, Some, None}
 use Rattle.std.specs.Io.KnownBytes.{Appends}
 use Rattle.std.specs.Str.Lines.{lines}
 use Rattle.oe_session.specs.Machine.{Runs, Starts}
@@ -15,6 +15,21 @@ abbrev pub Begun : {St : Type 0} → (St → List ℕ → List ℕ → St → Ty
 Begun step before None held_old held_new = Unit {0}
 Begun step before (Some input) held_old held_new =
     (text : List ℕ) × Appends held_old held_new text × Starts step before (lines input) text
+
+-- the replies to the first lines of an input were written, whole, where both streams tell
+abbrev pub AnsweredFront : {St : Type 0} → (St → List ℕ → List ℕ → St → Type 0) → St → Option (List ℕ) → Option (List ℕ) → Option (List ℕ) → Type 0
+AnsweredFront step before None held_old held_new = Unit {0}
+AnsweredFront {St} step before (Some input) held_old held_new =
+    (done more : List (List ℕ)) × (text : List ℕ) × (now : St) × (lines input ≡ done ++ more) × Appends held_old held_new text
+    × Runs step before done text now
+
+-- the replies to all lines that were read whole were written: what was read behind these ends no line
+abbrev pub AnsweredRead : {St : Type 0} → (St → List ℕ → List ℕ → St → Type 0) → St → St → Option (List ℕ) → Option (List ℕ) → Option (List ℕ) → Option (List ℕ) → Type 0
+AnsweredRead step before after None left held_old held_new = Unit {0}
+AnsweredRead step before after (Some input) None held_old held_new = ⊥
+AnsweredRead step before after (Some input) (Some left) held_old held_new =
+    (done : List (List ℕ)) × (part text : List ℕ) × (lines input ≡ done ++ lines (part ++ left)) × All (λ b. (b == 10) ≡ false) part
+    × Appends held_old held_new text × Runs step before done text after
 
 -- one line was taken, and the text of its reply put behind what was held, where both ends tell
 abbrev pub RepliesOne : {St : Type 0} → (St → List ℕ → List ℕ → St → Type 0) → St → St → Option (List ℕ) → Option (List ℕ) → Option (List ℕ) → Option (List ℕ) → Type 0

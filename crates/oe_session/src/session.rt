@@ -3,9 +3,10 @@ ghost use Rattle.std.specs.Prelude.{◌≡◌, ◌≢◌, ◌≤◌, ◌<◌, �
 ghost use Rattle.std.specs.Io.KnownBytes.{append_known};
 ghost use Rattle.oe_http.specs.Causes.{Rose, HasCause};
 ghost use Rattle.oe_http.specs.Written.{Sent};
+ghost use Rattle.oe_http.specs.Lines.{TakesPart};
 ghost use Rattle.oe_http.specs.Pending.{unread, most_left, FellBy};
 ghost use Rattle.oe_session.specs.Endings.{ending_of};
-ghost use Rattle.oe_session.specs.Session.{Answered, Begun, RepliesOne, EndsRead, ReadToEnd, TookAtLeast};
+ghost use Rattle.oe_session.specs.Session.{Answered, AnsweredFront, AnsweredRead, Begun, RepliesOne, EndsRead, ReadToEnd, TookAtLeast};
 
 use crate::Answering;
 use oe_http::{Failed, LineReader, Next, ReadError, Sink, Source, write_whole};
@@ -94,6 +95,7 @@ fn next_reply<A: Answering, S: Source>(
     ensures answered { IfOk result (λ found. found ≡ true → (k : Option (List ℕ)) → RepliesOne A.step desk.old desk.new (unread reader.old (S.left input.old)) (unread reader.new (S.left input.new)) (append_known k waiting.old.items) (append_known k waiting.new.items)) }
     ensures ended { IfOk result (λ found. found ≡ false → EndsRead (unread reader.old (S.left input.old)) (unread reader.new (S.left input.new)) × (waiting.new.items ≡ waiting.old.items) × (desk.new ≡ desk.old)) }
     ensures kept { OnErr result (waiting.new.items ≡ waiting.old.items) }
+    ensures part { IfErr result (λ e. e ≢ Ended.NoMemory → TakesPart (unread reader.old (S.left input.old)) (S.left input.new) × (desk.new ≡ desk.old)) }
     ensures turns { IfOk result (λ found. found ≡ true → most_left reader.new < most_left reader.old) }
     ensures more { reader.old.taken ≤ reader.new.taken }
     ensures taken { FellBy (reader.new.taken - reader.old.taken) (S.left input.old) (S.left input.new) }
@@ -167,6 +169,9 @@ pub fn records<A: Answering, S: Source, O: Sink>(
 ) -> Ended
     // At `Closed` the output is what it held before and the reply to each line of the input, in order.
     ensures closed { result ≡ Ended.Closed → Answered A.step desk.old desk.new (S.left input.old) (O.held output.old) (O.held output.new) }
+    // At `ReadFault` and `Long` each line that was read whole has its reply, and at `NoMemory` no part of a reply was written.
+    ensures whole { (result ≡ Ended.ReadFault) ⊎ (result ≡ Ended.Long) → AnsweredRead A.step desk.old desk.new (S.left input.old) (S.left input.new) (O.held output.old) (O.held output.new) }
+    ensures memory { result ≡ Ended.NoMemory → AnsweredFront A.step desk.old (S.left input.old) (O.held output.old) (O.held output.new) }
     ensures read_to_end { result ≡ Ended.Closed → ReadToEnd (S.left input.old) (S.left input.new) }
     // However it ends, the output is what it held before and a beginning of these replies.
     ensures begun { Begun A.step desk.old (S.left input.old) (O.held output.old) (O.held output.new) }

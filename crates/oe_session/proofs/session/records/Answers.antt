@@ -1,6 +1,6 @@
 use Rattle.std.proofs.Common.{arith}
 use Rattle.oe_session.proofs.SessionFacts.{underway_on, underway_end, fell_more}
-use Rattle.oe_session.proofs.WaitingFacts.{underway_moved, grown_moved, begun_moved, answered_sent}
+use Rattle.oe_session.proofs.WaitingFacts.{underway_moved, grown_moved, begun_moved, underway_sent}
 use Rattle.oe_session.proofs.session.records.Goals as goal
 
 pub returns-in-Err-clause-begun : goal.returns-in-Err-clause-begun
@@ -22,7 +22,8 @@ pub returns-in-Ok-false-clause-closed : goal.returns-in-Ok-false-clause-closed
 returns-in-Ok-false-clause-closed g c = λ e.
     let u = underway_moved g.A.Answering.step _ _ _ _ _ _ _ _ _ c.lines.invariant.underway c.in-Ok.ensures.ok in
     let ended = c.in-Ok-false.ensures.ended c.in-Ok-false.field-0-test in
-    rw ended.2 (answered_sent g.A.Answering.step _ _ _ _ _ _ _ (underway_end g.A.Answering.step _ _ _ _ _ _ _ u ended.0) (rw ended.1 at c.end.ensures.all (rw e (λ f. absurd (cc)))))
+    let v = underway_sent g.A.Answering.step _ _ _ _ _ _ _ _ u (rw ended.1 at c.end.ensures.all (rw e (λ f. absurd (cc)))) in
+    rw ended.2 (underway_end g.A.Answering.step _ _ _ _ _ _ _ v ended.0)
 
 pub returns-in-Ok-false-clause-begun : goal.returns-in-Ok-false-clause-begun
 returns-in-Ok-false-clause-begun g c =
