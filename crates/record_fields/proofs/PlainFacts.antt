@@ -94,7 +94,7 @@ pub cut_more : (line rest : List ℕ) (fields new : List (List ℕ)) (at : ℕ) 
 cut_more line rest fields new at c lt h e begun b n =
     let r = around rest at lt e in
     let s : slice_split (λ b. b == 44) rest ≡ take at rest ∷ slice_split (λ b. b == 44) (drop (at + 1) rest) =
-      ap (slice_split (λ b. b == 44)) r ∙ slice_split_at (λ b. b == 44) (take at rest) 44 (drop (at + 1) rest) (not_comma (take at rest) h) refl in
+    ap (slice_split (λ b. b == 44)) r ∙ slice_split_at (λ b. b == 44) (take at rest) 44 (drop (at + 1) rest) (not_comma (take at rest) h) refl in
     record {
       parts = rw (c.parts, s, n, b, append_assoc fields (take at rest ∷ []) (slice_split (λ b. b == 44) (drop (at + 1) rest))) refl;
       plain = λ more. c.plain (subst (All IsPlain) (sym r) (All-append IsPlain (take at rest) (44 ∷ drop (at + 1) rest) (are_plain (take at rest) h) (All-cons IsPlain 44 (drop (at + 1) rest) (refl, refl, refl, refl) more)));
