@@ -1,0 +1,7 @@
+pub mod Names
+pub mod Categories
+pub mod Runways
+pub mod Airfields
+pub mod Sites
+pub mod Amendments
+pub mod Changes

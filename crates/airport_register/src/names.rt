@@ -1,0 +1,140 @@
+//! Names of airfields and runways.
+
+ghost use Rattle.std.specs.Prelude.{◌≡◌, ◌↔◌, ◌<◌, IsTrue, MatchResult, nat_eq, Some, refl};
+ghost use Rattle.airport_register.specs.Names.{IsLetterOrDigit, IsRunwayByte, IsFieldId, IsRunwayName, name_cmp};
+
+use short_text::ShortText;
+use std::cmp::Ordering;
+use std::marker::Model;
+
+/// The text is no name.
+#[derive(Clone, Copy, Debug, PartialEq, Eq)]
+pub struct BadName;
+
+/// The name of an airfield: 1 to 8 letters A to Z and digits.
+#[derive(Clone, Copy, Debug, PartialEq, Eq)]
+pub struct FieldId {
+    text: ShortText<8>,
+}
+
+impl Model for FieldId {
+    ghost use Rattle.std.specs.Prelude.{ℕ, List};
+    ghost use Rattle.airport_register.specs.Names.{IsFieldId};
+
+    ghost Value = { List ℕ };
+
+    ghost view = { λ n. n.text };
+
+    ghost invariant = { λ n. IsFieldId n.text };
+
+    ghost inverse = { λ v. record { text = v } };
+}
+
+/// The name of a runway: 1 to 8 letters A to Z, digits and strokes, as `09/27`.
+#[derive(Clone, Copy, Debug, PartialEq, Eq)]
+pub struct RunwayName {
+    text: ShortText<8>,
+}
+
+impl Model for RunwayName {
+    ghost use Rattle.std.specs.Prelude.{ℕ, List};
+    ghost use Rattle.airport_register.specs.Names.{IsRunwayName};
+
+    ghost Value = { List ℕ };
+
+    ghost view = { λ n. n.text };
+
+    ghost invariant = { λ n. IsRunwayName n.text };
+
+    ghost inverse = { λ v. record { text = v } };
+}
+
+fn is_letter_or_digit(byte: u8) -> bool
+    ensures { IsTrue result ↔ IsLetterOrDigit byte }
+{
+    byte.is_ascii_uppercase() || byte.is_ascii_digit()
+}
+
+fn is_runway_byte(byte: u8) -> bool
+    ensures { IsTrue result ↔ IsRunwayByte byte }
+{
+    is_letter_or_digit(byte) || byte == b'/'
+}
+
+impl FieldId {
+    /// The name that `text` is.
+    ///
+    /// # Errors
+    ///
+    /// `BadName` exactly where `text` is not 1 to 8 letters A to Z and digits.
+    pub fn new(text: &[u8]) -> Result<FieldId, BadName>
+        ensures exact { MatchResult result (λ n. n ≡ text.now) (λ _. ¬ IsFieldId text.now) }
+    {
+        for &byte in text {
+            if !is_letter_or_digit(byte) {
+                return Err(BadName);
+            }
+        }
+        if text.is_empty() {
+            return Err(BadName);
+        }
+        match ShortText::new(text) {
+            Some(text) => Ok(FieldId { text }),
+            None => Err(BadName),
+        }
+    }
+
+    /// The bytes of the name.
+    pub fn as_bytes(&self) -> &[u8]
+        ensures value { result.now ≡ self.now }
+        ensures name { IsFieldId self.now }
+    {
+        self.text.as_bytes()
+    }
+
+    /// The order of the two names, byte by byte.
+    pub fn compare(&self, other: &FieldId) -> Ordering
+        ensures order { result ≡ name_cmp self.now other.now }
+    {
+        self.text.compare(&other.text)
+    }
+}
+
+impl RunwayName {
+    /// The name that `text` is.
+    ///
+    /// # Errors
+    ///
+    /// `BadName` exactly where `text` is not 1 to 8 letters A to Z, digits and strokes.
+    pub fn new(text: &[u8]) -> Result<RunwayName, BadName>
+        ensures exact { MatchResult result (λ n. n ≡ text.now) (λ _. ¬ IsRunwayName text.now) }
+    {
+        for &byte in text {
+            if !is_runway_byte(byte) {
+                return Err(BadName);
+            }
+        }
+        if text.is_empty() {
+            return Err(BadName);
+        }
+        match ShortText::new(text) {
+            Some(text) => Ok(RunwayName { text }),
+            None => Err(BadName),
+        }
+    }
+
+    /// The bytes of the name.
+    pub fn as_bytes(&self) -> &[u8]
+        ensures value { result.now ≡ self.now }
+        ensures name { IsRunwayName self.now }
+    {
+        self.text.as_bytes()
+    }
+
+    /// The order of the two names, byte by byte.
+    pub fn compare(&self, other: &RunwayName) -> Ordering
+        ensures order { result ≡ name_cmp self.now other.now }
+    {
+        self.text.compare(&other.text)
+    }
+}

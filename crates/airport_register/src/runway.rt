@@ -1,0 +1,28 @@
+//! Runways and their ends.
+
+use crate::names::RunwayName;
+use grid_exact::Point;
+use runway_classes::ApproachKind;
+
+/// An end of a runway.
+#[derive(Clone, Copy, Debug, PartialEq, Eq)]
+pub struct RunwayEnd {
+    /// Where the end of the runway, or of the stopway or clearway, lies.
+    pub at: Point,
+    /// Its elevation, in tenths of a foot.
+    pub z: i64,
+    /// The approaches that it has or is planned for.
+    pub kind: ApproachKind,
+}
+
+/// A runway of an airport.
+#[derive(Clone, Copy, Debug, PartialEq, Eq)]
+pub struct Runway {
+    pub name: RunwayName,
+    /// Whether it is for propeller driven aircraft of 12,500 pounds and less alone (77.3).
+    pub utility: bool,
+    /// Whether it has a prepared hard surface (77.19(c)).
+    pub hard: bool,
+    pub end1: RunwayEnd,
+    pub end2: RunwayEnd,
+}

@@ -1,0 +1,85 @@
+//! The runways of one airport.
+
+ghost use Rattle.std.specs.Prelude.{◌≡◌, [], length, slice_get, option_copied, IfOk};
+ghost use Rattle.ordered_list.specs.Ordered.{Rises, put_by};
+ghost use Rattle.airport_register.specs.Names.{name_cmp};
+ghost use Rattle.airport_register.specs.Runways.{name_of};
+
+use crate::runway::Runway;
+use grid_exact::NoMemory;
+use std::alloc::Global;
+use std::marker::Model;
+
+/// The runways of one airport, seen as their list in rising order of name.
+#[derive(Drop)]
+pub struct Runways {
+    items: Vec<Runway>,
+}
+
+impl Model for Runways {
+    ghost use Rattle.std.specs.Prelude.{List};
+    ghost use Rattle.ordered_list.specs.Ordered.{Rises};
+    ghost use Rattle.airport_register.specs.Names.{name_cmp};
+    ghost use Rattle.airport_register.specs.Runways.{name_of};
+    ghost use Rattle.airport_register.specs.declared.runway.Runway.{Runway};
+
+    ghost Value = { List Runway };
+
+    ghost view = { λ r. r.items.items };
+
+    ghost invariant = { λ r. Rises name_cmp name_of r.items.items };
+}
+
+impl Runways {
+    /// No runways. It takes no memory.
+    pub fn empty(alloc: Global) -> Runways
+        ensures { result ≡ [] }
+    {
+        Runways {
+            items: Vec::new(alloc),
+        }
+    }
+
+    /// How many runways there are.
+    pub fn len(&self) -> usize
+        ensures { result ≡ length self.now }
+    {
+        self.items.len()
+    }
+
+    /// The runway at place `i` in order of name, counted from 0.
+    pub fn get(&self, i: usize) -> Option<&Runway>
+        ensures { option_copied result ≡ slice_get self.now i }
+    {
+        self.items.get(i)
+    }
+
+    /// The runways in order of name.
+    pub fn as_slice(&self) -> &[Runway]
+        ensures value { result.now ≡ self.now }
+        ensures order { Rises name_cmp name_of self.now }
+    {
+        self.items.as_slice()
+    }
+
+    /// A copy.
+    pub(crate) fn copy(&self, alloc: Global) -> Result<Runways, NoMemory>
+        ensures copied { IfOk result (λ r. r ≡ self.now) }
+    {
+        Ok(Runways {
+            items: Vec::from_slice(alloc, self.items.as_slice())?,
+        })
+    }
+
+    /// A copy with the runway in its place, instead of the one of its name.
+    pub(crate) fn with(&self, alloc: Global, runway: &Runway) -> Result<Runways, NoMemory>
+        ensures put { IfOk result (λ r. r ≡ put_by name_cmp name_of runway.now self.now) }
+    {
+        let mut items = Vec::from_slice(alloc, self.items.as_slice())?;
+        match items.binary_search_by(|other| other.name.compare(&runway.name)) {
+            Ok(i) => items[i] = *runway,
+            Err(i) => items.insert(i, *runway)?,
+        }
+        Ok(Runways { items })
+    }
+}

@@ -1,0 +1,69 @@
+//! Structures that a notice describes.
+
+use crate::names::FieldId;
+use grid_exact::Point;
+use std::marker::Model;
+
+/// What is to be built or altered.
+#[derive(Clone, Copy, Debug, PartialEq, Eq)]
+pub enum StructureKind {
+    /// A structure that is none of the others.
+    Object,
+    /// An antenna structure.
+    Antenna,
+    /// An Interstate Highway (77.9(c)).
+    Interstate,
+    /// Any other public roadway.
+    Road,
+    /// A private road.
+    Private,
+    /// A railroad.
+    Rail,
+    /// A waterway, or any other traverse way for mobile objects.
+    Water,
+}
+
+/// What a notice says besides place and height.
+#[derive(Clone, Copy, Debug, PartialEq, Eq)]
+pub struct Flags {
+    /// Shielded by existing structures or natural terrain (77.9(e)(1)).
+    pub shielded: bool,
+    /// An air navigation facility, approach aid or the like of a fixed place and height (77.9(e)(2)).
+    pub device: bool,
+    /// Notice is required by another FAA regulation (77.9(e)(3)).
+    pub other_rule: bool,
+    /// It increases the height of another antenna structure (77.9(e)(4)).
+    pub increases: bool,
+    /// In an area whose airport has a control tower.
+    pub controlled: bool,
+    /// A temporary structure.
+    pub temporary: bool,
+}
+
+/// The structure of one notice, within the limits of a filing; a value that is copied.
+#[derive(Clone, Copy)]
+pub struct Filing {
+    pub at: Point,
+    /// The elevation of the ground there, in tenths of a foot: -20,000 to 200,000.
+    pub ground: i64,
+    /// The height above ground, in tenths of a foot: 0 to 100,000.
+    pub height: i64,
+    pub kind: StructureKind,
+    /// The height of the highest mobile object, in tenths of a foot: 0 to 1,000, and 0 but for a private road or a waterway (77.9(c)).
+    pub mobile: i64,
+    pub flags: Flags,
+    /// The airfield that it is on.
+    pub on: Option<FieldId>,
+}
+
+impl Model for Filing {
+    ghost use Rattle.airport_register.specs.Sites.{Site, IsSite, site};
+
+    ghost Value = { Site };
+
+    ghost view = { λ f. site f.at f.ground f.height f.kind f.mobile f.flags f.on };
+
+    ghost invariant = { λ f. IsSite (site f.at f.ground f.height f.kind f.mobile f.flags f.on) };
+
+    ghost inverse = { λ v. record { at = v.at; ground = v.terrain; height = v.height; kind = v.kind; mobile = v.mobile; flags = v.flags; on = v.on } };
+}

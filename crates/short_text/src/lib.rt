@@ -1,0 +1,10 @@
+//! Texts of few bytes, kept in place and copied.
+#![tactic(auto)]
+
+mod comparison;
+mod short_text;
+
+pub use short_text::ShortText;
+
+#[cfg(test)]
+mod tests;

@@ -1,0 +1,62 @@
+//! A text of few bytes.
+
+ghost use Rattle.std.specs.Prelude.{◌≡◌, ◌<◌, ◌≤◌, MatchOption, length};
+ghost use Rattle.std.specs.Ordering.{nat_cmp};
+ghost use Rattle.std.specs.Cmp.Lexicographic.{slice_cmp};
+
+use std::cmp::Ordering;
+use std::marker::Model;
+
+/// A text of at most `MOST` bytes, kept in place.
+#[derive(Clone, Copy)]
+pub struct ShortText<const MOST: usize> {
+    bytes: [u8; MOST],
+    len: usize,
+}
+
+impl<const MOST: usize> Model for ShortText<MOST> {
+    ghost use Rattle.std.specs.Prelude.{ℕ, List, length, take};
+    ghost use Rattle.short_text.specs.Filling.{filled, IsFilled, filled_again};
+
+    ghost Value = { List ℕ };
+
+    ghost view = { λ t. take t.len t.bytes };
+
+    ghost invariant = { λ t. IsFilled MOST t.bytes t.len };
+
+    ghost inverse = { λ v. record { bytes = filled MOST v; len = length v } };
+
+    ghost inverse_ok = { λ t h. filled_again MOST t.bytes t.len (λ (b : List ℕ) (l : ℕ). record { bytes = b; len = l }) h };
+}
+
+impl<const MOST: usize> ShortText<MOST> {
+    /// The text, where it has at most `MOST` bytes; else `None`.
+    pub fn new(text: &[u8]) -> Option<ShortText<MOST>>
+        ensures exact { MatchOption result (MOST < length text.now) (λ t. t ≡ text.now) }
+    {
+        if text.len() > MOST {
+            return None;
+        }
+        let mut bytes = [0u8; MOST];
+        bytes[..text.len()].copy_from_slice(text);
+        Some(ShortText {
+            bytes,
+            len: text.len(),
+        })
+    }
+
+    /// The bytes of the text.
+    pub fn as_bytes(&self) -> &[u8]
+        ensures value { result.now ≡ self.now }
+        ensures size { length self.now ≤ MOST }
+    {
+        &self.bytes[..self.len]
+    }
+
+    /// The order of the two texts, byte by byte; a text stands before each longer one that it begins.
+    pub fn compare(&self, other: &ShortText<MOST>) -> Ordering
+        ensures order { result ≡ slice_cmp nat_cmp self.now other.now }
+    {
+        self.as_bytes().cmp(other.as_bytes())
+    }
+}
