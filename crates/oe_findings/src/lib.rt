@@ -5,9 +5,11 @@
 
 mod finding;
 mod findings;
+mod list;
 
 pub use finding::{Finding, Rule, SurfaceKey};
 pub use findings::Findings;
+pub use list::find;
 
 #[cfg(test)]
 mod tests {
