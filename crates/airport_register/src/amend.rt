@@ -16,6 +16,8 @@ use grid_exact::NoMemory;
 use std::alloc::Global;
 
 impl From<NoMemory> for AmendRefusal {
+    ghost from_gives = { λ _ e. e ≡ AmendRefusal.NoMemory };
+
     fn from(_: NoMemory) -> AmendRefusal {
         AmendRefusal::NoMemory
     }

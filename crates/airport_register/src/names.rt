@@ -12,7 +12,7 @@ use std::marker::Model;
 pub struct BadName;
 
 /// The name of an airfield: 1 to 8 letters A to Z and digits.
-#[derive(Clone, Copy, Debug, PartialEq, Eq)]
+#[derive(Clone, Copy, Debug, PartialEq, Eq, PartialOrd, Ord)]
 pub struct FieldId {
     text: ShortText<8>,
 }
@@ -31,7 +31,7 @@ impl Model for FieldId {
 }
 
 /// The name of a runway: 1 to 8 letters A to Z, digits and strokes, as `09/27`.
-#[derive(Clone, Copy, Debug, PartialEq, Eq)]
+#[derive(Clone, Copy, Debug, PartialEq, Eq, PartialOrd, Ord)]
 pub struct RunwayName {
     text: ShortText<8>,
 }

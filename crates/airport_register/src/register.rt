@@ -41,7 +41,7 @@ fn place(items: &[Arc<Airfield>], id: &FieldId) -> Result<usize, usize>
     ensures within { IsSearchInRange result (length items.now) }
     ensures found { IsBinarySearchResult (λ f. name_cmp (id_of (arc_value f)) id.now) items.now result }
 {
-    items.binary_search_by(|field| field.id().compare(id))
+    items.binary_search_by_key(id, |field| *field.id())
 }
 
 impl Register {
@@ -77,8 +77,9 @@ impl Register {
         ensures place { option_copied result ≡ slice_get self.now i }
         ensures held { IfSome result (λ f. IsHeld f.now) }
     {
-        if i < self.items.len() {
-            Some(&self.items[i])
+        let items = self.items.as_slice();
+        if i < items.len() {
+            Some(&items[i])
         } else {
             None
         }

@@ -37,7 +37,7 @@ fn place(items: &[Runway], name: &RunwayName) -> Result<usize, usize>
     ensures within { IsSearchInRange result (length items.now) }
     ensures found { IsBinarySearchResult (λ r. name_cmp (name_of r) name.now) items.now result }
 {
-    items.binary_search_by(|runway| runway.name.compare(name))
+    items.binary_search_by_key(name, |runway| runway.name)
 }
 
 impl Runways {
@@ -85,8 +85,9 @@ impl Runways {
     pub(crate) fn with(&self, alloc: Global, runway: &Runway) -> Result<Runways, NoMemory>
         ensures put { IfOk result (λ r. r ≡ put_by name_cmp name_of runway.now self.now) }
     {
+        let place = place(self.items.as_slice(), &runway.name);
         let mut items = Vec::from_slice(alloc, self.items.as_slice())?;
-        match place(items.as_slice(), &runway.name) {
+        match place {
             Ok(i) => {
                 items[i] = *runway;
                 Ok(Runways { items })
