@@ -52,6 +52,7 @@ fn push_airfield(
     }
 }
 
+#[tactic(auto, using(crate::proofs::ListFacts::one_more, crate::proofs::ListFacts::not_past))]
 /// Puts the entries of all airfields behind the others, in order of name.
 fn push_airfields(
     list: &mut Findings,
@@ -61,9 +62,10 @@ fn push_airfields(
     ensures { OnOk result (list.new ≡ list.old ++ flat_map (of_airfield filing.now) register.now) }
 {
     for i in 0..register.len() {
-        if let Some(airfield) = register.nth(i) {
-            push_airfield(list, filing, airfield)?;
-        }
+        let Some(airfield) = register.nth(i) else {
+            unreachable!();
+        };
+        push_airfield(list, filing, airfield)?;
     }
     Ok(())
 }
