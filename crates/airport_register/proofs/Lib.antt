@@ -1,3 +1,4 @@
 pub mod Lengths
 pub mod ByName
 pub mod Fields
+pub mod Rules

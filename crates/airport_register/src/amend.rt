@@ -16,7 +16,10 @@ use grid_exact::NoMemory;
 use std::alloc::Global;
 
 impl From<NoMemory> for AmendRefusal {
-    ghost from_gives = { λ _ e. e ≡ AmendRefusal.NoMemory };
+    ghost use Rattle.std.specs.Prelude.{◌≡◌};
+    ghost use Rattle.airport_register.specs.declared.amendment.AmendRefusal.TheVariants.{NoMemory};
+
+    ghost from_gives = { λ _ e. e ≡ NoMemory };
 
     fn from(_: NoMemory) -> AmendRefusal {
         AmendRefusal::NoMemory
