@@ -27,7 +27,7 @@ floor_beyond : (d2 : ℕ) (base z : ℤ) → 33227092089 < d2 → AtLeastRoot (r
 floor_beyond d2 base z far k =
     by_lt_z z (base +ℤ pos 2000)
     (λ l. absurd (let m : signed_square (reach_of base z) ≤ℤ signed_square (pos 182283000) = signed_square_le (reach_of base z) (pos 182283000) (omega (arith, ints)) in
-      omega (arith, ints, k.at_least, m)))
+    omega (arith, ints, k.at_least, m)))
     (λ l. l)
 
 -- no level less than 200 feet over the base is at the limit
@@ -138,12 +138,12 @@ near_listed a s r size h =
     let d2 = square_distance a s in
     let base = base_of a s in
     sym (excess_of-is (near_surface a s) (is_near a s) (is_above_limit d2 base) (is_at_limit d2 base) most_excess (standards_top s) r
-      (record {
-        covers_out = near_out a s;
-        covers_in = near_in a s;
-        above_out = over_out d2 base;
-        above_in = over_in d2 base;
-        at_out = limit_out d2 base;
-        at_in = limit_in d2 base;
-      })
-      (within_most r size) h)
+    (record {
+      covers_out = near_out a s;
+      covers_in = near_in a s;
+      above_out = over_out d2 base;
+      above_in = over_in d2 base;
+      at_out = limit_out d2 base;
+      at_in = limit_in d2 base;
+    })
+    (within_most r size) h)

@@ -29,7 +29,9 @@ fn square_distance(airport: &Airport, filing: &Filing) -> u128
 fn has_long_runway(runways: &[Runway]) -> bool
     ensures { result ≡ list_any is_long runways.now }
 {
-    runways.iter().any(|runway| runway.square_length() > LONG_SQUARE)
+    runways
+        .iter()
+        .any(|runway| runway.square_length() > LONG_SQUARE)
 }
 
 /// Whether the limit is asked of this airport and structure.
