@@ -36,7 +36,7 @@ module _ {A : Type 0} (f : A → Airfield) where
   pub field_found : (k : List ℕ) (xs zs : List A) (i : ℕ) (d : A) → IsRegister (map f xs) → zs ≡ xs → i < length zs → IsBinarySearchResult (λ a. name_cmp (id_of (f a)) k) zs (Ok i) → airfield_at (map f xs) k ≡ Some (f (get_or zs i d))
   field_found k xs zs i d r e l h =
       let g : found_by name_cmp (λ a. id_of (f a)) k zs ≡ Some (get_or zs i d) =
-        search_found name_cmp nat_list_cmp_total (λ a. id_of (f a)) k zs i d (rw e (Rises-mapped name_cmp id_of f xs r.rises)) l h in
+      search_found name_cmp nat_list_cmp_total (λ a. id_of (f a)) k zs i d (rw e (Rises-mapped name_cmp id_of f xs r.rises)) l h in
       rw (← e) (rw (found_by-map name_cmp id_of f k zs) (ap (option_map f) g))
 
   -- the same, where x is the item that was read there, and v what it holds
@@ -48,21 +48,21 @@ module _ {A : Type 0} (f : A → Airfield) where
   pub field_missing : (k : List ℕ) (xs zs : List A) (i : ℕ) → IsRegister (map f xs) → zs ≡ xs → IsBinarySearchResult (λ a. name_cmp (id_of (f a)) k) zs (Err i) → airfield_at (map f xs) k ≡ None
   field_missing k xs zs i r e h =
       let g : found_by name_cmp (λ a. id_of (f a)) k zs ≡ None =
-        search_missing name_cmp nat_list_cmp_total (λ a. id_of (f a)) k zs i (rw e (Rises-mapped name_cmp id_of f xs r.rises)) h in
+      search_missing name_cmp nat_list_cmp_total (λ a. id_of (f a)) k zs i (rw e (Rises-mapped name_cmp id_of f xs r.rises)) h in
       rw (← e) (rw (found_by-map name_cmp id_of f k zs) (ap (option_map f) g))
 
   pub field_set : (x : A) (v : Airfield) (k : List ℕ) (xs zs : List A) (i : ℕ) → IsRegister (map f xs) → f x ≡ v → k ≡ id_of v → zs ≡ xs → i < length zs → IsBinarySearchResult (λ a. name_cmp (id_of (f a)) k) zs (Ok i) → map f (set xs i x) ≡ put_by name_cmp id_of v (map f xs)
   field_set x v k xs zs i r b n e l h =
       let m : k ≡ id_of (f x) = n ∙ ap id_of (sym b) in
       let s : set zs i x ≡ put_by name_cmp (λ a. id_of (f a)) x zs =
-        search_set name_cmp nat_list_cmp_total (λ a. id_of (f a)) x zs i (rw e (Rises-mapped name_cmp id_of f xs r.rises)) l (rw m at h) in
+      search_set name_cmp nat_list_cmp_total (λ a. id_of (f a)) x zs i (rw e (Rises-mapped name_cmp id_of f xs r.rises)) l (rw m at h) in
       rw (← e, s, ← b) (sym (put_by-map name_cmp id_of f x zs))
 
   pub field_insert : (x : A) (v : Airfield) (k : List ℕ) (xs zs : List A) (i : ℕ) → IsRegister (map f xs) → f x ≡ v → k ≡ id_of v → zs ≡ xs → i ≤ length zs → IsBinarySearchResult (λ a. name_cmp (id_of (f a)) k) zs (Err i) → map f (insert xs i x) ≡ put_by name_cmp id_of v (map f xs)
   field_insert x v k xs zs i r b n e l h =
       let m : k ≡ id_of (f x) = n ∙ ap id_of (sym b) in
       let s : insert zs i x ≡ put_by name_cmp (λ a. id_of (f a)) x zs =
-        search_insert name_cmp nat_list_cmp_total (λ a. id_of (f a)) x zs i (rw e (Rises-mapped name_cmp id_of f xs r.rises)) l (rw m at h) in
+      search_insert name_cmp nat_list_cmp_total (λ a. id_of (f a)) x zs i (rw e (Rises-mapped name_cmp id_of f xs r.rises)) l (rw m at h) in
       rw (← e, s, ← b) (sym (put_by-map name_cmp id_of f x zs))
 
   -- the item at a place, and none past the end

@@ -92,6 +92,17 @@ impl FieldId {
         self.text.as_bytes()
     }
 
+    /// The name as text.
+    pub fn as_str(&self) -> &str
+        ensures value { result.now ≡ self.now }
+        ensures name { IsFieldId self.now }
+    {
+        match str::from_utf8(self.text.as_bytes()) {
+            Ok(text) => text,
+            Err(_) => unreachable!(),
+        }
+    }
+
     /// The order of the two names, byte by byte.
     pub fn compare(&self, other: &FieldId) -> Ordering
         ensures order { result ≡ name_cmp self.now other.now }
@@ -129,6 +140,17 @@ impl RunwayName {
         ensures name { IsRunwayName self.now }
     {
         self.text.as_bytes()
+    }
+
+    /// The name as text.
+    pub fn as_str(&self) -> &str
+        ensures value { result.now ≡ self.now }
+        ensures name { IsRunwayName self.now }
+    {
+        match str::from_utf8(self.text.as_bytes()) {
+            Ok(text) => text,
+            Err(_) => unreachable!(),
+        }
     }
 
     /// The order of the two names, byte by byte.

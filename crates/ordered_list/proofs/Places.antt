@@ -47,7 +47,7 @@ module _ {T K : Type 0} (cmp : K → K → Ordering) (total : IsTotalOrder cmp) 
   insert_is_put x (y ∷ ys) zero l h = rw (below cmp total (key y) (key x) (h.1 0 y (omega arith) (omega arith))) refl
   insert_is_put x (y ∷ ys) (suc i) l h =
       rw (above cmp total (key y) (key x) (h.0 0 y (omega arith) (omega arith)))
-        (ap (λ zs. y ∷ zs) (insert_is_put x ys i (omega arith) (λ j d a b. h.0 (suc j) d (omega arith) (omega arith), λ j d a b. h.1 (suc j) d (omega arith) (omega arith))))
+      (ap (λ zs. y ∷ zs) (insert_is_put x ys i (omega arith) (λ j d a b. h.0 (suc j) d (omega arith) (omega arith), λ j d a b. h.1 (suc j) d (omega arith) (omega arith))))
 
   -- items that rise answer a search in rising order
   pub apart : (xs : List T) (i j : ℕ) (d : T) → Rises cmp key xs → i < j → j < length xs → cmp (key (get_or xs i d)) (key (get_or xs j d)) ≡ Less

@@ -82,7 +82,7 @@ module _ {T K : Type 0} (cmp : K → K → Ordering) (total : IsTotalOrder cmp) 
   pub missing_below : (k : K) (y : T) (ys : List T) → cmp k (key y) ≡ Less → Rises cmp key (y ∷ ys) → found_by cmp key k (y ∷ ys) ≡ None
   missing_below k y ys e h =
       missing k (y ∷ ys) (All-cons (λ z. cmp k (key z) ≢ Equal) y ys (λ f. cc)
-        (λ j d l f. (let t : cmp k (key (get_or ys j d)) ≡ Less = total.trans k (key y) (key (get_or ys j d)) e (h.0 j d l) in cc)))
+      (λ j d l f. (let t : cmp k (key (get_or ys j d)) ≡ Less = total.trans k (key y) (key (get_or ys j d)) e (h.0 j d l) in cc)))
 
   length_new_step : (x y : T) (ys : List T) (o : Ordering) → cmp (key x) (key y) ≡ o → found_by cmp key (key x) (y ∷ ys) ≡ None → (found_by cmp key (key x) ys ≡ None → length (put_by cmp key x ys) ≡ length ys + 1) → length (by_order o (x ∷ y ∷ ys) (x ∷ ys) (y ∷ put_by cmp key x ys)) ≡ length (y ∷ ys) + 1
   length_new_step x y ys Less e f r = omega arith
