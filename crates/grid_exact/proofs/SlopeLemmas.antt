@@ -48,6 +48,18 @@ IsSlope-small a k c n p l q ks cs r ns =
       low_enough = low_unreached a k c n p q cs;
     }
 
+pub IsSlope-short : (a k c : ℤ) (n : ℕ) → pos 0 <ℤ a → unsigned_abs a < 2 ^ 63 → pos 0 <ℤ k → unsigned_abs k ≤ 2 ^ 20 → unsigned_abs c ≤ unsigned_abs k * 2 ^ 25 → 0 < n → n ≤ 2 ^ 32 → IsSlope a k c n
+IsSlope-short a k c n p l q ks cs r ns =
+    let w : widest k c ≤ 2 ^ 46 = omega arith in
+    record {
+      rises = q;
+      root = r;
+      left = l;
+      factor = omega arith;
+      product = (let m : widest k c * widest k c * n ≤ 2 ^ 46 * 2 ^ 46 * 2 ^ 32 = mul-le-mul (mul-le-mul w w) ns in omega arith);
+      low_enough = low_unreached a k c n p q cs;
+    }
+
 -- where each level's factor fits, the widest does, which is the factor at the least or the greatest level
 pub widest_fits : (k c : ℤ) (n : ℕ) → pos 0 <ℤ k → LevelsFit k c n → widest k c * widest k c * n < 2 ^ 126
 widest_fits k c n p f =
@@ -88,4 +100,4 @@ coordinate_fits c k n z s low high =
 
 pub ruleset slopes = (to_z-of_z, fits_128, scaled_small, factor_at_most, factor_product)
 
-pub ruleset making = (to_z-of_z, IsSlope-small, widen)
+pub ruleset making = (to_z-of_z, IsSlope-small, IsSlope-short, widen)

@@ -43,6 +43,29 @@ impl Slope {
         }
     }
 
+    /// As `rising`, where the root is of a shorter length and the factor is steeper.
+    #[tactic(auto, using(crate::proofs::SlopeLemmas::making))]
+    pub fn rising_short(a: i128, k: i64, c: i128, n: u128) -> Slope
+        requires positive { pos 0 <ℤ a }
+        requires left { unsigned_abs a < 2 ^ 63 }
+        requires rises { pos 0 <ℤ k }
+        requires k_size { unsigned_abs k ≤ 2 ^ 20 }
+        requires c_size { unsigned_abs c ≤ unsigned_abs k * 2 ^ 25 }
+        requires root { 0 < n }
+        requires n_size { n ≤ 2 ^ 32 }
+        ensures a { result.a ≡ a }
+        ensures k { result.k ≡ k }
+        ensures c { result.c ≡ c }
+        ensures n { result.n ≡ n }
+    {
+        Slope {
+            a,
+            k: k as i128,
+            c,
+            n,
+        }
+    }
+
     /// `k * z - c`.
     #[tactic(auto, using(crate::proofs::SlopeLemmas::slopes))]
     fn factor(&self, z: i64) -> i128
