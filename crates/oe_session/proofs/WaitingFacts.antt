@@ -8,8 +8,8 @@ use Rattle.oe_http.specs.Lines.{GivesLine}
 use Rattle.oe_http.specs.declared.lines.Next.TheVariants as next
 use Rattle.oe_http.proofs.SentFacts.{appends_none, appends_on}
 use Rattle.oe_session.specs.Machine.{Starts}
-use Rattle.oe_session.specs.Session.{Begun, RepliesOne}
-use Rattle.oe_session.proofs.SessionFacts.{Underway, underway_stop}
+use Rattle.oe_session.specs.Session.{Begun, RepliesBehind}
+use Rattle.oe_session.proofs.SessionFacts.{Underway, underway_start, underway_stop, fell_none, fell_more, took_more}
 
 front_nil : (a b : List ℕ) → a ++ b ≡ [] → a ≡ []
 front_nil [] b e = refl
@@ -97,14 +97,17 @@ waits_more None old new reply e = tt
 waits_more (Some ks) old new reply e = rw e (sym (append_assoc ks old reply))
 
 pub replies_whole : {St : Type 0} (step : St → List ℕ → List ℕ → St → Type 0) (a b : St) (x y : Option (List ℕ)) (line old new text : List ℕ)
-    → GivesLine x y next.Whole line → step a line text b → new ≡ old ++ text → (k : Option (List ℕ)) → RepliesOne step a b x y (append_known k old) (append_known k new)
+    → GivesLine x y next.Whole line → step a line text b → new ≡ old ++ text → RepliesBehind step a b x y old new
 replies_whole step a b None y line old new text g s e k = tt
 replies_whole step a b (Some xs) None line old new text g s e k = absurd g
 replies_whole step a b (Some xs) (Some ys) line old new text g s e k = (line, text, g.0, s, waits_more k old new text e)
 
 pub replies_long : {St : Type 0} (step : St → List ℕ → List ℕ → St → Type 0) (a b : St) (x y : Option (List ℕ)) (line old new text : List ℕ)
     → GivesLine x y next.TooLong line → ((long : List ℕ) → 8192 < length long → step a long text b) → new ≡ old ++ text
-    → (k : Option (List ℕ)) → RepliesOne step a b x y (append_known k old) (append_known k new)
+    → RepliesBehind step a b x y old new
 replies_long step a b None y line old new text g s e k = tt
 replies_long step a b (Some xs) None line old new text g s e k = absurd g
 replies_long step a b (Some xs) (Some ys) line old new text g s e k = (g.0, text, g.1, s g.0 g.2, waits_more k old new text e)
+
+-- what a session's clauses follow from
+pub ruleset session_facts = (underway_start, fell_none, took_more, fell_more, begun_now, begun_moved)

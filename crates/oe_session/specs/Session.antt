@@ -1,6 +1,6 @@
 -- What a session writes for what it reads.
 use Rattle.std.specs.Prelude.{ℕ, ◌+◌, ◌==◌, false, All, List, [], ◌∷◌, ◌++◌, ◌≡◌, ◌≤◌, length, Option, Some, None}
-use Rattle.std.specs.Io.KnownBytes.{Appends}
+use Rattle.std.specs.Io.KnownBytes.{Appends, append_known}
 use Rattle.std.specs.Str.Lines.{lines}
 use Rattle.oe_session.specs.Machine.{Runs, Starts}
 
@@ -37,6 +37,11 @@ RepliesOne step before after None now held_old held_new = Unit {0}
 RepliesOne step before after (Some xs) None held_old held_new = ⊥
 RepliesOne step before after (Some xs) (Some ys) held_old held_new =
     (line reply : List ℕ) × (lines xs ≡ line ∷ lines ys) × step before line reply after × Appends held_old held_new reply
+
+-- the same, with the text put behind those that wait, whatever was written before
+abbrev pub RepliesBehind : {St : Type 0} → (St → List ℕ → List ℕ → St → Type 0) → St → St → Option (List ℕ) → Option (List ℕ) → List ℕ → List ℕ → Type 0
+RepliesBehind step before after unread_old unread_new waiting_old waiting_new =
+    (k : Option (List ℕ)) → RepliesOne step before after unread_old unread_new (append_known k waiting_old) (append_known k waiting_new)
 
 -- no line was left
 abbrev pub EndsRead : Option (List ℕ) → Option (List ℕ) → Type 0
