@@ -11,6 +11,9 @@ use crate::Answering;
 use oe_http::{Failed, LineReader, Next, ReadError, Sink, Source, write_whole};
 use std::alloc::Global;
 
+/// So many bytes of replies are written without waiting for more.
+const MOST_WAITING: usize = 65536;
+
 /// How a session ended.
 #[derive(Clone, Copy, Debug, PartialEq, Eq)]
 pub enum Ended {
@@ -20,8 +23,9 @@ pub enum Ended {
     ReadFault,
     /// The output failed.
     WriteFault,
-    /// The input is longer than 2^40 bytes.
+    /// 2^40 bytes were read, and more are wanted.
     Long,
+    /// Memory was refused.
     NoMemory,
 }
 
@@ -92,7 +96,8 @@ fn next_reply<A: Answering, S: Source>(
     input: &mut S,
 ) -> Result<bool, Ended>
     ensures answered { IfOk result (λ found. found ≡ true → RepliesBehind A.step desk.old desk.new (unread reader.old (S.left input.old)) (unread reader.new (S.left input.new)) waiting.old.items waiting.new.items) }
-    ensures ended { IfOk result (λ found. found ≡ false → EndsRead (unread reader.old (S.left input.old)) (unread reader.new (S.left input.new)) × (waiting.new.items ≡ waiting.old.items) × (desk.new ≡ desk.old)) }
+    ensures ended { IfOk result (λ found. found ≡ false → EndsRead (unread reader.old (S.left input.old)) (unread reader.new (S.left input.new))) }
+    ensures still { IfOk result (λ found. found ≡ false → (waiting.new.items ≡ waiting.old.items) × (desk.new ≡ desk.old)) }
     ensures kept { OnErr result (waiting.new.items ≡ waiting.old.items) }
     ensures part { IfErr result (λ e. e ≢ Ended.NoMemory → TakesPart (unread reader.old (S.left input.old)) (S.left input.new) × (desk.new ≡ desk.old)) }
     ensures turns { IfOk result (λ found. found ≡ true → most_left reader.new < most_left reader.old) }
@@ -129,8 +134,6 @@ fn send_waiting<O: Sink>(waiting: &mut Vec<u8>, output: &mut O) -> Result<(), Fa
     Ok(())
 }
 
-const MOST_WAITING: usize = 65536;
-
 #[tactic(auto, using(oe_http::proofs::SentFacts::sent_start))]
 // Writes what waits where much does, or where no whole line is pending.
 fn send_due<O: Sink>(
@@ -163,7 +166,7 @@ fn end<O: Sink>(ended: Ended, waiting: &mut Vec<u8>, output: &mut O) -> Ended
 }
 
 #[tactic(auto, using(crate::proofs::WaitingFacts::session_facts))]
-/// A reply to each line of the input, in order.
+/// A reply to each line of the input, in order. Replies are gathered, and written before each read.
 pub fn records<A: Answering, S: Source, O: Sink>(
     alloc: Global,
     desk: &mut A,
