@@ -1,0 +1,4 @@
+pub mod WordFacts
+pub mod LimitFacts
+pub mod FieldFacts
+pub mod FormFacts
