@@ -1,5 +1,5 @@
 -- What the desk answers, line by line.
-use Rattle.std.specs.Prelude.{ℕ, ◌+◌, ◌-◌, ◌^◌, ◌≡◌, ◌≢◌, List, [], Option, Some, None, true, min}
+use Rattle.std.specs.Prelude.{ℕ, ◌+◌, ◌-◌, ◌^◌, ◌≡◌, ◌≢◌, List, [], ◌++◌, Option, Some, None, true, min}
 use Rattle.std.specs.Io.KnownBytes.{Appends}
 use Rattle.std.specs.Str.Lines.{lines}
 use Rattle.airport_register.specs.Amendments.{first_broken, after_amendment}
@@ -8,7 +8,7 @@ use Rattle.airport_register.specs.declared.amendment.AmendRefusal.{AmendRefusal}
 use Rattle.oe_findings.specs.List.{findings_of}
 use Rattle.oe_session.specs.Session.{Answered}
 use Rattle.oe_wire.specs.Requests.{IsRecord, IsMalformed}
-use Rattle.oe_wire.specs.Replies.{reply_text, refusal_of}
+use Rattle.oe_wire.specs.Replies.{reply_text, refused_amendment}
 use Rattle.oe_wire.specs.declared.request.Act.{Act}
 use Rattle.oe_wire.specs.declared.request.Act.TheVariants as acts
 use Rattle.oe_wire.specs.declared.request.Query.{Query}
@@ -33,7 +33,7 @@ next_number n = min (n + 1) (2 ^ 64 - 1)
 -- an amendment is made where it breaks no rule; else its first broken rule is the reply, and nothing changes
 abbrev pub ruling : DeskState → Amendment → Option AmendRefusal → Reply
 ruling s a None = replies.Accepted (next_number s.accepted) true (outcomes.Plain (plain_of a))
-ruling s a (Some refusal) = replies.Refused (refusal_of refusal)
+ruling s a (Some refusal) = replies.Refused (refused_amendment refusal)
 
 abbrev pub after_ruling : DeskState → Amendment → Option AmendRefusal → DeskState
 after_ruling s a None = record { register = after_amendment s.register a; accepted = next_number s.accepted }
@@ -61,6 +61,11 @@ after_request s (requests.Change change) = after_act s change.act
 -- the refusal for want of memory, which changes nothing
 abbrev pub no_memory : Reply
 no_memory = replies.Refused refusals.NoMemory
+
+-- a reply was put behind a text: the reply to the request, which leads to its state, or want of memory, which changes nothing
+pub data Tells (before : DeskState) (r : Request) (old new : List ℕ) (after : DeskState) : Type 0 where
+  Decided : new ≡ old ++ reply_text (reply_to before r) → after ≡ after_request before r → Tells before r old new after
+  NoRoom : new ≡ old ++ reply_text no_memory → after ≡ before → Tells before r old new after
 
 -- a line, the text of its reply, and the states before and after
 pub data Step (before : DeskState) (line text : List ℕ) (after : DeskState) : Type 0 where

@@ -23,7 +23,7 @@ use std::process::ExitCode;
 mod tests;
 
 /// The words after the program's name.
-fn words(rt: &HostRuntime) -> Result<Words, Status> {
+fn arguments(rt: &HostRuntime) -> Result<Words, Status> {
     let mut words = Words::new(rt.alloc());
     let Ok(args) = env::args(rt) else {
         return Err(Status::Usage);
@@ -38,7 +38,7 @@ fn words(rt: &HostRuntime) -> Result<Words, Status> {
 
 /// Runs the desk over the standard streams.
 fn run_on_streams(rt: &HostRuntime) -> Status {
-    match words(rt) {
+    match arguments(rt) {
         Ok(words) => run(
             rt.alloc(),
             &words,
