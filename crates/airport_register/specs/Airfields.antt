@@ -5,7 +5,6 @@ use Rattle.ordered_list.specs.Ordered.{Rises}
 use Rattle.airport_register.specs.Names.{name_cmp}
 use Rattle.airport_register.specs.Runways.{name_of, IsLong}
 use Rattle.airport_register.specs.declared.airfield.Airport.{Airport}
-use Rattle.airport_register.specs.declared.airfield.Heliport.{Heliport}
 use Rattle.airport_register.specs.declared.airfield.Airfield.{Airfield}
 use Rattle.airport_register.specs.declared.airfield.Airfield.TheVariants.{Airport as AnAirport, Heliport as AHeliport}
 
@@ -18,13 +17,10 @@ pub record IsHeldAirport (a : Airport) : Type 0 where
   pub rises : Rises name_cmp name_of a.runways
   pub long : All IsLong a.runways
 
--- a heliport as the register holds it
-pub record IsHeldHeliport (h : Heliport) : Type 0 where
-
 -- an airfield as the register holds it
 abbrev pub IsHeld : Airfield → Type 0
 IsHeld (AnAirport a) = IsHeldAirport a
-IsHeld (AHeliport h) = IsHeldHeliport h
+IsHeld (AHeliport h) = Unit {0}
 
 -- the airfields of a register: they rise by name, and each is as the register holds it
 pub record IsRegister (airfields : List Airfield) : Type 0 where

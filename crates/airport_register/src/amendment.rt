@@ -18,7 +18,10 @@ pub enum Amendment {
         elevation: i64,
     },
     /// The airport gets the runway, instead of the one of its name.
-    PutRunway { id: FieldId, runway: Runway },
+    PutRunway {
+        id: FieldId,
+        runway: Runway,
+    },
 }
 
 /// Why an amendment is refused.

@@ -4,10 +4,12 @@
 #![tactic(auto)]
 
 mod airfield;
+mod amend;
 mod amendment;
 mod category;
 mod field_id;
 mod filing;
+mod laws;
 mod length;
 mod names;
 mod register;
@@ -19,8 +21,12 @@ pub use airfield::{Airfield, Airport, Heliport};
 pub use amendment::{AmendRefusal, Amendment, Changed};
 pub use category::Category;
 pub use filing::FilingRange;
+pub use laws::other_airfields_stay;
 pub use names::{BadName, FieldId, RunwayName};
 pub use register::Register;
 pub use runway::{Runway, RunwayEnd};
 pub use runways::Runways;
 pub use structure::{Filing, Flags, StructureKind};
+
+#[cfg(test)]
+mod tests;

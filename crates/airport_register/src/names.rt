@@ -12,7 +12,7 @@ use std::marker::Model;
 pub struct BadName;
 
 /// The name of an airfield: 1 to 8 letters A to Z and digits.
-#[derive(Clone, Copy, Debug, PartialEq, Eq)]
+#[derive(Clone, Copy, Debug, PartialEq, Eq, PartialOrd, Ord)]
 pub struct FieldId {
     text: ShortText<8>,
 }
@@ -31,7 +31,7 @@ impl Model for FieldId {
 }
 
 /// The name of a runway: 1 to 8 letters A to Z, digits and strokes, as `09/27`.
-#[derive(Clone, Copy, Debug, PartialEq, Eq)]
+#[derive(Clone, Copy, Debug, PartialEq, Eq, PartialOrd, Ord)]
 pub struct RunwayName {
     text: ShortText<8>,
 }
@@ -92,6 +92,17 @@ impl FieldId {
         self.text.as_bytes()
     }
 
+    /// The name as text.
+    pub fn as_str(&self) -> &str
+        ensures value { result.now ≡ self.now }
+        ensures name { IsFieldId self.now }
+    {
+        match str::from_utf8(self.text.as_bytes()) {
+            Ok(text) => text,
+            Err(_) => unreachable!(),
+        }
+    }
+
     /// The order of the two names, byte by byte.
     pub fn compare(&self, other: &FieldId) -> Ordering
         ensures order { result ≡ name_cmp self.now other.now }
@@ -129,6 +140,17 @@ impl RunwayName {
         ensures name { IsRunwayName self.now }
     {
         self.text.as_bytes()
+    }
+
+    /// The name as text.
+    pub fn as_str(&self) -> &str
+        ensures value { result.now ≡ self.now }
+        ensures name { IsRunwayName self.now }
+    {
+        match str::from_utf8(self.text.as_bytes()) {
+            Ok(text) => text,
+            Err(_) => unreachable!(),
+        }
     }
 
     /// The order of the two names, byte by byte.

@@ -1,7 +1,16 @@
 //! The register of airfields.
 
+ghost use Rattle.std.specs.Prelude.{◌≡◌, [], length, slice_get, option_copied, IfOk, IfSome, OnErr};
+ghost use Rattle.std.specs.Arc.{arc_value};
+ghost use Rattle.std.specs.List.Sorted.{IsBinarySearchResult, IsSearchInRange};
+ghost use Rattle.ordered_list.specs.Ordered.{put_by};
+ghost use Rattle.airport_register.specs.Names.{name_cmp};
+ghost use Rattle.airport_register.specs.Airfields.{id_of, IsHeld};
+ghost use Rattle.airport_register.specs.Amendments.{airfield_at};
+ghost use Rattle.airport_register.specs.Changes.{IsChange};
+
 use crate::airfield::Airfield;
-use crate::amendment::{AmendRefusal, Amendment, Changed};
+use crate::amendment::Changed;
 use crate::names::FieldId;
 use grid_exact::NoMemory;
 use std::alloc::Global;
@@ -27,13 +36,15 @@ impl Model for Register {
     ghost invariant = { λ r. IsRegister (map arc_value r.items.items) };
 }
 
-impl Register {
-    ghost use Rattle.std.specs.Prelude.{◌≡◌, ◌≢◌, [], length, slice_get, option_copied, IfOk, IfErr, IfSome, OnErr, None, Some};
-    ghost use Rattle.airport_register.specs.Airfields.{IsHeld};
-    ghost use Rattle.airport_register.specs.Amendments.{airfield_at, amended_id, first_broken, after_amendment};
-    ghost use Rattle.airport_register.specs.Changes.{IsChange};
-    ghost use Rattle.airport_register.specs.declared.amendment.AmendRefusal.TheVariants.{NoMemory as NoMemoryRefusal};
+/// Where the airfield of this name stands, or where it would stand.
+fn place(items: &[Arc<Airfield>], id: &FieldId) -> Result<usize, usize>
+    ensures within { IsSearchInRange result (length items.now) }
+    ensures found { IsBinarySearchResult (λ f. name_cmp (id_of (arc_value f)) id.now) items.now result }
+{
+    items.binary_search_by_key(id, |field| *field.id())
+}
 
+impl Register {
     /// A register without airfields. It takes no memory.
     pub fn empty(alloc: Global) -> Register
         ensures { result ≡ [] }
@@ -55,7 +66,7 @@ impl Register {
         ensures found { option_copied result ≡ airfield_at self.now id.now }
         ensures held { IfSome result (λ f. IsHeld f.now) }
     {
-        match self.items.binary_search_by(|field| field.id().compare(id)) {
+        match place(self.items.as_slice(), id) {
             Ok(i) => Some(&self.items[i]),
             Err(_) => None,
         }
@@ -66,9 +77,11 @@ impl Register {
         ensures place { option_copied result ≡ slice_get self.now i }
         ensures held { IfSome result (λ f. IsHeld f.now) }
     {
-        match self.items.get(i) {
-            Some(field) => Some(field),
-            None => None,
+        let items = self.items.as_slice();
+        if i < items.len() {
+            Some(&items[i])
+        } else {
+            None
         }
     }
 
@@ -87,19 +100,33 @@ impl Register {
         Ok(Register { items })
     }
 
-    /// Amends the register.
-    ///
-    /// # Errors
-    ///
-    /// The first rule that the amendment breaks, in the order of the rules, or `NoMemory` where memory was refused. The register
-    /// then stays as it was.
-    pub fn amend(&mut self, alloc: Global, a: &Amendment) -> Result<Changed, AmendRefusal>
-        ensures done { IfOk result (λ _. first_broken self.old a.now ≡ None) }
-        ensures after { IfOk result (λ _. self.new ≡ after_amendment self.old a.now) }
-        ensures change { IfOk result (λ c. IsChange self.old self.new (amended_id a.now) c) }
-        ensures refused { IfErr result (λ e. e ≢ NoMemoryRefusal → first_broken self.old a.now ≡ Some e) }
+    /// Puts the airfield in its place, instead of the one of its name.
+    pub(crate) fn put(&mut self, alloc: Global, field: Airfield) -> Result<Changed, NoMemory>
+        requires { IsHeld field }
+        ensures put { IfOk result (λ _. self.new ≡ put_by name_cmp id_of field self.old) }
+        ensures change { IfOk result (λ c. IsChange self.old self.new (id_of field) c) }
         ensures same { OnErr result (self.new ≡ self.old) }
     {
-        Err(AmendRefusal::NoMemory)
+        let id = *field.id();
+        let field = Arc::new(alloc, field)?;
+        let after = Arc::try_clone(&field)?;
+        match place(self.items.as_slice(), &id) {
+            Ok(i) => {
+                let before = std::mem::replace(&mut self.items[i], field);
+                Ok(Changed {
+                    id,
+                    before: Some(before),
+                    after: Some(after),
+                })
+            }
+            Err(i) => {
+                self.items.insert(i, field)?;
+                Ok(Changed {
+                    id,
+                    before: None,
+                    after: Some(after),
+                })
+            }
+        }
     }
 }

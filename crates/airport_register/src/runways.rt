@@ -1,10 +1,12 @@
 //! The runways of one airport.
 
 ghost use Rattle.std.specs.Prelude.{◌≡◌, [], length, slice_get, option_copied, IfOk};
+ghost use Rattle.std.specs.List.Sorted.{IsBinarySearchResult, IsSearchInRange};
 ghost use Rattle.ordered_list.specs.Ordered.{Rises, put_by};
 ghost use Rattle.airport_register.specs.Names.{name_cmp};
 ghost use Rattle.airport_register.specs.Runways.{name_of};
 
+use crate::names::RunwayName;
 use crate::runway::Runway;
 use grid_exact::NoMemory;
 use std::alloc::Global;
@@ -28,6 +30,14 @@ impl Model for Runways {
     ghost view = { λ r. r.items.items };
 
     ghost invariant = { λ r. Rises name_cmp name_of r.items.items };
+}
+
+/// Where the runway of this name stands, or where it would stand.
+fn place(items: &[Runway], name: &RunwayName) -> Result<usize, usize>
+    ensures within { IsSearchInRange result (length items.now) }
+    ensures found { IsBinarySearchResult (λ r. name_cmp (name_of r) name.now) items.now result }
+{
+    items.binary_search_by_key(name, |runway| runway.name)
 }
 
 impl Runways {
@@ -75,11 +85,17 @@ impl Runways {
     pub(crate) fn with(&self, alloc: Global, runway: &Runway) -> Result<Runways, NoMemory>
         ensures put { IfOk result (λ r. r ≡ put_by name_cmp name_of runway.now self.now) }
     {
+        let place = place(self.items.as_slice(), &runway.name);
         let mut items = Vec::from_slice(alloc, self.items.as_slice())?;
-        match items.binary_search_by(|other| other.name.compare(&runway.name)) {
-            Ok(i) => items[i] = *runway,
-            Err(i) => items.insert(i, *runway)?,
+        match place {
+            Ok(i) => {
+                items[i] = *runway;
+                Ok(Runways { items })
+            }
+            Err(i) => {
+                items.insert(i, *runway)?;
+                Ok(Runways { items })
+            }
         }
-        Ok(Runways { items })
     }
 }

@@ -41,7 +41,7 @@ pub struct Flags {
 }
 
 /// The structure of one notice, within the limits of a filing; a value that is copied.
-#[derive(Clone, Copy)]
+#[derive(Clone, Copy, Debug)]
 pub struct Filing {
     pub at: Point,
     /// The elevation of the ground there, in tenths of a foot: -20,000 to 200,000.

@@ -1,0 +1,5 @@
+pub mod Lengths
+pub mod ByName
+pub mod Fields
+pub mod Rules
+pub mod NameText
