@@ -2,3 +2,4 @@ pub mod Words
 pub mod Shape
 pub mod Forms
 pub mod Requests
+pub mod Replies

@@ -3,14 +3,19 @@
 //! Lengths, coordinates and elevations are whole tenths of a foot.
 #![tactic(auto)]
 
+mod entry;
 mod fields;
 mod form;
 mod forms;
 mod read;
+mod reply;
+mod reply_text;
 mod request;
 mod values;
 mod word;
 
 pub use read::{RecordReader, read_record};
+pub use reply::{Outcome, Plain, Refusal, Reply};
+pub use reply_text::{push_found, push_reply, write_reply};
 pub use request::{Act, Change, Query, ReadRefusal, Request};
 pub use word::Word;
