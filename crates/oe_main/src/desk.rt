@@ -33,7 +33,6 @@ impl Model for Desk {
 }
 
 /// The text of the reply to a line that is not empty.
-#[tactic(auto, using(crate::proofs::StepFacts::blank, crate::proofs::StepFacts::told, crate::proofs::StepFacts::refused, crate::proofs::StepFacts::wanting))]
 fn reply_to_line(
     alloc: Global,
     state: &mut DeskState,
@@ -49,21 +48,37 @@ fn reply_to_line(
         return Ok(());
     }
     match records.read(line) {
-        Ok(request) => tell(alloc, state, list, &request, text),
-        Err(ReadRefusal::Malformed { field }) => {
-            push_reply(text, &Reply::Refused(Refusal::Malformed { field }))
+        Ok(request) => {
+            tell(alloc, state, list, &request, text)?;
+            Ok(())
         }
-        Err(ReadRefusal::NoMemory) => push_reply(text, &Reply::Refused(Refusal::NoMemory)),
+        Err(ReadRefusal::Malformed { field }) => {
+            push_reply(text, &Reply::Refused(Refusal::Malformed { field }))?;
+            Ok(())
+        }
+        Err(ReadRefusal::NoMemory) => {
+            push_reply(text, &Reply::Refused(Refusal::NoMemory))?;
+            Ok(())
+        }
     }
 }
 
-#[tactic(auto, using(crate::proofs::StepFacts::refused_long))]
 /// The text of the reply to a line that is too long.
 fn reply_to_long(text: &mut String) -> Result<(), NoMemory>
     requires { string_bytes text.old ≡ [] }
     ensures { OnOk result ((s : DeskStateOf) (line : List ℕ) → 8192 < length line → Step s line (string_bytes text.new) s) }
 {
-    push_reply(text, &Reply::Refused(Refusal::Malformed { field: 0 }))
+    push_reply(text, &Reply::Refused(Refusal::Malformed { field: 0 }))?;
+    Ok(())
+}
+
+/// Makes `text` the bytes of the reply.
+fn copy_reply(reply: &String, text: &mut Vec<u8>) -> Result<(), NoMemory>
+    ensures { OnOk result (text.new.items ≡ string_bytes reply.now) }
+{
+    text.clear();
+    text.extend_from_slice(reply.as_bytes())?;
+    Ok(())
 }
 
 impl Desk {
@@ -99,16 +114,14 @@ impl Answering for Desk {
             line,
             &mut self.reply,
         )?;
-        text.clear();
-        text.extend_from_slice(self.reply.as_bytes())?;
+        copy_reply(&self.reply, text)?;
         Ok(())
     }
 
     fn answer_long(&mut self, text: &mut Vec<u8>) -> Result<(), NoMemory> {
         self.reply.clear();
         reply_to_long(&mut self.reply)?;
-        text.clear();
-        text.extend_from_slice(self.reply.as_bytes())?;
+        copy_reply(&self.reply, text)?;
         Ok(())
     }
 }
