@@ -2,4 +2,3 @@ pub mod WordFacts
 pub mod LimitFacts
 pub mod FieldFacts
 pub mod FormFacts
-pub mod NameFacts

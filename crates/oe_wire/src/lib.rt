@@ -19,3 +19,6 @@ pub use reply::{Outcome, Plain, Refusal, Reply};
 pub use reply_text::{push_found, push_reply, write_reply};
 pub use request::{Act, Change, Query, ReadRefusal, Request};
 pub use word::Word;
+
+#[cfg(test)]
+mod tests;
