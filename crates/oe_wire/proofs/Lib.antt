@@ -2,3 +2,4 @@ pub mod WordFacts
 pub mod LimitFacts
 pub mod FieldFacts
 pub mod FormFacts
+pub mod FormLaw

@@ -7,6 +7,7 @@ mod entry;
 mod fields;
 mod form;
 mod forms;
+mod laws;
 mod read;
 mod reply;
 mod reply_text;
@@ -14,6 +15,7 @@ mod request;
 mod values;
 mod word;
 
+pub use laws::first_bad_field;
 pub use read::{RecordReader, read_record};
 pub use reply::{Outcome, Plain, Refusal, Reply};
 pub use reply_text::{push_found, push_reply, write_reply};
