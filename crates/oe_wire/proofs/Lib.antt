@@ -3,3 +3,4 @@ pub mod LimitFacts
 pub mod FieldFacts
 pub mod FormFacts
 pub mod FormLaw
+pub mod OneReading

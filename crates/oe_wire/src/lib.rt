@@ -15,7 +15,7 @@ mod request;
 mod values;
 mod word;
 
-pub use laws::first_bad_field;
+pub use laws::{first_bad_field, one_reading};
 pub use read::{RecordReader, read_record};
 pub use reply::{Outcome, Plain, Refusal, Reply};
 pub use reply_text::{push_found, push_reply, write_reply};
