@@ -10,7 +10,7 @@ use Rattle.oe_wire.specs.declared.form.BadField.{BadField}
 use Rattle.oe_wire.specs.declared.form.Form.TheVariants as forms
 use Rattle.oe_wire.proofs.FieldFacts.{fits_more}
 
-first_wanted : (form : Form) → slice_get (shape_of form) 0 ≡ Some (Spelled (form_word form))
+pub first_wanted : (form : Form) → slice_get (shape_of form) 0 ≡ Some (Spelled (form_word form))
 first_wanted forms.Airport = refl
 first_wanted forms.Runway = refl
 first_wanted forms.Screen = refl

@@ -2,4 +2,5 @@ pub mod WordFacts
 pub mod LimitFacts
 pub mod FieldFacts
 pub mod FormFacts
-pub mod NameFacts
+pub mod FormLaw
+pub mod OneReading

@@ -1,5 +1,5 @@
 -- Requests, each with its one spelling.
-use Rattle.std.specs.Prelude.{ℕ, ◌≤◌, ◌<◌, ◌≡◌, ◌≢◌, List, [], ◌∷◌, length, Option, Some, None, codes}
+use Rattle.std.specs.Prelude.{ℕ, ◌-◌, ◌≤◌, ◌<◌, take, ◌≡◌, ◌≢◌, List, [], ◌∷◌, length, Option, Some, None, codes}
 use Rattle.std.specs.Fmt.{signed_decimal}
 use Rattle.record_fields.specs.Fields.{one_record}
 use Rattle.airport_register.specs.Sites.{Site}
@@ -81,3 +81,10 @@ pub data IsMalformed (line : List ℕ) (field : ℕ) : Type 0 where
 abbrev pub IsRefusal : List ℕ → ReadRefusal → Type 0
 IsRefusal line (refusals.Malformed field) = IsMalformed line field
 IsRefusal line refusals.NoMemory = Unit {0}
+
+-- some request has the same fields before this one, and none has the same fields up to it
+pub record IsFirstWithout (fields : List (List ℕ)) (n : ℕ) : Type 0 where
+  pub request : Request
+  pub good : IsGood request
+  pub same : take (n - 1) (spelling request) ≡ take (n - 1) fields
+  pub none : (r : Request) → IsGood r → take n (spelling r) ≢ take n fields

@@ -1,6 +1,6 @@
 //! The texts of findings.
 
-ghost use Rattle.std.specs.Prelude.{◌≡◌, ◌++◌, OnOk, codes, string_bytes, IsAscii};
+ghost use Rattle.std.specs.Prelude.{◌≡◌, ◌++◌, OnOk, codes, string_bytes};
 ghost use Rattle.std.specs.Fmt.{decimal};
 ghost use Rattle.oe_wire.specs.Words as words;
 ghost use Rattle.oe_wire.specs.Replies as spec;
@@ -9,7 +9,6 @@ use airport_register::{FieldId, RunwayName};
 use grid_exact::NoMemory;
 use itoa::Buffer;
 use oe_findings::{Finding, Rule, SurfaceKey};
-use std::str;
 
 // What of a key a rule has.
 #[derive(Clone, Copy)]
@@ -81,47 +80,28 @@ pub(crate) fn push_number(text: &mut String, number: u64) -> Result<(), NoMemory
     Ok(())
 }
 
-// Puts the bytes of a name behind a text.
-#[tactic(auto, using(crate::proofs::NameFacts::ascii_text))]
-fn push_name(text: &mut String, name: &[u8]) -> Result<(), NoMemory>
-    requires { IsAscii name.now }
-    ensures { OnOk result (string_bytes text.new ≡ string_bytes text.old ++ name.now) }
-{
-    match str::from_utf8(name) {
-        Ok(name) => {
-            text.push_str(name)?;
-            Ok(())
-        }
-        Err(_) => unreachable!(),
-    }
-}
-
 // Puts the name of an airfield, or a dash, behind a text.
-#[tactic(auto, using(crate::proofs::NameFacts::field_id_ascii))]
 fn push_field_id(text: &mut String, id: &Option<FieldId>) -> Result<(), NoMemory>
     ensures { OnOk result (string_bytes text.new ≡ string_bytes text.old ++ words.name_text id.now) }
 {
-    match id {
-        Some(id) => push_name(text, id.as_bytes()),
-        None => {
-            text.push_str("-")?;
-            Ok(())
-        }
-    }
+    let name = match id {
+        Some(id) => id.as_str(),
+        None => "-",
+    };
+    text.push_str(name)?;
+    Ok(())
 }
 
 // Puts the name of a runway, or a dash, behind a text.
-#[tactic(auto, using(crate::proofs::NameFacts::runway_name_ascii))]
 fn push_runway(text: &mut String, name: &Option<RunwayName>) -> Result<(), NoMemory>
     ensures { OnOk result (string_bytes text.new ≡ string_bytes text.old ++ words.name_text name.now) }
 {
-    match name {
-        Some(name) => push_name(text, name.as_bytes()),
-        None => {
-            text.push_str("-")?;
-            Ok(())
-        }
-    }
+    let name = match name {
+        Some(name) => name.as_str(),
+        None => "-",
+    };
+    text.push_str(name)?;
+    Ok(())
 }
 
 // Puts the airfield of an entry behind a text.

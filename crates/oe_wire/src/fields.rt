@@ -34,10 +34,7 @@ fn field(fields: &ByteRecord, form: Form, at: usize) -> Result<&[u8], BadField>
     ensures there { IfOk result (λ text. IsField (fields_of fields.now) at text.now) }
     ensures bad { IfErr result (λ b. FirstBad (shape_of form) (fields_of fields.now) b.number) }
 {
-    match fields.get(at) {
-        Some(text) => Ok(text),
-        None => Err(bad_field(at)),
-    }
+    fields.get(at).ok_or(bad_field(at))
 }
 
 // A field that is one word.

@@ -7,6 +7,7 @@ mod entry;
 mod fields;
 mod form;
 mod forms;
+mod laws;
 mod read;
 mod reply;
 mod reply_text;
@@ -14,8 +15,12 @@ mod request;
 mod values;
 mod word;
 
+pub use laws::{first_bad_field, one_reading};
 pub use read::{RecordReader, read_record};
 pub use reply::{Outcome, Plain, Refusal, Reply};
 pub use reply_text::{push_found, push_reply, write_reply};
 pub use request::{Act, Change, Query, ReadRefusal, Request};
 pub use word::Word;
+
+#[cfg(test)]
+mod tests;
