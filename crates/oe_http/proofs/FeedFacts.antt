@@ -1,5 +1,5 @@
 -- Where the whole lines of a block end.
-use Rattle.std.proofs.Common.{arith, ℕ, ◌+◌, ◌-◌, ◌≡◌, ◌≢◌, ◌≤◌, ◌<◌, ◌==◌, true, false, List, length, Option, Some, None, refl, sym, ◌∙◌, subst, take, drop, drop-cons, get_or, ap, suc, ◌∷◌, get_or-take, get_or-drop, length-take, length-drop, slice_range}
+use Rattle.std.proofs.Common.{arith, ℕ, ◌+◌, ◌-◌, ◌≡◌, ◌≤◌, ◌<◌, ◌==◌, true, List, length, Some, None, refl, sym, ◌∙◌, subst, take, drop, drop-cons, get_or, ap, suc, ◌∷◌, get_or-take, get_or-drop, length-take, length-drop, slice_range}
 use Rattle.memchr.specs.Find.{IsLastByte, is_byte}
 use Rattle.oe_http.specs.Lines.{HasFeed, WholeLinesEnd}
 
@@ -39,10 +39,11 @@ range_first xs bs start end e le some =
 range_feed : (xs : List ℕ) (start end feeds : ℕ) → WholeLinesEnd (take end xs) feeds → start < feeds → end ≤ length xs → HasFeed (slice_range xs start end)
 range_feed xs start end feeds h lt le =
     let small : feeds ≤ end = omega (arith, h.within, length-take end xs) in
-    let e : start + (feeds - 1 - start) ≡ feeds - 1 = omega (arith, lt) in
-    (feeds - 1 - start,
-     omega (arith, lt, small, le, length-take (end - start) (drop start xs), length-drop start xs),
-     range_byte xs start end (feeds - 1 - start) (omega (arith, lt, small)) ∙ rw e (h.feed (omega (arith, lt))))
+    let e : start + (feeds - 1 - start) ≡ feeds - 1 = omega (arith, lt) in (
+      feeds - 1 - start,
+      omega (arith, lt, small, le, length-take (end - start) (drop start xs), length-drop start xs),
+      range_byte xs start end (feeds - 1 - start) (omega (arith, lt, small)) ∙ rw e (h.feed (omega (arith, lt))),
+    )
 
 pub pending_feed : (xs bs : List ℕ) (start end feeds : ℕ) → slice_range xs start end ≡ bs → WholeLinesEnd (take end xs) feeds → end ≤ length xs → start < feeds → HasFeed bs
 pending_feed xs bs start end feeds e h le lt = subst HasFeed e (range_feed xs start end feeds h lt le)

@@ -3,8 +3,8 @@ use Rattle.std.proofs.Common.{arith, ℕ, ◌-◌, ◌≡◌, ◌≤◌, ◌<◌
 use Rattle.std.specs.Io.KnownBytes.{Consumes, Keeps}
 use Rattle.std.proofs.lemmas.List.Elements.{All-push, All-from_get_or}
 use Rattle.std.specs.Io.KnownBytes.{prepend_known}
-use Rattle.std.specs.List.{position_or_len, before_first, after_first}
-use Rattle.std.proofs.lemmas.List.Sums.{position_or_len_is, split_at_first, fails_before_first, passes_at_first}
+use Rattle.std.specs.List.{position_or_len}
+use Rattle.std.proofs.lemmas.List.Sums.{position_or_len_is, split_at_first}
 use Rattle.memchr.specs.Find.{IsFirstByte, is_byte}
 use Rattle.oe_http.specs.Lines.{FeedAt}
 use Rattle.std.proofs.lemmas.List.{nil_from_length, drop-take}

@@ -19,11 +19,13 @@ pub struct FakeSource {
 }
 
 impl FakeSource {
-    ghost use Rattle.oe_http.specs.Fakes.{bytes_left};
+    ghost use Rattle.oe_http.specs.Fakes.{IsFreshSource, bytes_left};
 
+    /// A source that has handed out nothing yet.
     pub fn new(bytes: Bytes, most: usize, fail: Vec<u64>) -> Self
         requires some { 1 ≤ most }
         ensures left { bytes_left result ≡ bytes }
+        ensures fresh { IsFreshSource result most fail.items }
     {
         FakeSource {
             bytes,
@@ -75,10 +77,16 @@ pub struct FakeSink {
 }
 
 impl FakeSink {
-    ghost use Rattle.oe_http.specs.Fakes.{bytes_held};
+    ghost use Rattle.oe_http.specs.Fakes.{IsFreshSink, bytes_held};
 
+    /// A sink that holds nothing yet.
+    ///
+    /// # Errors
+    ///
+    /// `NoMemory` where the room was refused.
     pub fn new(alloc: Global, room: usize, fail: Vec<u64>) -> Result<FakeSink, NoMemory>
         ensures empty { IfOk result (λ sink. bytes_held sink ≡ []) }
+        ensures fresh { IfOk result (λ sink. IsFreshSink sink room fail.items) }
     {
         Ok(FakeSink {
             bytes: Vec::with_capacity(alloc, room)?,

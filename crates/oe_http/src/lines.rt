@@ -23,8 +23,9 @@ const LONGEST: usize = 8193;
 pub enum ReadError {
     /// The source has failed.
     Failed,
-    /// Too many bytes were read.
+    /// 2^40 bytes were read, and more are wanted.
     InputLong,
+    /// Memory was refused.
     NoMemory,
 }
 
@@ -61,8 +62,11 @@ impl<T: Drop> From<AllocFailed<T>> for ReadError {
 /// What comes next.
 #[derive(Clone, Copy, Debug, PartialEq, Eq)]
 pub enum Next {
+    /// A line of 8,192 bytes at most.
     Whole,
+    /// A line of more.
     TooLong,
+    /// No line: the input has ended.
     End,
 }
 
@@ -146,7 +150,8 @@ fn whole_lines_end(bytes: &[u8]) -> usize
     }
 }
 
-/// Bytes of a source that are read block by block.
+/// Lines of a source, which is read in blocks of 64 KiB. A contract sees the bytes that were read and not handed out,
+/// and how many were read.
 #[derive(Drop)]
 pub struct LineReader {
     block: [u8; BLOCK],
@@ -166,6 +171,7 @@ impl Model for LineReader {
 }
 
 impl LineReader {
+    /// A reader that has read nothing yet.
     pub fn new() -> Self
         ensures bytes { result.bytes ≡ [] }
         ensures taken { result.taken ≡ 0 }
@@ -187,8 +193,8 @@ impl LineReader {
         self.start < self.feeds
     }
 
-    /// The next byte, or none at the end.
-    pub fn next_byte<S: Source>(&mut self, source: &mut S) -> Result<Option<u8>, ReadError>
+    // The next byte, or none at the end. At a fault no byte is lost.
+    fn next_byte<S: Source>(&mut self, source: &mut S) -> Result<Option<u8>, ReadError>
         ensures byte { IfOk result (λ byte. GivesByte (unread self.old (S.left source.old)) (unread self.new (S.left source.new)) byte) }
         ensures kept { OnErr result (Keeps (unread self.old (S.left source.old)) (S.left source.new)) }
         ensures turns { IfOk result (λ byte. IsSome byte → most_left self.new < most_left self.old) }
@@ -207,8 +213,13 @@ impl LineReader {
         }
     }
 
-    /// Reads the next line, without what ends it. After an `Err` a part of a line may be lost, and no whole one
-    /// unless memory was refused.
+    /// Reads the next line into `line`, which it empties first, without the line feed that ends it and a carriage
+    /// return before that. A line of more than 8,192 bytes is passed over.
+    ///
+    /// # Errors
+    ///
+    /// `Failed` where the source fails, `InputLong` where 2^40 bytes were read and more are wanted: a part of a line
+    /// is then lost, and no whole one. `NoMemory` where memory was refused.
     pub fn next_line<S: Source>(
         &mut self,
         source: &mut S,

@@ -1,4 +1,6 @@
 // The streams of std. Those of the system tell nothing of their bytes.
+ghost use Rattle.std.specs.Prelude.{◌≡◌};
+
 use crate::{Failed, Sink, Source};
 use std::io::{Read, Write};
 
@@ -10,7 +12,11 @@ pub struct ReadSource<R: Read> {
 }
 
 impl<R: Read> ReadSource<R> {
-    pub fn new(inner: R) -> Self {
+    /// A source over a reader, with no fault yet.
+    pub fn new(inner: R) -> Self
+        ensures reader { result.inner ≡ inner }
+        ensures faults { result.faults ≡ 0 }
+    {
         ReadSource { inner, faults: 0 }
     }
 }
@@ -40,7 +46,11 @@ pub struct WriteSink<W: Write> {
 }
 
 impl<W: Write> WriteSink<W> {
-    pub fn new(inner: W) -> Self {
+    /// A sink over a writer, with no fault yet.
+    pub fn new(inner: W) -> Self
+        ensures writer { result.inner ≡ inner }
+        ensures faults { result.faults ≡ 0 }
+    {
         WriteSink { inner, faults: 0 }
     }
 }

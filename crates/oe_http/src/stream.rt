@@ -17,6 +17,10 @@ pub trait Source {
     ghost faults: { Self → ℕ };
 
     /// Hands out the first bytes that are left. 0 bytes into a buffer with room are the end.
+    ///
+    /// # Errors
+    ///
+    /// `Failed` where it fails. It has counted that, and handed out nothing.
     fn read(&mut self, buf: &mut [u8]) -> Result<usize, Failed>
         ensures bound { ReadsAtMost result buf.new }
         ensures bytes { ReadConsumes (left self.old) (left self.new) result buf.new }
@@ -32,6 +36,10 @@ pub trait Sink {
     ghost faults: { Self → ℕ };
 
     /// Takes the first bytes of a piece, and at least one of a piece that is not empty.
+    ///
+    /// # Errors
+    ///
+    /// `Failed` where it fails. It has counted that, and taken nothing.
     fn write(&mut self, buf: &[u8]) -> Result<usize, Failed>
         ensures bound { WritesAtMost result buf.now }
         ensures some { 0 < length buf.now → IfOk result (λ count. 1 ≤ count) }

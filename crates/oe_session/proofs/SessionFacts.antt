@@ -5,31 +5,31 @@ use Rattle.std.specs.Io.KnownBytes.{Appends}
 use Rattle.oe_http.specs.Pending.{Pending, unread, FellBy}
 use Rattle.oe_http.specs.Lines.{TakesPart}
 use Rattle.oe_http.proofs.SentFacts.{appends_none, appends_on}
-use Rattle.oe_session.specs.Machine.{Runs, Starts}
+use Rattle.oe_session.specs.Machine.{Step, Runs, Starts}
 use Rattle.oe_session.specs.Session.{Answered, AnsweredFront, AnsweredRead, Begun, RepliesOne, EndsRead, TookAtLeast, ReadToEnd}
 
 -- runs, one after another
-pub runs_on : {St : Type 0} (step : St → List ℕ → List ℕ → St → Type 0) (a b c : St) (done more : List (List ℕ)) (t u : List ℕ)
+pub runs_on : {St : Type 0} (step : Step St) (a b c : St) (done more : List (List ℕ)) (t u : List ℕ)
     → Runs step a done t b → Runs step b more u c → Runs step a (done ++ more) (t ++ u) c
 runs_on step a b c [] more t u r q = rw r.0 (subst (λ s. Runs step s more u c) r.1 q)
 runs_on step a b c (l ∷ done) more t u r q =
     (r.0, r.1 ++ u, r.2, r.3, runs_on step r.2 b c done more r.1 u r.4 q, ap (λ x. x ++ u) r.5 ∙ append_assoc r.0 r.1 u)
 
-starts_on : {St : Type 0} (step : St → List ℕ → List ℕ → St → Type 0) (a b : St) (done more : List (List ℕ)) (t u : List ℕ)
+starts_on : {St : Type 0} (step : Step St) (a b : St) (done more : List (List ℕ)) (t u : List ℕ)
     → Runs step a done t b → Starts step b more u → Starts step a (done ++ more) (t ++ u)
 starts_on step a b [] more t u r q = rw r.0 (subst (λ s. Starts step s more u) r.1 q)
 starts_on step a b (l ∷ done) more t u r q =
     inr (inr (r.0, r.1 ++ u, r.2, r.3, starts_on step r.2 b done more r.1 u r.4 q, ap (λ x. x ++ u) r.5 ∙ append_assoc r.0 r.1 u))
 
-runs_one : {St : Type 0} (step : St → List ℕ → List ℕ → St → Type 0) (a b : St) (line reply : List ℕ) → step a line reply b → Runs step a (line ∷ []) reply b
+runs_one : {St : Type 0} (step : Step St) (a b : St) (line reply : List ℕ) → step a line reply b → Runs step a (line ∷ []) reply b
 runs_one step a b line reply s = (reply, [], b, s, (refl, refl), sym (append-nil reply))
 
-starts_none : {St : Type 0} (step : St → List ℕ → List ℕ → St → Type 0) (s : St) (ls : List (List ℕ)) → Starts step s ls []
+starts_none : {St : Type 0} (step : Step St) (s : St) (ls : List (List ℕ)) → Starts step s ls []
 starts_none step s [] = refl
 starts_none step s (l ∷ ls) = inl refl
 
 -- the lines so far have their texts, and these lines and those still to come are all
-pub record MidRun {St : Type 0} (step : St → List ℕ → List ℕ → St → Type 0) (start now : St) (xs ys : List ℕ) (before after : Option (List ℕ)) : Type 0 where
+pub record MidRun {St : Type 0} (step : Step St) (start now : St) (xs ys : List ℕ) (before after : Option (List ℕ)) : Type 0 where
   pub done : List (List ℕ)
   pub sent : List ℕ
   pub appends : Appends before after sent
@@ -37,16 +37,16 @@ pub record MidRun {St : Type 0} (step : St → List ℕ → List ℕ → St → 
   pub ran : Runs step start done sent now
 
 -- the same, where the streams tell
-abbrev pub Underway : {St : Type 0} → (St → List ℕ → List ℕ → St → Type 0) → St → St → Option (List ℕ) → Option (List ℕ) → Option (List ℕ) → Option (List ℕ) → Type 0
+abbrev pub Underway : {St : Type 0} → Step St → St → St → Option (List ℕ) → Option (List ℕ) → Option (List ℕ) → Option (List ℕ) → Type 0
 Underway step start now None y h k = Unit {0}
 Underway step start now (Some xs) None h k = ⊥
 Underway step start now (Some xs) (Some ys) h k = MidRun step start now xs ys h k
 
-pub underway_start : {St : Type 0} (step : St → List ℕ → List ℕ → St → Type 0) (s : St) (p : Pending) (x h : Option (List ℕ)) → p.bytes ≡ [] → Underway step s s x (unread p x) h h
+pub underway_start : {St : Type 0} (step : Step St) (s : St) (p : Pending) (x h : Option (List ℕ)) → p.bytes ≡ [] → Underway step s s x (unread p x) h h
 underway_start step s p None h e = tt
 underway_start step s p (Some xs) h e = rw e (record { done = []; sent = []; appends = appends_none h; split = refl; ran = (refl, refl) })
 
-pub underway_on : {St : Type 0} (step : St → List ℕ → List ℕ → St → Type 0) (a b c : St) (x y z h k m : Option (List ℕ))
+pub underway_on : {St : Type 0} (step : Step St) (a b c : St) (x y z h k m : Option (List ℕ))
     → Underway step a b x y h k → RepliesOne step b c y z k m → Underway step a c x z h m
 underway_on step a b c None y z h k m u r = tt
 underway_on step a b c (Some xs) None z h k m u r = absurd u
@@ -59,7 +59,7 @@ underway_on step a b c (Some xs) (Some ys) (Some zs) h k m u r = record {
   ran = runs_on step a b c u.done (r.0 ∷ []) u.sent r.1 u.ran (runs_one step b c r.0 r.1 r.3);
 }
 
-pub underway_end : {St : Type 0} (step : St → List ℕ → List ℕ → St → Type 0) (a b : St) (x y z h k : Option (List ℕ))
+pub underway_end : {St : Type 0} (step : Step St) (a b : St) (x y z h k : Option (List ℕ))
     → Underway step a b x y h k → EndsRead y z → Answered step a b x h k
 underway_end step a b None y z h k u e = tt
 underway_end step a b (Some xs) None z h k u e = absurd u
@@ -68,18 +68,18 @@ underway_end step a b (Some xs) (Some ys) (Some zs) h k u e =
     let all : lines xs ≡ u.done = u.split ∙ ap (λ t. u.done ++ lines t) e.0 ∙ append-nil u.done in
     (u.sent, u.appends, rw all u.ran)
 
-pub underway_stop : {St : Type 0} (step : St → List ℕ → List ℕ → St → Type 0) (a b : St) (x y h k : Option (List ℕ)) → Underway step a b x y h k → Begun step a x h k
+pub underway_stop : {St : Type 0} (step : Step St) (a b : St) (x y h k : Option (List ℕ)) → Underway step a b x y h k → Begun step a x h k
 underway_stop step a b None y h k u = tt
 underway_stop step a b (Some xs) None h k u = absurd u
 underway_stop step a b (Some xs) (Some ys) h k u =
     (u.sent ++ [], rw (append-nil u.sent) u.appends, rw u.split (starts_on step a b u.done (lines ys) u.sent [] u.ran (starts_none step b (lines ys))))
 
-pub underway_front : {St : Type 0} (step : St → List ℕ → List ℕ → St → Type 0) (a b : St) (x y h k : Option (List ℕ)) → Underway step a b x y h k → AnsweredFront step a x h k
+pub underway_front : {St : Type 0} (step : Step St) (a b : St) (x y h k : Option (List ℕ)) → Underway step a b x y h k → AnsweredFront step a x h k
 underway_front step a b None y h k u = tt
 underway_front step a b (Some xs) None h k u = absurd u
 underway_front step a b (Some xs) (Some ys) h k u = (u.done, lines ys, u.sent, b, u.split, u.appends, u.ran)
 
-pub underway_read : {St : Type 0} (step : St → List ℕ → List ℕ → St → Type 0) (a b : St) (x y z h k : Option (List ℕ))
+pub underway_read : {St : Type 0} (step : Step St) (a b : St) (x y z h k : Option (List ℕ))
     → Underway step a b x y h k → TakesPart y z → AnsweredRead step a b x z h k
 underway_read step a b None y z h k u p = tt
 underway_read step a b (Some xs) None z h k u p = absurd u
@@ -105,7 +105,7 @@ nothing_left : (p zs : List ℕ) → p ++ zs ≡ [] → zs ≡ []
 nothing_left [] zs e = e
 nothing_left (b ∷ p) zs e = absurd (cc)
 
-pub read_to_end : {St : Type 0} (step : St → List ℕ → List ℕ → St → Type 0) (a b : St) (x y h k z : Option (List ℕ)) (p : Pending)
+pub read_to_end : {St : Type 0} (step : Step St) (a b : St) (x y h k z : Option (List ℕ)) (p : Pending)
     → Underway step a b x y h k → EndsRead y (unread p z) → ReadToEnd x z
 read_to_end step a b None y h k z p u e = tt
 read_to_end step a b (Some xs) None h k z p u e = absurd u

@@ -7,9 +7,9 @@ use Rattle.oe_http.specs.Written.{Sent}
 use Rattle.oe_http.specs.Lines.{GivesLine}
 use Rattle.oe_http.specs.declared.lines.Next.TheVariants as next
 use Rattle.oe_http.proofs.SentFacts.{appends_none, appends_on}
-use Rattle.oe_session.specs.Machine.{Starts}
-use Rattle.oe_session.specs.Session.{Begun, RepliesOne}
-use Rattle.oe_session.proofs.SessionFacts.{Underway, underway_stop}
+use Rattle.oe_session.specs.Machine.{Step, Starts}
+use Rattle.oe_session.specs.Session.{Begun, RepliesBehind}
+use Rattle.oe_session.proofs.SessionFacts.{Underway, underway_start, underway_stop, fell_none, fell_more, took_more}
 
 front_nil : (a b : List ℕ) → a ++ b ≡ [] → a ≡ []
 front_nil [] b e = refl
@@ -27,7 +27,7 @@ fronts (x ∷ a) b (y ∷ r) s e =
     ]
 
 -- a front of a beginning is a beginning
-starts_front : {St : Type 0} (step : St → List ℕ → List ℕ → St → Type 0) (s : St) (ls : List (List ℕ)) (a b : List ℕ) → Starts step s ls (a ++ b) → Starts step s ls a
+starts_front : {St : Type 0} (step : Step St) (s : St) (ls : List (List ℕ)) (a b : List ℕ) → Starts step s ls (a ++ b) → Starts step s ls a
 starts_front step s [] a b h = front_nil a b h
 starts_front step s (l ∷ ls) a b (inl h) = inl (front_nil a b h)
 starts_front step s (l ∷ ls) a b (inr (inl h)) = inr (inl (h.0, b ++ h.1, h.2, h.3, h.4 ∙ append_assoc a b h.1))
@@ -38,7 +38,7 @@ starts_front step s (l ∷ ls) a b (inr (inr h)) =
     ]
 
 -- what was written is a beginning, if that with what waits is
-begun_front : {St : Type 0} (step : St → List ℕ → List ℕ → St → Type 0) (s : St) (x h k : Option (List ℕ)) (sent rest : List ℕ) → Appends h k sent → Begun step s x h (append_known k rest) → Begun step s x h k
+begun_front : {St : Type 0} (step : Step St) (s : St) (x h k : Option (List ℕ)) (sent rest : List ℕ) → Appends h k sent → Begun step s x h (append_known k rest) → Begun step s x h k
 begun_front step s None h k sent rest a b = tt
 begun_front step s (Some xs) None k sent rest a b = ([], tt, starts_front step s (lines xs) [] b.0 b.2)
 begun_front step s (Some xs) (Some hs) None sent rest a b = absurd a
@@ -63,31 +63,31 @@ grown_start h = ([], appends_none h)
 pub grown_moved : (h k m : Option (List ℕ)) (p q : List ℕ) → Grown h k → Sent k m p q → Grown h m
 grown_moved h k m p q g s = (g.0 ++ s.front, appends_on h k m g.0 s.front g.1 s.appends)
 
-underway_known : {St : Type 0} (step : St → List ℕ → List ℕ → St → Type 0) (a b : St) (x y h : Option (List ℕ)) (ks : List ℕ) → Underway step a b x y h None → Underway step a b x y h (Some ks)
+underway_known : {St : Type 0} (step : Step St) (a b : St) (x y h : Option (List ℕ)) (ks : List ℕ) → Underway step a b x y h None → Underway step a b x y h (Some ks)
 underway_known step a b None y h ks u = tt
 underway_known step a b (Some xs) None h ks u = absurd u
 underway_known step a b (Some xs) (Some ys) None ks u = record { done = u.done; sent = u.sent; appends = tt; split = u.split; ran = u.ran }
 underway_known step a b (Some xs) (Some ys) (Some hs) ks u = absurd u.appends
 
-pub underway_moved : {St : Type 0} (step : St → List ℕ → List ℕ → St → Type 0) (a b : St) (x y h k m : Option (List ℕ)) (p q : List ℕ)
+pub underway_moved : {St : Type 0} (step : Step St) (a b : St) (x y h k m : Option (List ℕ)) (p q : List ℕ)
     → Underway step a b x y h (append_known k p) → Sent k m p q → Underway step a b x y h (append_known m q)
 underway_moved step a b x y h k m p q u s = waits_less k m p q s (Underway step a b x y h) u (underway_known step a b x y h)
 
-pub begun_now : {St : Type 0} (step : St → List ℕ → List ℕ → St → Type 0) (a b : St) (x y h k : Option (List ℕ)) (p : List ℕ)
+pub begun_now : {St : Type 0} (step : Step St) (a b : St) (x y h k : Option (List ℕ)) (p : List ℕ)
     → Underway step a b x y h (append_known k p) → Grown h k → Begun step a x h k
 begun_now step a b x y h k p u g = begun_front step a x h k g.0 p g.1 (underway_stop step a b x y h (append_known k p) u)
 
-pub begun_moved : {St : Type 0} (step : St → List ℕ → List ℕ → St → Type 0) (a b : St) (x y h k m : Option (List ℕ)) (p rest : List ℕ)
+pub begun_moved : {St : Type 0} (step : Step St) (a b : St) (x y h k m : Option (List ℕ)) (p rest : List ℕ)
     → Underway step a b x y h (append_known k p) → Grown h k → Sent k m p rest → Begun step a x h m
 begun_moved step a b x y h k m p rest u g s = begun_now step a b x y h m rest (underway_moved step a b x y h k m p rest u s) (grown_moved h k m p rest g s)
 
 -- where nothing waits, that is what was written
-underway_empty : {St : Type 0} (step : St → List ℕ → List ℕ → St → Type 0) (a b : St) (x y h k : Option (List ℕ)) → Underway step a b x y h (append_known k []) → Underway step a b x y h k
+underway_empty : {St : Type 0} (step : Step St) (a b : St) (x y h k : Option (List ℕ)) → Underway step a b x y h (append_known k []) → Underway step a b x y h k
 underway_empty step a b x y h None u = u
 underway_empty step a b x y h (Some ks) u = subst (λ t. Underway step a b x y h (Some t)) (append-nil ks) u
 
 -- what waited was written
-pub underway_sent : {St : Type 0} (step : St → List ℕ → List ℕ → St → Type 0) (a b : St) (x y h k m : Option (List ℕ)) (p : List ℕ)
+pub underway_sent : {St : Type 0} (step : Step St) (a b : St) (x y h k m : Option (List ℕ)) (p : List ℕ)
     → Underway step a b x y h (append_known k p) → Sent k m p [] → Underway step a b x y h m
 underway_sent step a b x y h k m p u s = underway_empty step a b x y h m (underway_moved step a b x y h k m p [] u s)
 
@@ -96,15 +96,18 @@ waits_more : (k : Option (List ℕ)) (old new reply : List ℕ) → new ≡ old 
 waits_more None old new reply e = tt
 waits_more (Some ks) old new reply e = rw e (sym (append_assoc ks old reply))
 
-pub replies_whole : {St : Type 0} (step : St → List ℕ → List ℕ → St → Type 0) (a b : St) (x y : Option (List ℕ)) (line old new text : List ℕ)
-    → GivesLine x y next.Whole line → step a line text b → new ≡ old ++ text → (k : Option (List ℕ)) → RepliesOne step a b x y (append_known k old) (append_known k new)
+pub replies_whole : {St : Type 0} (step : Step St) (a b : St) (x y : Option (List ℕ)) (line old new text : List ℕ)
+    → GivesLine x y next.Whole line → step a line text b → new ≡ old ++ text → RepliesBehind step a b x y old new
 replies_whole step a b None y line old new text g s e k = tt
 replies_whole step a b (Some xs) None line old new text g s e k = absurd g
 replies_whole step a b (Some xs) (Some ys) line old new text g s e k = (line, text, g.0, s, waits_more k old new text e)
 
-pub replies_long : {St : Type 0} (step : St → List ℕ → List ℕ → St → Type 0) (a b : St) (x y : Option (List ℕ)) (line old new text : List ℕ)
+pub replies_long : {St : Type 0} (step : Step St) (a b : St) (x y : Option (List ℕ)) (line old new text : List ℕ)
     → GivesLine x y next.TooLong line → ((long : List ℕ) → 8192 < length long → step a long text b) → new ≡ old ++ text
-    → (k : Option (List ℕ)) → RepliesOne step a b x y (append_known k old) (append_known k new)
+    → RepliesBehind step a b x y old new
 replies_long step a b None y line old new text g s e k = tt
 replies_long step a b (Some xs) None line old new text g s e k = absurd g
 replies_long step a b (Some xs) (Some ys) line old new text g s e k = (g.0, text, g.1, s g.0 g.2, waits_more k old new text e)
+
+-- what a session's clauses follow from
+pub ruleset session_facts = (underway_start, fell_none, took_more, fell_more, begun_now, begun_moved)

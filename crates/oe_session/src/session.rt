@@ -1,16 +1,18 @@
 // The loop of a session.
 ghost use Rattle.std.specs.Prelude.{◌≡◌, ◌≢◌, ◌≤◌, ◌<◌, ◌-◌, ◌^◌, ◌⊎◌, ◌++◌, [], true, false, List, ℕ, Option, OnErr, OnOk, IfOk, IfErr, IsErrOf, length};
-ghost use Rattle.std.specs.Io.KnownBytes.{append_known};
 ghost use Rattle.oe_http.specs.Causes.{Rose, HasCause};
 ghost use Rattle.oe_http.specs.Written.{Sent};
 ghost use Rattle.oe_http.specs.Lines.{TakesPart};
 ghost use Rattle.oe_http.specs.Pending.{unread, most_left, FellBy};
 ghost use Rattle.oe_session.specs.Endings.{ending_of};
-ghost use Rattle.oe_session.specs.Session.{Answered, AnsweredFront, AnsweredRead, Begun, RepliesOne, EndsRead, ReadToEnd, TookAtLeast};
+ghost use Rattle.oe_session.specs.Session.{Answered, AnsweredFront, AnsweredRead, Begun, RepliesBehind, EndsRead, ReadToEnd, TookAtLeast};
 
 use crate::Answering;
 use oe_http::{Failed, LineReader, Next, ReadError, Sink, Source, write_whole};
 use std::alloc::Global;
+
+/// So many bytes of replies are written without waiting for more.
+const MOST_WAITING: usize = 65536;
 
 /// How a session ended.
 #[derive(Clone, Copy, Debug, PartialEq, Eq)]
@@ -21,8 +23,9 @@ pub enum Ended {
     ReadFault,
     /// The output failed.
     WriteFault,
-    /// The input is longer than 2^40 bytes.
+    /// 2^40 bytes were read, and more are wanted.
     Long,
+    /// Memory was refused.
     NoMemory,
 }
 
@@ -92,8 +95,9 @@ fn next_reply<A: Answering, S: Source>(
     waiting: &mut Vec<u8>,
     input: &mut S,
 ) -> Result<bool, Ended>
-    ensures answered { IfOk result (λ found. found ≡ true → (k : Option (List ℕ)) → RepliesOne A.step desk.old desk.new (unread reader.old (S.left input.old)) (unread reader.new (S.left input.new)) (append_known k waiting.old.items) (append_known k waiting.new.items)) }
-    ensures ended { IfOk result (λ found. found ≡ false → EndsRead (unread reader.old (S.left input.old)) (unread reader.new (S.left input.new)) × (waiting.new.items ≡ waiting.old.items) × (desk.new ≡ desk.old)) }
+    ensures answered { IfOk result (λ found. found ≡ true → RepliesBehind A.step desk.old desk.new (unread reader.old (S.left input.old)) (unread reader.new (S.left input.new)) waiting.old.items waiting.new.items) }
+    ensures ended { IfOk result (λ found. found ≡ false → EndsRead (unread reader.old (S.left input.old)) (unread reader.new (S.left input.new))) }
+    ensures still { IfOk result (λ found. found ≡ false → (waiting.new.items ≡ waiting.old.items) × (desk.new ≡ desk.old)) }
     ensures kept { OnErr result (waiting.new.items ≡ waiting.old.items) }
     ensures part { IfErr result (λ e. e ≢ Ended.NoMemory → TakesPart (unread reader.old (S.left input.old)) (S.left input.new) × (desk.new ≡ desk.old)) }
     ensures turns { IfOk result (λ found. found ≡ true → most_left reader.new < most_left reader.old) }
@@ -130,11 +134,13 @@ fn send_waiting<O: Sink>(waiting: &mut Vec<u8>, output: &mut O) -> Result<(), Fa
     Ok(())
 }
 
-const MOST_WAITING: usize = 65536;
-
 #[tactic(auto, using(oe_http::proofs::SentFacts::sent_start))]
 // Writes what waits where much does, or where no whole line is pending.
-fn send_due<O: Sink>(reader: &LineReader, waiting: &mut Vec<u8>, output: &mut O) -> Result<(), Failed>
+fn send_due<O: Sink>(
+    reader: &LineReader,
+    waiting: &mut Vec<u8>,
+    output: &mut O,
+) -> Result<(), Failed>
     ensures ok { OnOk result (Sent (O.held output.old) (O.held output.new) waiting.old.items waiting.new.items) }
     ensures err { OnErr result ((rest : List ℕ) × Sent (O.held output.old) (O.held output.new) waiting.old.items rest) }
     ensures cause { HasCause (O.faults output.old) (O.faults output.new) result }
@@ -159,8 +165,8 @@ fn end<O: Sink>(ended: Ended, waiting: &mut Vec<u8>, output: &mut O) -> Ended
     }
 }
 
-#[tactic(auto, using(crate::proofs::SessionFacts::underway_start, crate::proofs::SessionFacts::fell_none, crate::proofs::SessionFacts::took_more, crate::proofs::SessionFacts::fell_more, crate::proofs::WaitingFacts::begun_now, crate::proofs::WaitingFacts::begun_moved))]
-/// A reply to each line of the input, in order.
+#[tactic(auto, using(crate::proofs::WaitingFacts::session_facts))]
+/// A reply to each line of the input, in order. Replies are gathered, and written before each read.
 pub fn records<A: Answering, S: Source, O: Sink>(
     alloc: Global,
     desk: &mut A,

@@ -21,15 +21,15 @@ lines-preserved g c =
 pub returns-in-Ok-false-clause-closed : goal.returns-in-Ok-false-clause-closed
 returns-in-Ok-false-clause-closed g c = λ e.
     let u = underway_moved g.A.Answering.step _ _ _ _ _ _ _ _ _ c.lines.invariant.underway c.in-Ok.ensures.ok in
-    let ended = c.in-Ok-false.ensures.ended c.in-Ok-false.field-0-test in
-    let v = underway_sent g.A.Answering.step _ _ _ _ _ _ _ _ u (rw ended.1 at c.end.ensures.all (rw e (λ f. absurd (cc)))) in
-    rw ended.2 (underway_end g.A.Answering.step _ _ _ _ _ _ _ v ended.0)
+    let still = c.in-Ok-false.ensures.still c.in-Ok-false.field-0-test in
+    let v = underway_sent g.A.Answering.step _ _ _ _ _ _ _ _ u (rw still.0 at c.end.ensures.all (rw e (λ f. absurd (cc)))) in
+    rw still.1 (underway_end g.A.Answering.step _ _ _ _ _ _ _ v (c.in-Ok-false.ensures.ended c.in-Ok-false.field-0-test))
 
 pub returns-in-Ok-false-clause-begun : goal.returns-in-Ok-false-clause-begun
 returns-in-Ok-false-clause-begun g c =
     let u = underway_moved g.A.Answering.step _ _ _ _ _ _ _ _ _ c.lines.invariant.underway c.in-Ok.ensures.ok in
-    let ended = c.in-Ok-false.ensures.ended c.in-Ok-false.field-0-test in
-    begun_moved g.A.Answering.step _ _ _ _ _ _ _ _ _ u (grown_moved _ _ _ _ _ c.lines.invariant.grown c.in-Ok.ensures.ok) (rw ended.1 at c.end.ensures.sent.1)
+    let still = c.in-Ok-false.ensures.still c.in-Ok-false.field-0-test in
+    begun_moved g.A.Answering.step _ _ _ _ _ _ _ _ _ u (grown_moved _ _ _ _ _ c.lines.invariant.grown c.in-Ok.ensures.ok) (rw still.0 at c.end.ensures.sent.1)
 
 pub returns-in-Err-next_reply-clause-begun : goal.returns-in-Err-next_reply-clause-begun
 returns-in-Err-next_reply-clause-begun g c =

@@ -1,4 +1,4 @@
-use Rattle.std.proofs.Common.{arith, ap}
+use Rattle.std.proofs.Common.{ap}
 use Rattle.oe_http.proofs.LineFacts.{skipped}
 use Rattle.oe_http.proofs.lines.LineReader.skip.Goals as goal
 

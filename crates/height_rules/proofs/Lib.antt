@@ -1,0 +1,2 @@
+pub mod HeightFacts
+pub mod NearFacts

@@ -1,0 +1,30 @@
+-- The heights of a structure above the ground that the rules look at, and its tops.
+use Rattle.std.specs.Prelude.{ℤ, pos, ◌+ℤ◌, if◌then◌else◌}
+use Rattle.std.specs.Int.{int_max}
+use Rattle.airport_register.specs.Sites.{Site}
+use Rattle.airport_register.specs.declared.structure.StructureKind.TheVariants as kinds
+use Rattle.airport_register.specs.declared.structure.StructureKind.{StructureKind}
+
+-- how far a traverse way is raised for the traffic on it (77.9(c)): 17 feet over an Interstate highway, 15 over another public
+-- roadway, the greater of 10 feet and the highest mobile object over a private road, 23 over a railroad, and the highest mobile
+-- object over a waterway; nothing else is raised
+abbrev pub raised_by : StructureKind → ℤ → ℤ
+raised_by kinds.Object mobile = pos 0
+raised_by kinds.Antenna mobile = pos 0
+raised_by kinds.Interstate mobile = pos 170
+raised_by kinds.Road mobile = pos 150
+raised_by kinds.Private mobile = int_max (pos 100) mobile
+raised_by kinds.Rail mobile = pos 230
+raised_by kinds.Water mobile = mobile
+
+abbrev pub allowance_of : Site → ℤ
+allowance_of s = raised_by s.kind s.mobile
+
+-- the top that the notice rules of 77.9 look at
+abbrev pub notice_top : Site → ℤ
+notice_top s = s.terrain +ℤ (s.height +ℤ allowance_of s)
+
+-- the top that the standards of 77.17(a) look at: a traverse way on or near an airport with an operative ground traffic control
+-- service is not raised (77.17(b))
+abbrev pub standards_top : Site → ℤ
+standards_top s = if s.flags.controlled then s.terrain +ℤ s.height else notice_top s

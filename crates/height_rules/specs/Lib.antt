@@ -1,0 +1,5 @@
+pub mod Heights
+pub mod AboveGround
+pub mod Limits
+pub mod Laws
+pub mod NearAirport

@@ -1,0 +1,63 @@
+-- 77.17(a)(2): heights within six nautical miles of an airport's reference point.
+use Rattle.std.specs.Prelude.{ℕ, ℤ, pos, ◌+ℤ◌, ◌-ℤ◌, ◌*ℤ◌, ◌≤ℤ◌, ◌<ℤ◌, ◌*◌, ◌≡◌, ◌&&◌, Option, Bool, true, int_le, int_lt, nat_lt, nat_le, if◌then◌else◌}
+use Rattle.std.specs.Int.{int_max}
+use Rattle.std.specs.Bool.{MatchBool}
+use Rattle.std.specs.List.{list_any}
+use Rattle.grid_exact.specs.Root.{AtLeastRoot, AboveRoot, signed_square}
+use Rattle.grid_exact.specs.Excess.{Surface, excess_of, most_excess}
+use Rattle.grid_exact.specs.Vector.{length_of}
+use Rattle.airport_register.specs.Categories.{is_described}
+use Rattle.airport_register.specs.Runways.{length_square}
+use Rattle.airport_register.specs.Sites.{Site}
+use Rattle.airport_register.specs.declared.airfield.Airport.{Airport}
+use Rattle.airport_register.specs.declared.runway.Runway.{Runway}
+use Rattle.height_rules.specs.Heights.{standards_top}
+use Rattle.height_rules.specs.Limits.{IsAtLimit, IsAboveLimit, is_inner, reach_of}
+
+-- the square of the distance to the airport's reference point
+abbrev pub square_distance : Airport → Site → ℕ
+square_distance a s = length_of (s.at.x -ℤ a.arp.x) (s.at.y -ℤ a.arp.y)
+
+-- a runway of more than 3,200 feet
+abbrev pub is_long : Runway → Bool
+is_long r = nat_lt (32000 * 32000) (length_square r)
+
+-- the airport is of a described category and has a long runway, and the site is at most 5.99 nautical miles, of 60,761 each,
+-- from its reference point: 100 * d <= 599 * 60,761
+pub record IsNear (a : Airport) (s : Site) : Type 0 where
+  pub within : AtLeastRoot (pos 36395839) (pos 100) (square_distance a s)
+  pub described : is_described a.category ≡ true
+  pub long : list_any is_long a.runways ≡ true
+
+-- the higher of the ground at the site and the airport
+abbrev pub base_of : Airport → Site → ℤ
+base_of a s = int_max s.terrain a.elevation
+
+abbrev pub near_surface : Airport → Site → Surface
+near_surface a s = record {
+  Covers = IsNear a s;
+  Above = IsAboveLimit (square_distance a s) (base_of a s);
+  AtOrAbove = IsAtLimit (square_distance a s) (base_of a s);
+}
+
+-- ---- the same as tests that compute, and the excess by them
+
+abbrev pub is_at_least_root : ℤ → ℤ → ℕ → Bool
+is_at_least_root a b n = int_le (signed_square b *ℤ pos n) (signed_square a)
+
+abbrev pub is_above_root : ℤ → ℤ → ℕ → Bool
+is_above_root a b n = int_lt (signed_square b *ℤ pos n) (signed_square a)
+
+unfoldable pub is_near : Airport → Site → Bool
+is_near a s = is_at_least_root (pos 36395839) (pos 100) (square_distance a s) && is_described a.category && list_any is_long a.runways
+
+unfoldable pub is_at_limit : ℕ → ℤ → ℤ → Bool
+is_at_limit d2 base z = if is_inner d2 then int_le (base +ℤ pos 2000) z else is_at_least_root (reach_of base z) (pos 1000) d2
+
+unfoldable pub is_above_limit : ℕ → ℤ → ℤ → Bool
+is_above_limit d2 base z = if is_inner d2 then int_lt (base +ℤ pos 2000) z else is_above_root (reach_of base z) (pos 1000) d2
+
+-- the excess over the airport's limit, where it is exceeded
+unfoldable pub near_excess : Airport → Site → Option ℕ
+near_excess a s =
+    excess_of (is_near a s) (is_above_limit (square_distance a s) (base_of a s)) (is_at_limit (square_distance a s) (base_of a s)) most_excess (standards_top s)

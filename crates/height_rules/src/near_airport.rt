@@ -1,0 +1,93 @@
+//! Heights near an airport's reference point.
+
+ghost use Rattle.std.specs.Prelude.{◌≡◌, ◌↔◌, ◌≤◌, ◌^◌, ◌<ℤ◌, pos, IsTrue, IfSome};
+ghost use Rattle.std.specs.List.{list_any};
+ghost use Rattle.grid_exact.specs.Excess.{IsExcess};
+ghost use Rattle.grid_exact.specs.Level.{IsLevel};
+ghost use Rattle.grid_exact.specs.Root.{AtLeastRoot};
+ghost use Rattle.height_rules.specs.Heights.{standards_top};
+ghost use Rattle.height_rules.specs.NearAirport.{IsNear, near_surface, near_excess, square_distance as square_distance_of, base_of, is_long};
+ghost use Rattle.height_rules.specs.Limits.{IsLow};
+
+use crate::heights::top_for_standards;
+use crate::limit::NearLimit;
+use airport_register::{Airport, Filing, Runway};
+use grid_exact::{Vector, excess, is_at_least_root};
+
+/// The square of 3,200 feet.
+const LONG_SQUARE: u64 = 32_000 * 32_000;
+
+/// The square of the distance between the structure and the airport's reference point.
+fn square_distance(airport: &Airport, filing: &Filing) -> u128
+    ensures value { result ≡ square_distance_of airport.now filing.now }
+    ensures size { result ≤ 2 ^ 55 }
+{
+    Vector::between(&airport.arp, &filing.at).square_length()
+}
+
+/// Whether one of the runways is longer than 3,200 feet.
+fn has_long_runway(runways: &[Runway]) -> bool
+    ensures { result ≡ list_any is_long runways.now }
+{
+    runways
+        .iter()
+        .any(|runway| runway.square_length() > LONG_SQUARE)
+}
+
+/// Whether the limit is asked of this airport and structure.
+fn is_near(airport: &Airport, filing: &Filing) -> bool
+    ensures { IsTrue result ↔ IsNear airport.now filing.now }
+{
+    if !is_at_least_root(36_395_839, 100, square_distance(airport, filing)) {
+        return false;
+    }
+    if !airport.category.described() {
+        return false;
+    }
+    has_long_runway(airport.runways.as_slice())
+}
+
+/// The higher of the ground at the site and the airport.
+fn base(airport: &Airport, filing: &Filing) -> i64
+    requires { airport.now.elevation <ℤ pos 301000 }
+    ensures value { result ≡ base_of airport.now filing.now }
+    ensures low { IsLow result }
+{
+    filing.ground.max(airport.elevation)
+}
+
+/// The limit over the site of the structure.
+fn limit(airport: &Airport, filing: &Filing) -> NearLimit
+    requires { airport.now.elevation <ℤ pos 301000 }
+    ensures base { result.base ≡ base_of airport.now filing.now }
+    ensures square_distance { result.square_distance ≡ square_distance_of airport.now filing.now }
+{
+    NearLimit::new(base(airport, filing), square_distance(airport, filing))
+}
+
+/// How far the structure is above the limit, by a search of its level.
+fn excess_over_limit(airport: &Airport, filing: &Filing) -> Option<u32>
+    ensures exact { IsExcess (near_surface airport.now filing.now) (standards_top filing.now) result }
+    ensures size { IfSome result (λ e. e ≤ 2 ^ 26) }
+{
+    let top = top_for_standards(filing);
+    if airport.elevation >= top {
+        return None;
+    }
+    if !is_near(airport, filing) {
+        return None;
+    }
+    let limit = limit(airport, filing);
+    excess(&limit, limit.lowest(), top)
+}
+
+/// How far the structure is above the limit of 77.17(a)(2) of this airport, in tenths of a foot: 200 feet over the higher of
+/// ground and airport within 3 nautical miles of its reference point, and 100 feet more for each further one up to 5.99.
+/// `None` where it is not, where the airport is of no described category, and where no runway is longer than 3,200 feet.
+#[tactic(auto, using(crate::proofs::NearFacts::near_listed))]
+pub fn excess_near_airport(airport: &Airport, filing: &Filing) -> Option<u32>
+    ensures exact { IsExcess (near_surface airport.now filing.now) (standards_top filing.now) result }
+    ensures value { result ≡ near_excess airport.now filing.now }
+{
+    excess_over_limit(airport, filing)
+}

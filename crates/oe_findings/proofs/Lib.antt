@@ -1,0 +1,2 @@
+pub mod SameFindings
+pub mod ListFacts

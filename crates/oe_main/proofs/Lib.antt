@@ -1,0 +1,3 @@
+pub mod WordFacts
+pub mod StepFacts
+pub mod RunFacts

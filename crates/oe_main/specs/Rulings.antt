@@ -1,0 +1,9 @@
+-- The form that the reply to an amendment names.
+use Rattle.airport_register.specs.declared.amendment.Amendment.{Amendment}
+use Rattle.airport_register.specs.declared.amendment.Amendment.TheVariants.{PutAirport, PutRunway}
+use Rattle.oe_wire.specs.declared.reply.Plain.{Plain}
+use Rattle.oe_wire.specs.declared.reply.Plain.TheVariants as plain
+
+abbrev pub plain_of : Amendment → Plain
+plain_of (PutAirport id category arp elevation) = plain.Airport
+plain_of (PutRunway id runway) = plain.Runway

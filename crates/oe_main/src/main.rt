@@ -1,0 +1,58 @@
+//! The program `oe`: an obstruction evaluation desk under 14 CFR Part 77.
+//!
+//! `run` does all that the program does; `main` makes the streams of the system and hands them in.
+#![tactic(auto)]
+
+mod desk;
+mod run;
+mod state;
+mod status;
+mod words;
+
+pub use desk::Desk;
+pub use run::run;
+pub use state::DeskState;
+pub use status::Status;
+pub use words::Words;
+
+use oe_http::{ReadSource, WriteSink};
+use std::env;
+use std::process::ExitCode;
+
+#[cfg(test)]
+mod tests;
+
+/// The words after the program's name.
+fn arguments(rt: &HostRuntime) -> Result<Words, Status> {
+    let mut words = Words::new(rt.alloc());
+    let Ok(args) = env::args(rt) else {
+        return Err(Status::Usage);
+    };
+    for word in args.skip(1) {
+        if words.push(word.as_str()).is_err() {
+            return Err(Status::NoMemory);
+        }
+    }
+    Ok(words)
+}
+
+/// Runs the desk over the standard streams.
+fn run_on_streams(rt: &HostRuntime) -> Status {
+    match arguments(rt) {
+        Ok(words) => run(
+            rt.alloc(),
+            &words,
+            &mut ReadSource::new(rt.stdin()),
+            &mut WriteSink::new(rt.stdout()),
+        ),
+        Err(status) => status,
+    }
+}
+
+fn main(rt: HostRuntime) -> ExitCode {
+    let status = run_on_streams(&rt);
+    if status != Status::Done {
+        let _ = rt.eprintln(status.line());
+    }
+    ExitCode::from(status.number())
+}

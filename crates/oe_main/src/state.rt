@@ -1,0 +1,89 @@
+//! What the desk keeps, and its replies to requests.
+
+ghost use Rattle.std.specs.Prelude.{◌≡◌, ◌++◌, OnOk, string_bytes};
+ghost use Rattle.oe_main.specs.Rulings.{plain_of};
+ghost use Rattle.oe_main.specs.Desk.{Tells};
+ghost use Rattle.oe_wire.specs.declared.request.Request.TheVariants as requests;
+ghost use Rattle.oe_wire.specs.declared.request.Query.TheVariants as queries;
+
+use airport_register::{Amendment, Filing, Register};
+use grid_exact::NoMemory;
+use oe_findings::{Findings, find};
+use oe_wire::{Act, Change, Outcome, Plain, Query, Refusal, Reply, Request, push_found, push_reply};
+use std::alloc::Global;
+
+/// What the desk keeps from record to record.
+#[derive(Drop)]
+pub struct DeskState {
+    /// The airfields.
+    pub register: Register,
+    /// How many changes were accepted.
+    pub accepted: u64,
+}
+
+/// The form that the reply to an amendment names.
+fn plain_form(amendment: &Amendment) -> Plain
+    ensures { result ≡ plain_of amendment.now }
+{
+    match amendment {
+        Amendment::PutAirport { .. } => Plain::Airport,
+        Amendment::PutRunway { .. } => Plain::Runway,
+    }
+}
+
+/// The findings of a structure, as a reply behind a text.
+fn tell_findings(
+    state: &DeskState,
+    list: &mut Findings,
+    filing: &Filing,
+    text: &mut String,
+) -> Result<(), NoMemory>
+    ensures { OnOk result (Tells state.now (requests.Query (queries.Screen filing.now)) (string_bytes text.old) (string_bytes text.new) state.now) }
+{
+    if find(list, &state.register, filing).is_err() {
+        return push_reply(text, &Reply::Refused(Refusal::NoMemory));
+    }
+    push_found(text, state.accepted, list.as_slice())
+}
+
+/// Makes a change, or refuses it, with the reply behind a text.
+fn tell_change(
+    alloc: Global,
+    state: &mut DeskState,
+    change: &Change,
+    text: &mut String,
+) -> Result<(), NoMemory>
+    ensures { OnOk result (Tells state.old (requests.Change change.now) (string_bytes text.old) (string_bytes text.new) state.new) }
+{
+    let Act::Amend(amendment) = &change.act;
+    match state.register.amend(alloc, amendment) {
+        Ok(_) => {
+            state.accepted = state.accepted.saturating_add(1);
+            push_reply(
+                text,
+                &Reply::Accepted {
+                    entry: state.accepted,
+                    published: true,
+                    outcome: Outcome::Plain(plain_form(amendment)),
+                },
+            )
+        }
+        Err(refusal) => push_reply(text, &Reply::Refused(Refusal::from(refusal))),
+    }
+}
+
+/// Answers a request, with the reply behind a text.
+pub(crate) fn tell(
+    alloc: Global,
+    state: &mut DeskState,
+    list: &mut Findings,
+    request: &Request,
+    text: &mut String,
+) -> Result<(), NoMemory>
+    ensures { OnOk result (Tells state.old request.now (string_bytes text.old) (string_bytes text.new) state.new) }
+{
+    match request {
+        Request::Query(Query::Screen(filing)) => tell_findings(state, list, filing, text),
+        Request::Change(change) => tell_change(alloc, state, change, text),
+    }
+}

@@ -1,0 +1,6 @@
+pub mod WordFacts
+pub mod LimitFacts
+pub mod FieldFacts
+pub mod FormFacts
+pub mod FormLaw
+pub mod OneReading

@@ -1,0 +1,39 @@
+-- A text that is none of the words of a value.
+use Rattle.std.proofs.Common.{◌≡◌, ◌≢◌, List, ℕ, Bool, true, false, codes}
+use Rattle.runway_classes.specs.declared.ApproachKind.{ApproachKind}
+use Rattle.runway_classes.specs.declared.ApproachKind.TheVariants.{Visual, NonprecisionAbove, NonprecisionLow, Precision}
+use Rattle.airport_register.specs.declared.category.Category.{Category}
+use Rattle.airport_register.specs.declared.category.Category.TheVariants.{PublicUse, PublicBuilding, MilitaryBuilding, Federal, Dod, Procedure, OtherPrivate}
+use Rattle.oe_wire.specs.Forms.{form_word}
+use Rattle.oe_wire.specs.declared.form.Form.{Form}
+use Rattle.oe_wire.specs.declared.form.Form.TheVariants.{Airport, Runway, Screen}
+use Rattle.oe_wire.specs.Words.{category_word, approach_word, weight_word, pavement_word}
+
+pub no_category : (word : List ℕ) → word ≢ codes "public" → word ≢ codes "building" → word ≢ codes "military" → word ≢ codes "federal"
+    → word ≢ codes "dod" → word ≢ codes "procedure" → word ≢ codes "private" → (category : Category) → word ≢ category_word category
+no_category word p b m f d r o PublicUse = p
+no_category word p b m f d r o PublicBuilding = b
+no_category word p b m f d r o MilitaryBuilding = m
+no_category word p b m f d r o Federal = f
+no_category word p b m f d r o Dod = d
+no_category word p b m f d r o Procedure = r
+no_category word p b m f d r o OtherPrivate = o
+
+pub no_approach : (word : List ℕ) → word ≢ codes "V" → word ≢ codes "NA" → word ≢ codes "NL" → word ≢ codes "P" → (kind : ApproachKind) → word ≢ approach_word kind
+no_approach word v a l p Visual = v
+no_approach word v a l p NonprecisionAbove = a
+no_approach word v a l p NonprecisionLow = l
+no_approach word v a l p Precision = p
+
+pub no_weight : (word : List ℕ) → word ≢ codes "utility" → word ≢ codes "other" → (utility : Bool) → word ≢ weight_word utility
+no_weight word u o true = u
+no_weight word u o false = o
+
+pub no_pavement : (word : List ℕ) → word ≢ codes "hard" → word ≢ codes "soft" → (hard : Bool) → word ≢ pavement_word hard
+no_pavement word h s true = h
+no_pavement word h s false = s
+
+pub no_form_word : (word : List ℕ) → word ≢ codes "screen" → word ≢ codes "airport" → word ≢ codes "runway" → (form : Form) → word ≢ form_word form
+no_form_word word s a r Airport = a
+no_form_word word s a r Runway = r
+no_form_word word s a r Screen = s

@@ -1,0 +1,77 @@
+-- The shape of a record: what each of its fields may be.
+use Rattle.std.specs.Prelude.{ℕ, ◌+◌, ◌-◌, ◌<◌, ◌≤◌, ◌≡◌, ℤ, ◌≤ℤ◌, List, [], ◌∷◌, Bool, Option, Some, None, slice_get}
+use Rattle.std.specs.Fmt.{signed_decimal}
+use Rattle.csv.specs.Records.{field_at}
+use Rattle.runway_classes.specs.declared.ApproachKind.{ApproachKind}
+use Rattle.airport_register.specs.Names.{IsFieldId, IsRunwayName}
+use Rattle.airport_register.specs.declared.category.Category.{Category}
+use Rattle.oe_wire.specs.Words.{IsWord, category_word, approach_word, weight_word, pavement_word}
+
+-- what a field may be
+pub data Wanted : Type 0 where
+  -- this word alone
+  Spelled : (word : List ℕ) → Wanted
+  -- a whole number within these limits
+  Between : (low high : ℤ) → Wanted
+  -- the name of an airfield
+  FieldIdWanted : Wanted
+  -- the name of a runway
+  RunwayNameWanted : Wanted
+  -- the name of a caller, or a key
+  WordWanted : Wanted
+  -- a category of airfields
+  CategoryWanted : Wanted
+  -- whether a runway is a utility runway
+  WeightWanted : Wanted
+  -- whether a runway has a prepared hard surface
+  PavementWanted : Wanted
+  -- the kind of approach of a runway end
+  ApproachWanted : Wanted
+
+abbrev pub IsBetween : ℤ → ℤ → ℤ → Type 0
+IsBetween low high z = (low ≤ℤ z) × (z ≤ℤ high)
+
+-- there is such a value, and the bytes are its spelling
+abbrev pub Fits : Wanted → List ℕ → Type 0
+Fits (Spelled word) field = field ≡ word
+Fits (Between low high) field = (z : ℤ) × (field ≡ signed_decimal z) × IsBetween low high z
+Fits FieldIdWanted field = IsFieldId field
+Fits RunwayNameWanted field = IsRunwayName field
+Fits WordWanted field = IsWord field
+Fits CategoryWanted field = (category : Category) × (field ≡ category_word category)
+Fits WeightWanted field = (utility : Bool) × (field ≡ weight_word utility)
+Fits PavementWanted field = (hard : Bool) × (field ≡ pavement_word hard)
+Fits ApproachWanted field = (kind : ApproachKind) × (field ≡ approach_word kind)
+
+-- a field that is there is what is wanted there, and none is there where none is wanted
+abbrev pub Matches : Option Wanted → Option (List ℕ) → Type 0
+Matches None None = Unit {0}
+Matches None (Some field) = ⊥
+Matches (Some wanted) None = ⊥
+Matches (Some wanted) (Some field) = Fits wanted field
+
+-- the fields are as the shape wants them at this place, counted from 0
+abbrev pub FitsAt : List Wanted → List (List ℕ) → ℕ → Type 0
+FitsAt shape fields i = Matches (slice_get shape i) (field_at fields i)
+
+-- the fields before this place are as the shape wants them
+pub record FitsBefore (shape : List Wanted) (fields : List (List ℕ)) (n : ℕ) : Type 0 where
+  pub each : (j : ℕ) → j < n → FitsAt shape fields j
+
+-- the fields are as the shape wants them, none too few and none too many
+pub record HasShape (shape : List Wanted) (fields : List (List ℕ)) : Type 0 where
+  pub each : (j : ℕ) → FitsAt shape fields j
+
+-- the first field, counted from 1, that is not as the shape wants it; one past the last where fields are wanting
+pub record FirstBad (shape : List Wanted) (fields : List (List ℕ)) (n : ℕ) : Type 0 where
+  pub counted : 1 ≤ n
+  pub earlier : FitsBefore shape fields (n - 1)
+  pub bad : FitsAt shape fields (n - 1) → ⊥
+
+-- these bytes are the field at this place, counted from 0
+pub record IsField (fields : List (List ℕ)) (i : ℕ) (bytes : List ℕ) : Type 0 where
+  pub there : field_at fields i ≡ Some bytes
+
+-- there is no field at this place and none behind it
+pub record IsEnd (fields : List (List ℕ)) (i : ℕ) : Type 0 where
+  pub none : field_at fields i ≡ None

@@ -1,0 +1,73 @@
+-- The words by which records spell values.
+use Rattle.std.specs.Prelude.{ℕ, List, [], ◌∷◌, ◌++◌, ◌≤◌, ◌≡◌, ◌⊎◌, length, Bool, true, false, Option, Some, None, codes, if◌then◌else◌}
+use Rattle.std.specs.List.{All}
+use Rattle.runway_classes.specs.declared.ApproachKind.{ApproachKind}
+use Rattle.runway_classes.specs.declared.ApproachKind.TheVariants as approaches
+use Rattle.airport_register.specs.declared.category.Category.{Category}
+use Rattle.airport_register.specs.declared.category.Category.TheVariants as categories
+use Rattle.airport_register.specs.declared.structure.StructureKind.{StructureKind}
+use Rattle.airport_register.specs.declared.structure.StructureKind.TheVariants as kinds
+use Rattle.airport_register.specs.declared.structure.Flags.{Flags}
+
+-- the code of an ASCII letter, of a digit, of a dot or of an underscore
+abbrev pub IsWordByte : ℕ → Type 0
+IsWordByte b = ((65 ≤ b) × (b ≤ 90)) ⊎ (((97 ≤ b) × (b ≤ 122)) ⊎ (((48 ≤ b) × (b ≤ 57)) ⊎ ((b ≡ 46) ⊎ (b ≡ 95))))
+
+-- the name of a caller or the key of a request: 1 to 16 such bytes
+pub record IsWord (word : List ℕ) : Type 0 where
+  pub least : 1 ≤ length word
+  pub most : length word ≤ 16
+  pub bytes : All IsWordByte word
+
+-- what an airfield is, under 77.9(d)
+abbrev pub category_word : Category → List ℕ
+category_word categories.PublicUse = codes "public"
+category_word categories.PublicBuilding = codes "building"
+category_word categories.MilitaryBuilding = codes "military"
+category_word categories.Federal = codes "federal"
+category_word categories.Dod = codes "dod"
+category_word categories.Procedure = codes "procedure"
+category_word categories.OtherPrivate = codes "private"
+
+-- the kind of approach of a runway end (77.19)
+abbrev pub approach_word : ApproachKind → List ℕ
+approach_word approaches.Visual = codes "V"
+approach_word approaches.NonprecisionAbove = codes "NA"
+approach_word approaches.NonprecisionLow = codes "NL"
+approach_word approaches.Precision = codes "P"
+
+-- whether a runway is a utility runway (77.3)
+abbrev pub weight_word : Bool → List ℕ
+weight_word utility = if utility then codes "utility" else codes "other"
+
+-- whether a runway has a prepared hard surface (77.19(c))
+abbrev pub pavement_word : Bool → List ℕ
+pavement_word hard = if hard then codes "hard" else codes "soft"
+
+-- the kind of a structure
+abbrev pub kind_word : StructureKind → List ℕ
+kind_word kinds.Object = codes "object"
+kind_word kinds.Antenna = codes "antenna"
+kind_word kinds.Interstate = codes "interstate"
+kind_word kinds.Road = codes "road"
+kind_word kinds.Private = codes "private"
+kind_word kinds.Rail = codes "rail"
+kind_word kinds.Water = codes "water"
+
+-- a text, or a dash where it is empty
+abbrev pub or_dash : List ℕ → List ℕ
+or_dash [] = codes "-"
+or_dash (b ∷ bs) = b ∷ bs
+
+-- the letters of the flags that stand
+abbrev pub flag_letters : Flags → List ℕ
+flag_letters f = (if f.shielded then codes "S" else []) ++ (if f.device then codes "D" else []) ++ (if f.other_rule then codes "R" else [])
+    ++ (if f.increases then codes "I" else []) ++ (if f.controlled then codes "G" else []) ++ (if f.temporary then codes "T" else [])
+
+abbrev pub flags_text : Flags → List ℕ
+flags_text f = or_dash (flag_letters f)
+
+-- a name, or a dash where there is none
+abbrev pub name_text : Option (List ℕ) → List ℕ
+name_text None = codes "-"
+name_text (Some name) = name

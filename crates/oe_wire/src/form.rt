@@ -1,0 +1,15 @@
+//! The forms of records.
+
+/// A form of records, chosen by the first field.
+#[derive(Clone, Copy, Debug, PartialEq, Eq)]
+pub(crate) enum Form {
+    Airport,
+    Runway,
+    Screen,
+}
+
+/// A field that is not as its form wants it, counted from 1.
+#[derive(Clone, Copy, Debug, PartialEq, Eq)]
+pub(crate) struct BadField {
+    pub(crate) number: u32,
+}

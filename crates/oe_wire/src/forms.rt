@@ -1,0 +1,167 @@
+//! The forms of records, each read in one pass over its fields.
+
+ghost use Rattle.std.specs.Prelude.{◌≡◌, ◌+◌, ◌<◌, ◌∷◌, [], Some, IfOk, IfErr, IfSome, IfNone, OnOk, slice_get, codes, pos, neg_ℤ};
+ghost use Rattle.std.specs.Fmt.{signed_decimal};
+ghost use Rattle.csv.specs.Records.{fields_of};
+ghost use Rattle.oe_wire.specs.Words.{approach_word};
+ghost use Rattle.oe_wire.specs.Shape.{ApproachWanted, IsBetween, IsField, FitsBefore, HasShape, FirstBad};
+ghost use Rattle.oe_wire.specs.Forms.{form_word, shape_of, coordinate, whole_number, IsNoForm};
+ghost use Rattle.oe_wire.specs.Requests.{site_spelling, spelling, form_of};
+
+use crate::fields::{
+    approach, category, end, field_id, number, pavement, runway_name, spelled, weight, word,
+};
+use crate::form::{BadField, Form};
+use crate::request::{Act, Change, Query, Request};
+use crate::values::form_of;
+use airport_register::{Amendment, Filing, Flags, Runway, RunwayEnd, StructureKind};
+use csv::ByteRecord;
+use grid_exact::Point;
+
+// The form that the first field names.
+#[tactic(auto, using(crate::proofs::FormFacts::form_begun, crate::proofs::FormFacts::no_form, crate::proofs::FormFacts::no_first, crate::proofs::FieldFacts::same_field))]
+pub(crate) fn form(fields: &ByteRecord) -> Option<Form>
+    ensures named { IfSome result (λ form. IsField (fields_of fields.now) 0 (form_word form)) }
+    ensures begun { IfSome result (λ form. FitsBefore (shape_of form) (fields_of fields.now) 1) }
+    ensures none { IfNone result (IsNoForm (fields_of fields.now)) }
+{
+    match fields.get(0) {
+        Some(word) => form_of(word),
+        None => None,
+    }
+}
+
+// Two fields that are a point of the grid.
+pub(crate) fn point(fields: &ByteRecord, form: Form, at: usize) -> Result<Point, BadField>
+    requires small { at + 1 < 32 }
+    requires wants_x { slice_get (shape_of form) at ≡ Some coordinate }
+    requires wants_y { slice_get (shape_of form) (at + 1) ≡ Some coordinate }
+    requires before { FitsBefore (shape_of form) (fields_of fields.now) at }
+    ensures read_x { IfOk result (λ p. IsField (fields_of fields.now) at (signed_decimal p.x)) }
+    ensures read_y { IfOk result (λ p. IsField (fields_of fields.now) (at + 1) (signed_decimal p.y)) }
+    ensures fits { OnOk result (FitsBefore (shape_of form) (fields_of fields.now) (at + 1 + 1)) }
+    ensures bad { IfErr result (λ b. FirstBad (shape_of form) (fields_of fields.now) b.number) }
+{
+    let x = number(fields, form, at, -20_000_000, 20_000_000)?;
+    let y = number(fields, form, at + 1, -20_000_000, 20_000_000)?;
+    Ok(Point { x, y })
+}
+
+// The filing of an object with no mobile objects, flags or airfield.
+fn plain_filing(at: Point, terrain: i64, height: i64) -> Filing
+    requires terrain { IsBetween (neg_ℤ (pos 20000)) (pos 200000) terrain }
+    requires height { IsBetween (pos 0) (pos 100000) height }
+    ensures { site_spelling result ≡ signed_decimal at.x ∷ signed_decimal at.y ∷ signed_decimal terrain ∷ signed_decimal height ∷ codes "object" ∷ codes "0" ∷ codes "-" ∷ codes "-" ∷ [] }
+{
+    Filing {
+        at,
+        ground: terrain,
+        height,
+        kind: StructureKind::Object,
+        mobile: 0,
+        flags: Flags {
+            shielded: false,
+            device: false,
+            other_rule: false,
+            increases: false,
+            controlled: false,
+            temporary: false,
+        },
+        on: None,
+    }
+}
+
+// Four fields that are an end of a runway.
+fn runway_end(fields: &ByteRecord, at: usize) -> Result<RunwayEnd, BadField>
+    requires small { at + 4 < 32 }
+    requires wants_x { slice_get (shape_of Form.Runway) at ≡ Some coordinate }
+    requires wants_y { slice_get (shape_of Form.Runway) (at + 1) ≡ Some coordinate }
+    requires wants_z { slice_get (shape_of Form.Runway) (at + 2) ≡ Some whole_number }
+    requires wants_kind { slice_get (shape_of Form.Runway) (at + 3) ≡ Some ApproachWanted }
+    requires before { FitsBefore (shape_of Form.Runway) (fields_of fields.now) at }
+    ensures read_x { IfOk result (λ e. IsField (fields_of fields.now) at (signed_decimal e.at.x)) }
+    ensures read_y { IfOk result (λ e. IsField (fields_of fields.now) (at + 1) (signed_decimal e.at.y)) }
+    ensures read_z { IfOk result (λ e. IsField (fields_of fields.now) (at + 2) (signed_decimal e.z)) }
+    ensures read_kind { IfOk result (λ e. IsField (fields_of fields.now) (at + 3) (approach_word e.kind)) }
+    ensures fits { OnOk result (FitsBefore (shape_of Form.Runway) (fields_of fields.now) (at + 4)) }
+    ensures bad { IfErr result (λ b. FirstBad (shape_of Form.Runway) (fields_of fields.now) b.number) }
+{
+    let place = point(fields, Form::Runway, at)?;
+    let z = number(fields, Form::Runway, at + 2, -999_999_999, 999_999_999)?;
+    let kind = approach(fields, Form::Runway, at + 3)?;
+    Ok(RunwayEnd { at: place, z, kind })
+}
+
+// The fields of a screening.
+pub(crate) fn screen(fields: &ByteRecord) -> Result<Request, BadField>
+    requires named { IsField (fields_of fields.now) 0 (codes "screen") }
+    requires begun { FitsBefore (shape_of Form.Screen) (fields_of fields.now) 1 }
+    ensures read { IfOk result (λ r. fields_of fields.now ≡ spelling r) }
+    ensures form { IfOk result (λ r. form_of r ≡ Form.Screen) }
+    ensures fits { OnOk result (HasShape (shape_of Form.Screen) (fields_of fields.now)) }
+    ensures bad { IfErr result (λ b. FirstBad (shape_of Form.Screen) (fields_of fields.now) b.number) }
+{
+    let at = point(fields, Form::Screen, 1)?;
+    let terrain = number(fields, Form::Screen, 3, -20_000, 200_000)?;
+    let height = number(fields, Form::Screen, 4, 0, 100_000)?;
+    spelled(fields, Form::Screen, 5, b"object")?;
+    spelled(fields, Form::Screen, 6, b"0")?;
+    spelled(fields, Form::Screen, 7, b"-")?;
+    spelled(fields, Form::Screen, 8, b"-")?;
+    end(fields, Form::Screen, 9)?;
+    Ok(Request::Query(Query::Screen(plain_filing(at, terrain, height))))
+}
+
+// The fields of an airport.
+pub(crate) fn airport(fields: &ByteRecord) -> Result<Request, BadField>
+    requires named { IsField (fields_of fields.now) 0 (codes "airport") }
+    requires begun { FitsBefore (shape_of Form.Airport) (fields_of fields.now) 1 }
+    ensures read { IfOk result (λ r. fields_of fields.now ≡ spelling r) }
+    ensures form { IfOk result (λ r. form_of r ≡ Form.Airport) }
+    ensures fits { OnOk result (HasShape (shape_of Form.Airport) (fields_of fields.now)) }
+    ensures bad { IfErr result (λ b. FirstBad (shape_of Form.Airport) (fields_of fields.now) b.number) }
+{
+    let caller = word(fields, Form::Airport, 1)?;
+    let key = word(fields, Form::Airport, 2)?;
+    let id = field_id(fields, Form::Airport, 3)?;
+    let category = category(fields, Form::Airport, 4)?;
+    let arp = point(fields, Form::Airport, 5)?;
+    let elevation = number(fields, Form::Airport, 7, -999_999_999, 999_999_999)?;
+    end(fields, Form::Airport, 8)?;
+    let act = Act::Amend(Amendment::PutAirport {
+        id,
+        category,
+        arp,
+        elevation,
+    });
+    Ok(Request::Change(Change { caller, key, act }))
+}
+
+// The fields of a runway.
+pub(crate) fn runway(fields: &ByteRecord) -> Result<Request, BadField>
+    requires named { IsField (fields_of fields.now) 0 (codes "runway") }
+    requires begun { FitsBefore (shape_of Form.Runway) (fields_of fields.now) 1 }
+    ensures read { IfOk result (λ r. fields_of fields.now ≡ spelling r) }
+    ensures form { IfOk result (λ r. form_of r ≡ Form.Runway) }
+    ensures fits { OnOk result (HasShape (shape_of Form.Runway) (fields_of fields.now)) }
+    ensures bad { IfErr result (λ b. FirstBad (shape_of Form.Runway) (fields_of fields.now) b.number) }
+{
+    let caller = word(fields, Form::Runway, 1)?;
+    let key = word(fields, Form::Runway, 2)?;
+    let id = field_id(fields, Form::Runway, 3)?;
+    let name = runway_name(fields, Form::Runway, 4)?;
+    let utility = weight(fields, Form::Runway, 5)?;
+    let hard = pavement(fields, Form::Runway, 6)?;
+    let end1 = runway_end(fields, 7)?;
+    let end2 = runway_end(fields, 11)?;
+    end(fields, Form::Runway, 15)?;
+    let runway = Runway {
+        name,
+        utility,
+        hard,
+        end1,
+        end2,
+    };
+    let act = Act::Amend(Amendment::PutRunway { id, runway });
+    Ok(Request::Change(Change { caller, key, act }))
+}

@@ -1,0 +1,112 @@
+-- A plain line is the record of its parts.
+use Rattle.std.proofs.Common.{arith, ℕ, zero, suc, ◌+◌, ◌<◌, ◌≤◌, ◌≡◌, ◌==◌, Bool, true, false, List, [], ◌∷◌, ◌++◌, take, drop, length, get_or, Option, Some, None, All, refl, sym, ◌∙◌, cond, ap, append-nil, append_assoc, slice_index, subst}
+use Rattle.std.specs.List.{slice_split, onto_first, position_or_len}
+use Rattle.std.proofs.lemmas.List.Splits.{slice_split_at, slice_split_none}
+use Rattle.std.proofs.lemmas.List.Elements.{All-head, All-tail, All-append, All-cons, All-more, All-same}
+use Rattle.std.proofs.lemmas.List.{take-append-drop, drop_more, take_all}
+use Rattle.csv.specs.Machine.{next_record, step}
+use Rattle.csv.specs.Reading.{default_config, strip_bom}
+use Rattle.csv.specs.declared.parser.State.TheVariants as st
+use Rattle.csv.specs.declared.parser.Action.TheVariants as act
+use Rattle.record_fields.specs.Fields.{IsPlain, IsOrdinary, one_record}
+
+-- the parts, with some bytes before the first
+onto : List ℕ → List (List ℕ) → List (List ℕ)
+onto p [] = p ∷ []
+onto p (f ∷ fs) = (p ++ f) ∷ fs
+
+onto_next : (p : List ℕ) (c : ℕ) (ys : List (List ℕ)) → onto p (onto_first c ys) ≡ onto (p ++ c ∷ []) ys
+unfolding onto
+onto_next p c [] = refl
+onto_next p c (f ∷ fs) = ap (λ h. h ∷ fs) (sym (append_assoc p (c ∷ []) f))
+
+onto_none : (xs : List ℕ) → onto [] (slice_split (λ b. b == 44) xs) ≡ slice_split (λ b. b == 44) xs
+unfolding onto
+onto_none [] = refl
+onto_none (c ∷ xs) =
+    elim (c == 44) as (λ b. onto [] (cond b ([] ∷ slice_split (λ b. b == 44) xs) (onto_first c (slice_split (λ b. b == 44) xs))) ≡ cond b ([] ∷ slice_split (λ b. b == 44) xs) (onto_first c (slice_split (λ b. b == 44) xs))) [
+      | true ↦ refl
+      | false ↦ elim (slice_split (λ b. b == 44) xs) as (λ ys. onto [] (onto_first c ys) ≡ onto_first c ys) [ [] ↦ refl | (f ∷ fs) ↦ refl ]
+    ]
+
+-- at the start of a field the reader goes on as inside of one
+start_as_in : (fields : List (List ℕ)) (field xs : List ℕ) → All IsPlain xs → next_record default_config st.StartField fields field xs ≡ next_record default_config st.InField fields field xs
+unfolding next_record
+start_as_in fields field [] plain = refl
+start_as_in fields field (c ∷ xs) plain = rw (All-head IsPlain c xs plain).0 refl
+
+-- inside of a field the parts are the fields to come
+in_read : (fields : List (List ℕ)) (field xs : List ℕ) → All IsPlain xs
+    → next_record default_config st.InField fields field xs ≡ Some (fields ++ onto field (slice_split (λ b. b == 44) xs), st.StartRecord, [])
+unfolding next_record onto
+in_read fields field [] plain = rw (append-nil field) refl
+in_read fields field (c ∷ xs) plain =
+    let h = All-head IsPlain c xs plain in
+    let more = All-tail IsPlain c xs plain in
+    elim (c == 44) as (λ b. (c == 44) ≡ b → next_record default_config st.InField fields field (c ∷ xs) ≡ Some (fields ++ onto field (slice_split (λ b. b == 44) (c ∷ xs)), st.StartRecord, [])) [
+      | true ↦ λ e. rw (e, append-nil field) (start_as_in (fields ++ field ∷ []) [] xs more ∙ in_read (fields ++ field ∷ []) [] xs more
+          ∙ rw (onto_none xs, append_assoc fields (field ∷ []) (slice_split (λ b. b == 44) xs)) refl)
+      | false ↦ λ e. rw (e, h.1, h.2, onto_next field c (slice_split (λ b. b == 44) xs)) (in_read fields (field ++ c ∷ []) xs more)
+    ] refl
+
+no_mark : (line : List ℕ) → All IsPlain line → strip_bom line ≡ line
+unfolding strip_bom
+no_mark [] plain = refl
+no_mark (a ∷ []) plain = refl
+no_mark (a ∷ b ∷ []) plain = refl
+no_mark (a ∷ b ∷ c ∷ rest) plain = rw (All-head IsPlain a (b ∷ c ∷ rest) plain).3 refl
+
+begin_as_in : (c : ℕ) (xs : List ℕ) → All IsPlain (c ∷ xs) → next_record default_config st.StartRecord [] [] (c ∷ xs) ≡ next_record default_config st.InField [] [] (c ∷ xs)
+unfolding next_record
+begin_as_in c xs plain = let h = All-head IsPlain c xs plain in rw (h.0, h.1, h.2) refl
+
+nothing_left : next_record default_config st.StartRecord [] [] [] ≡ None
+unfolding next_record
+nothing_left = refl
+
+pub one_record_plain : (line : List ℕ) → 0 < length line → All IsPlain line → one_record line ≡ Some (slice_split (λ b. b == 44) line)
+one_record_plain [] some plain = absurd (omega arith)
+one_record_plain (c ∷ xs) some plain =
+    rw (no_mark (c ∷ xs) plain, begin_as_in c xs plain, in_read [] [] (c ∷ xs) plain, nothing_left, onto_none (c ∷ xs)) refl
+
+-- an empty line is no record
+pub no_record : (line : List ℕ) → length line ≡ 0 → one_record line ≡ None
+unfolding next_record strip_bom
+no_record [] e = refl
+no_record (c ∷ xs) e = absurd (omega arith)
+
+not_comma : (xs : List ℕ) → All IsOrdinary xs → All (λ b. (b == 44) ≡ false) xs
+not_comma xs h k d lt = (h k d lt).1
+
+are_plain : (xs : List ℕ) → All IsOrdinary xs → All IsPlain xs
+are_plain xs h k d lt = (h k d lt).0
+
+around : (rest : List ℕ) (at : ℕ) → at < length rest → get_or rest at 0 ≡ 44 → rest ≡ take at rest ++ 44 ∷ drop (at + 1) rest
+around rest at lt e = sym (take-append-drop at rest) ∙ ap (λ t. take at rest ++ t) (drop_more rest at 0 lt ∙ ap (λ b. b ∷ drop (at + 1) rest) e)
+
+-- one more part is cut off at a comma
+pub record Cut (line rest : List ℕ) (fields : List (List ℕ)) : Type 0 where
+  pub parts : slice_split (λ b. b == 44) line ≡ fields ++ slice_split (λ b. b == 44) rest
+  pub plain : All IsPlain rest → All IsPlain line
+
+pub cut_more : (line rest : List ℕ) (fields new : List (List ℕ)) (at : ℕ) → Cut line rest fields → at < length rest → All IsOrdinary (take at rest)
+    → get_or rest at 0 ≡ 44 → (begun : List ℕ) → begun ≡ [] → new ≡ fields ++ (begun ++ take at rest) ∷ [] → Cut line (drop (at + 1) rest) new
+cut_more line rest fields new at c lt h e begun b n =
+    let r = around rest at lt e in
+    let s : slice_split (λ b. b == 44) rest ≡ take at rest ∷ slice_split (λ b. b == 44) (drop (at + 1) rest) =
+    ap (slice_split (λ b. b == 44)) r ∙ slice_split_at (λ b. b == 44) (take at rest) 44 (drop (at + 1) rest) (not_comma (take at rest) h) refl in
+    record {
+      parts = rw (c.parts, s, n, b, append_assoc fields (take at rest ∷ []) (slice_split (λ b. b == 44) (drop (at + 1) rest))) refl;
+      plain = λ more. c.plain (subst (All IsPlain) (sym r) (All-append IsPlain (take at rest) (44 ∷ drop (at + 1) rest) (are_plain (take at rest) h) (All-cons IsPlain 44 (drop (at + 1) rest) (refl, refl, refl, refl) more)));
+    }
+
+pub cut_done : (line rest : List ℕ) (fields new : List (List ℕ)) → 0 < length line → Cut line rest fields → All IsOrdinary rest
+    → (begun : List ℕ) → begun ≡ [] → new ≡ fields ++ (begun ++ rest) ∷ [] → one_record line ≡ Some new
+cut_done line rest fields new some c h begun b n =
+    one_record_plain line some (c.plain (are_plain rest h)) ∙ ap Some (rw (c.parts, slice_split_none (λ b. b == 44) rest (not_comma rest h), n, b) refl)
+
+pub more_ordinary : (xs : List ℕ) (i : ℕ) → All IsOrdinary (take i xs) → i < length xs → IsOrdinary (get_or xs i 0) → All IsOrdinary (take (i + 1) xs)
+more_ordinary xs i before lt h = All-more IsOrdinary xs i 0 lt before h
+
+pub all_ordinary : (xs : List ℕ) (i : ℕ) → All IsOrdinary (take i xs) → length xs ≤ i → All IsOrdinary xs
+all_ordinary xs i h le = All-same IsOrdinary xs (take i xs) (sym (take_all i xs le)) h
