@@ -65,5 +65,13 @@ impl Model for Filing {
 
     ghost invariant = { λ f. IsSite (site f.at f.ground f.height f.kind f.mobile f.flags f.on) };
 
-    ghost inverse = { λ v. record { at = v.at; ground = v.terrain; height = v.height; kind = v.kind; mobile = v.mobile; flags = v.flags; on = v.on } };
+    ghost inverse = { λ v. record {
+      at = v.at;
+      ground = v.terrain;
+      height = v.height;
+      kind = v.kind;
+      mobile = v.mobile;
+      flags = v.flags;
+      on = v.on;
+    } };
 }
