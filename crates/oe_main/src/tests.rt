@@ -120,18 +120,19 @@ fn a_first_write_that_fails_ends_the_run(rt: HostRuntime) -> Result<(), Fail> {
     Ok(())
 }
 
+// How a run with these words over an empty input ends.
+fn status_of(alloc: Global, list: &[&str]) -> Result<Status, Fail> {
+    let mut input = FakeSource::new(Bytes::from_slice(alloc, b"")?, 1, Vec::new(alloc));
+    let mut output = FakeSink::new(alloc, 10, Vec::new(alloc))?;
+    let words = words(alloc, list)?;
+    Ok(run(alloc, &words, &mut input, &mut output))
+}
+
 #[test]
 fn other_words_are_no_command(rt: HostRuntime) -> Result<(), Fail> {
-    let alloc = rt.alloc();
-    for list in [
-        [].as_slice(),
-        ["desks"].as_slice(),
-        ["desk", "desk"].as_slice(),
-    ] {
-        let mut input = FakeSource::new(Bytes::from_slice(alloc, b"")?, 1, Vec::new(alloc));
-        let mut output = FakeSink::new(alloc, 10, Vec::new(alloc))?;
-        let status = run(alloc, &words(alloc, list)?, &mut input, &mut output);
-        assert_eq!(rt; status, Status::Usage);
-    }
+    assert_eq!(rt; status_of(rt.alloc(), &["desk"])?, Status::Done);
+    assert_eq!(rt; status_of(rt.alloc(), &[])?, Status::Usage);
+    assert_eq!(rt; status_of(rt.alloc(), &["desks"])?, Status::Usage);
+    assert_eq!(rt; status_of(rt.alloc(), &["desk", "desk"])?, Status::Usage);
     Ok(())
 }
