@@ -1,11 +1,11 @@
 //! Records and replies that no clause says.
 
 use crate::{
-    Act, Change, Outcome, Plain, ReadRefusal, RecordReader, Refusal, Reply, Request, push_found,
+    Act, Change, Outcome, Plain, Query, ReadRefusal, Refusal, Reply, Request, push_found,
     read_record, write_reply,
 };
 use airport_register::{AmendRefusal, Amendment, Category, FieldId, Runway, RunwayEnd, RunwayName};
-use grid_exact::Point;
+use grid_exact::{NoMemory, Point};
 use oe_findings::{Finding, Findings, Rule, SurfaceKey};
 use runway_classes::ApproachKind;
 use std::alloc::Global;
@@ -132,38 +132,49 @@ fn bad_runways(rt: HostRuntime) {
     }
 }
 
+// The coordinates, the elevation of the ground and the height of the structure that a request asks to screen.
+fn numbers_of(request: &Request) -> Option<[i64; 4]> {
+    match request {
+        Request::Query(Query::Screen(filing)) => Some([
+            filing.at.x,
+            filing.at.y,
+            filing.ground,
+            filing.height,
+        ]),
+        Request::Change(_) => None,
+    }
+}
+
+fn screened(alloc: Global, line: &[u8]) -> Option<[i64; 4]> {
+    match read_record(alloc, line) {
+        Ok(request) => numbers_of(&request),
+        Err(_) => None,
+    }
+}
+
 #[test]
 fn screenings(rt: HostRuntime) {
-    let lines: [(&[u8], i64, i64, i64, i64); 6] = [
-        (b"screen,0,0,1000,2000,object,0,-,-", 0, 0, 1000, 2000),
+    let table: [(&[u8], [i64; 4]); 6] = [
+        (b"screen,0,0,1000,2000,object,0,-,-", [0, 0, 1000, 2000]),
         (
             b"screen,-20000000,20000000,-20000,100000,object,0,-,-",
-            -20_000_000,
-            20_000_000,
-            -20_000,
-            100_000,
+            [-20_000_000, 20_000_000, -20_000, 100_000],
         ),
         (
             b"screen,20000000,-20000000,200000,0,object,0,-,-",
-            20_000_000,
-            -20_000_000,
-            200_000,
-            0,
+            [20_000_000, -20_000_000, 200_000, 0],
         ),
-        (b"\"screen\",\"1\",2,3,4,\"object\",0,-,\"-\"", 1, 2, 3, 4),
-        (b"\xEF\xBB\xBFscreen,1,2,3,4,object,0,-,-", 1, 2, 3, 4),
-        (b"screen,1,2,3,4,object,0,-,-\r", 1, 2, 3, 4),
+        (b"\"screen\",\"1\",2,3,4,\"object\",0,-,\"-\"", [1, 2, 3, 4]),
+        (b"\xEF\xBB\xBFscreen,1,2,3,4,object,0,-,-", [1, 2, 3, 4]),
+        (b"screen,1,2,3,4,object,0,-,-\r", [1, 2, 3, 4]),
     ];
-    for (line, x, y, ground, height) in lines {
-        let request = read_record(rt.alloc(), line).ok();
-        let Some(Request::Query(crate::Query::Screen(filing))) = request else {
-            assert!(rt; false, "at {}", line.escape_ascii());
-            return;
-        };
-        assert_eq!(rt; filing.at, Point { x, y });
-        assert_eq!(rt; filing.ground, ground);
-        assert_eq!(rt; filing.height, height);
-        assert_eq!(rt; filing.mobile, 0);
+    for (line, want) in table {
+        assert_eq!(rt;
+            screened(rt.alloc(), line),
+            Some(want),
+            "at {}",
+            line.escape_ascii()
+        );
     }
 }
 
@@ -179,15 +190,16 @@ fn change_of(alloc: Global, line: &[u8]) -> Option<Change> {
 fn an_airport(rt: HostRuntime) {
     let line = b"airport,u,1,AAA,public,-5,7,-999999999";
     let change = change_of(rt.alloc(), line).expect(&rt, "it is a record");
-    let Act::Amend(airport) = change.act;
+    let Change { caller, key, act } = change;
+    let Act::Amend(airport) = act;
     let want = Amendment::PutAirport {
         id: FieldId::new(b"AAA").expect(&rt, "it is a name"),
         category: Category::PublicUse,
         arp: Point { x: -5, y: 7 },
         elevation: -999_999_999,
     };
-    assert_eq!(rt; change.caller.as_bytes(), b"u".as_slice());
-    assert_eq!(rt; change.key.as_bytes(), b"1".as_slice());
+    assert_eq!(rt; caller.as_bytes(), b"u".as_slice());
+    assert_eq!(rt; key.as_bytes(), b"1".as_slice());
     assert_eq!(rt; airport, want);
 }
 
@@ -195,7 +207,8 @@ fn an_airport(rt: HostRuntime) {
 fn a_runway(rt: HostRuntime) {
     let line = b"runway,abcdefgh.90_ABCD,k,AAA,09/27,utility,soft,-50000,1,1000,NL,50000,2,999,NA";
     let change = change_of(rt.alloc(), line).expect(&rt, "it is a record");
-    let Act::Amend(amendment) = change.act;
+    let Change { caller, act, .. } = change;
+    let Act::Amend(amendment) = act;
     let runway = Runway {
         name: RunwayName::new(b"09/27").expect(&rt, "it is a name"),
         utility: true,
@@ -212,7 +225,7 @@ fn a_runway(rt: HostRuntime) {
         },
     };
     let id = FieldId::new(b"AAA").expect(&rt, "it is a name");
-    assert_eq!(rt; change.caller.as_bytes(), b"abcdefgh.90_ABCD".as_slice());
+    assert_eq!(rt; caller.as_bytes(), b"abcdefgh.90_ABCD".as_slice());
     assert_eq!(rt; amendment, Amendment::PutRunway { id, runway });
 }
 
@@ -239,13 +252,9 @@ fn categories(rt: HostRuntime) {
 
 #[test]
 fn long_lines(rt: HostRuntime) {
-    let alloc = rt.alloc();
     let line = [b'a'; 8193];
-    let mut reader = RecordReader::new(alloc);
-    let long = Some(ReadRefusal::Malformed { field: 0 });
-    let unknown = Some(ReadRefusal::Malformed { field: 1 });
-    assert_eq!(rt; reader.read(&line).err(), long);
-    assert_eq!(rt; reader.read(&line[1..]).err(), unknown);
+    assert_eq!(rt; bad_field(rt.alloc(), &line), Some(0));
+    assert_eq!(rt; bad_field(rt.alloc(), &line[1..]), Some(1));
 }
 
 // The text of a reply, as bytes.
@@ -296,8 +305,9 @@ fn short_replies(rt: HostRuntime) {
 }
 
 // The reply of a list of one finding.
-fn entry_of(alloc: Global, rule: Rule, key: SurfaceKey) -> Option<Vec<u8>> {
+fn entry_of(alloc: Global, rule: Rule, key: &SurfaceKey) -> Option<Vec<u8>> {
     let excess = 4000000000;
+    let key = *key;
     let mut text = String::new(alloc);
     push_found(&mut text, 7, &[Finding { rule, key, excess }]).ok()?;
     Vec::from_slice(alloc, text.as_bytes()).ok()
@@ -332,7 +342,7 @@ fn entries(rt: HostRuntime) {
         (Rule::WayB3, b"found,7,1,9c-b3 AAA - 4000000000\n"),
     ];
     for (rule, want) in table {
-        let text = entry_of(rt.alloc(), rule, key).expect(&rt, "there is memory");
+        let text = entry_of(rt.alloc(), rule, &key).expect(&rt, "there is memory");
         assert_eq!(rt; text.as_slice(), want);
     }
 }
@@ -366,34 +376,36 @@ fn entries_without_names(rt: HostRuntime) {
         (Rule::WayB3, b"found,7,1,9c-b3 - - 4000000000\n"),
     ];
     for (rule, want) in table {
-        let text = entry_of(rt.alloc(), rule, key).expect(&rt, "there is memory");
+        let text = entry_of(rt.alloc(), rule, &key).expect(&rt, "there is memory");
         assert_eq!(rt; text.as_slice(), want);
     }
 }
 
-#[test]
-fn lists_of_findings(rt: HostRuntime) {
-    let alloc = rt.alloc();
+// A finding at an airfield.
+fn finding(rule: Rule, excess: u32) -> Finding {
     let key = SurfaceKey {
         field: FieldId::new(b"AAA").ok(),
         runway: None,
         part: 0,
     };
+    Finding { rule, key, excess }
+}
+
+fn three_findings(alloc: Global) -> Result<Findings, NoMemory> {
     let mut list = Findings::new(alloc);
-    for (rule, excess) in [
-        (Rule::Near, 1),
-        (Rule::Horizontal, 0),
-        (Rule::NoticeA, 2990),
-    ] {
-        list.push(Finding { rule, key, excess })
-            .expect(&rt, "there is memory");
-    }
-    let empty = Reply::Found {
-        last: 0,
-        list: Findings::new(alloc),
-    };
-    let text = text_of(alloc, &empty).expect(&rt, "there is memory");
+    list.push(finding(Rule::Near, 1))?;
+    list.push(finding(Rule::Horizontal, 0))?;
+    list.push(finding(Rule::NoticeA, 2990))?;
+    Ok(list)
+}
+
+#[test]
+fn lists_of_findings(rt: HostRuntime) {
+    let alloc = rt.alloc();
+    let list = Findings::new(alloc);
+    let text = text_of(alloc, &Reply::Found { last: 0, list }).expect(&rt, "there is memory");
     assert_eq!(rt; text.as_slice(), b"found,0,0\n".as_slice());
+    let list = three_findings(alloc).expect(&rt, "there is memory");
     let text = text_of(alloc, &Reply::Found { last: 2, list }).expect(&rt, "there is memory");
     let want = b"found,2,3,17a2 AAA - 1,19a AAA - 0,9a - - 2990\n";
     assert_eq!(rt; text.as_slice(), want.as_slice());
