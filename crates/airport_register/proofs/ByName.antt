@@ -1,10 +1,9 @@
 -- Runways and airfields put in their places by name.
-use Rattle.std.proofs.Common.{◌≡◌, ◌≢◌, ℕ, ◌<◌, ◌≤◌, List, [], ◌∷◌, Option, Some, None, Ok, Err, length, refl, sym, ◌∙◌, ap, get_or, set, map}
-use Rattle.std.specs.Arc.{arc_value}
-use Rattle.std.specs.List.{All, insert}
+use Rattle.std.proofs.Common.{◌≡◌, ℕ, ◌<◌, ◌≤◌, List, Ok, Err, length, set}
+use Rattle.std.specs.List.{insert}
 use Rattle.std.specs.List.Sorted.{IsBinarySearchResult}
 use Rattle.std.proofs.lemmas.Cmp.{nat_list_cmp_total}
-use Rattle.ordered_list.specs.Ordered.{Rises, found_by, put_by}
+use Rattle.ordered_list.specs.Ordered.{Rises, put_by}
 use Rattle.ordered_list.proofs.Places.{search_set, search_insert}
 use Rattle.ordered_list.proofs.Rising.{Rises-put}
 use Rattle.airport_register.specs.Names.{name_cmp}

@@ -1,11 +1,11 @@
 -- Airfields found and put by name, in a list that holds each behind a function f, as an `Arc` does.
-use Rattle.std.proofs.Common.{◌≡◌, ℕ, ◌+◌, ◌<◌, ◌≤◌, List, [], ◌∷◌, Option, Some, None, Ok, Err, length, refl, sym, ◌∙◌, ap, get_or, set, map, zero, suc, arith, take, drop, ◌++◌}
+use Rattle.std.proofs.Common.{◌≡◌, ℕ, ◌<◌, ◌≤◌, List, [], ◌∷◌, Some, None, Ok, Err, length, refl, sym, ◌∙◌, ap, get_or, set, map, zero, suc, arith, take}
 use Rattle.std.specs.List.{All, insert, slice_get}
-use Rattle.std.specs.Option.{option_map, IfSome}
+use Rattle.std.specs.Option.{option_map}
 use Rattle.std.specs.List.Sorted.{IsBinarySearchResult}
 use Rattle.std.proofs.lemmas.Cmp.{nat_list_cmp_total, tied_itself}
 use Rattle.std.proofs.lemmas.List.{take_all}
-use Rattle.ordered_list.specs.Ordered.{Rises, found_by, put_by}
+use Rattle.ordered_list.specs.Ordered.{found_by, put_by}
 use Rattle.ordered_list.proofs.Places.{search_set, search_insert, search_found, search_missing}
 use Rattle.ordered_list.proofs.Rising.{Rises-put, All-put, found_holds}
 use Rattle.ordered_list.proofs.Finding.{found_by-put_same}

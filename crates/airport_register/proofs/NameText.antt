@@ -1,5 +1,5 @@
 -- Names are ASCII text.
-use Rattle.std.proofs.Common.{ℕ, List, ◌<◌, ◌⊎◌, inl, inr, arith}
+use Rattle.std.proofs.Common.{ℕ, List, ◌<◌, inl, inr, arith}
 use Rattle.std.specs.Str.{IsUtf8}
 use Rattle.std.proofs.lemmas.Str.{IsUtf8-from_ascii}
 use Rattle.std.proofs.lemmas.Str.Ascii.{IsAscii-from_all}

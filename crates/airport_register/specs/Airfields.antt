@@ -1,5 +1,5 @@
 -- Airfields.
-use Rattle.std.specs.Prelude.{ℕ, List, ◌≡◌, IsTrue, Bool}
+use Rattle.std.specs.Prelude.{ℕ, List}
 use Rattle.std.specs.List.{All}
 use Rattle.ordered_list.specs.Ordered.{Rises}
 use Rattle.airport_register.specs.Names.{name_cmp}

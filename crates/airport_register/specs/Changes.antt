@@ -1,5 +1,5 @@
 -- What an amendment changed.
-use Rattle.std.specs.Prelude.{ℕ, List, ◌≡◌, Option, option_map}
+use Rattle.std.specs.Prelude.{ℕ, List, ◌≡◌, option_map}
 use Rattle.std.specs.Arc.{arc_value}
 use Rattle.airport_register.specs.Amendments.{airfield_at}
 use Rattle.airport_register.specs.declared.airfield.Airfield.{Airfield}

@@ -1,5 +1,5 @@
 -- Runways.
-use Rattle.std.specs.Prelude.{ℕ, ◌+◌, ◌*◌, ◌≤◌, ◌≡◌, List, ℤ, ◌-ℤ◌, unsigned_abs, Bool, ◌&&◌, nat_le}
+use Rattle.std.specs.Prelude.{ℕ, ◌+◌, ◌*◌, ◌≤◌, List, ℤ, ◌-ℤ◌, unsigned_abs, Bool, ◌&&◌, nat_le}
 use Rattle.airport_register.specs.declared.runway.Runway.{Runway}
 
 abbrev pub name_of : Runway → List ℕ

@@ -1,5 +1,5 @@
 -- The structure of a notice.
-use Rattle.std.specs.Prelude.{ℕ, ℤ, pos, neg_ℤ, ◌≤ℤ◌, ◌≡◌, List, Option}
+use Rattle.std.specs.Prelude.{ℕ, ℤ, pos, neg_ℤ, ◌≤ℤ◌, List, Option}
 use Rattle.grid_exact.specs.declared.point.Point.{Point}
 use Rattle.airport_register.specs.declared.structure.StructureKind.{StructureKind}
 use Rattle.airport_register.specs.declared.structure.StructureKind.TheVariants.{Object, Antenna, Interstate, Road, Private, Rail, Water}

@@ -4,7 +4,8 @@ ghost use Rattle.std.specs.Prelude.{◌≡◌, ◌≢◌, IfOk, IfErr, OnErr, No
 ghost use Rattle.ordered_list.specs.Ordered.{put_by};
 ghost use Rattle.airport_register.specs.Names.{name_cmp};
 ghost use Rattle.airport_register.specs.Airfields.{id_of, IsHeld};
-ghost use Rattle.airport_register.specs.Amendments.{airfield_at, amended_id, is_none, is_heliport, runways_in, first_broken, after_amendment};
+ghost use Rattle.airport_register.specs.Amendments.{airfield_at, amended_id, first_broken, after_amendment};
+ghost use Rattle.airport_register.specs.Amendments.{is_none, is_heliport, runways_in};
 ghost use Rattle.airport_register.specs.Changes.{IsChange};
 
 use crate::airfield::{Airfield, Airport};

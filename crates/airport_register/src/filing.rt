@@ -41,7 +41,8 @@ impl Filing {
         flags: Flags,
         on: Option<FieldId>,
     ) -> Result<Filing, FilingRange>
-        ensures exact { MatchResult result (λ f. f ≡ site at terrain height kind mobile flags on) (λ _. ¬ IsSite (site at terrain height kind mobile flags on)) }
+        ensures exact { MatchResult result (λ f. f ≡ site at terrain height kind mobile flags on)
+            (λ _. ¬ IsSite (site at terrain height kind mobile flags on)) }
     {
         if terrain < -20_000 || terrain > 200_000 {
             return Err(FilingRange);

@@ -7,5 +7,6 @@ ghost use Rattle.airport_register.specs.declared.amendment.Amendment.{Amendment}
 
 /// An amendment leaves every airfield but the one that it names as it was.
 pub fn other_airfields_stay()
-    ensures { (airfields : List Airfield) (a : Amendment) (id : List ℕ) → id ≢ amended_id a → airfield_at (after_amendment airfields a) id ≡ airfield_at airfields id }
+    ensures { (airfields : List Airfield) (a : Amendment) (id : List ℕ) → id ≢ amended_id a
+        → airfield_at (after_amendment airfields a) id ≡ airfield_at airfields id }
 {}

@@ -34,7 +34,7 @@ pub struct Flags {
     pub other_rule: bool,
     /// It increases the height of another antenna structure (77.9(e)(4)).
     pub increases: bool,
-    /// In an area whose airport has a control tower.
+    /// A traverse way on or near an airport with an operative ground traffic control service (77.17(b)).
     pub controlled: bool,
     /// A temporary structure.
     pub temporary: bool,
@@ -65,5 +65,13 @@ impl Model for Filing {
 
     ghost invariant = { λ f. IsSite (site f.at f.ground f.height f.kind f.mobile f.flags f.on) };
 
-    ghost inverse = { λ v. record { at = v.at; ground = v.terrain; height = v.height; kind = v.kind; mobile = v.mobile; flags = v.flags; on = v.on } };
+    ghost inverse = { λ v. record {
+      at = v.at;
+      ground = v.terrain;
+      height = v.height;
+      kind = v.kind;
+      mobile = v.mobile;
+      flags = v.flags;
+      on = v.on;
+    } };
 }

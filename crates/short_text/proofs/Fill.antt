@@ -1,6 +1,6 @@
 -- A text written over zeros.
-use Rattle.std.proofs.Common.{◌≡◌, ◌≤◌, ◌-◌, ℕ, List, ◌++◌, length, take, drop, replicate, refl, arith, ap}
-use Rattle.std.proofs.lemmas.List.{drop-replicate, take_at, length-take-le}
+use Rattle.std.proofs.Common.{◌≡◌, ◌≤◌, ℕ, List, ◌++◌, length, take, drop, replicate, refl, ap}
+use Rattle.std.proofs.lemmas.List.{drop-replicate, take_at}
 use Rattle.short_text.specs.Filling.{IsFilled, filled}
 
 pub filled_with : (most : ℕ) (text : List ℕ) → length text ≤ most → IsFilled most (text ++ drop (length text) (replicate most 0)) (length text)

@@ -1,6 +1,5 @@
-use Rattle.std.proofs.Common.{◌≡◌, None, sym, ap, ◌∙◌}
-use Rattle.airport_register.specs.Airfields.{IsHeldAirport, IsHeld}
-use Rattle.airport_register.specs.Amendments.{first_broken, amended_id}
+use Rattle.std.proofs.Common.{sym}
+use Rattle.airport_register.specs.Airfields.{IsHeldAirport}
 use Rattle.airport_register.proofs.Rules.{found_named, runway_allowed, held_with}
 use Rattle.airport_register.proofs.register.Register.amended.Goals as goal
 

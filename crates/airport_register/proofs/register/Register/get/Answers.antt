@@ -1,4 +1,4 @@
-use Rattle.std.proofs.Common.{◌≡◌, sym}
+use Rattle.std.proofs.Common.{sym}
 use Rattle.std.specs.Arc.{arc_value}
 use Rattle.airport_register.proofs.Fields.{field_read, field_missing, found_held}
 use Rattle.airport_register.proofs.register.Register.get.Goals as goal

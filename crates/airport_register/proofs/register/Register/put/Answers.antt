@@ -1,9 +1,5 @@
-use Rattle.std.proofs.Common.{◌≡◌, Some, None, sym, ap, ◌∙◌, map}
+use Rattle.std.proofs.Common.{Some, sym, ap, ◌∙◌, map}
 use Rattle.std.specs.Arc.{arc_value}
-use Rattle.ordered_list.specs.Ordered.{put_by}
-use Rattle.airport_register.specs.Names.{name_cmp}
-use Rattle.airport_register.specs.Airfields.{id_of}
-use Rattle.airport_register.specs.Amendments.{airfield_at}
 use Rattle.airport_register.proofs.Fields.{field_set, field_insert, field_read, field_missing, register_put, put_found}
 use Rattle.airport_register.proofs.register.Register.put.Goals as goal
 

@@ -1,5 +1,4 @@
-use Rattle.std.proofs.Common.{◌≡◌, ◌≤◌, ◌<◌, ℕ, List, rules, length, set, sym, ◌∙◌, ap}
-use Rattle.std.specs.List.{insert}
+use Rattle.std.proofs.Common.{sym, ◌∙◌, ap}
 use Rattle.ordered_list.specs.Ordered.{put_by}
 use Rattle.airport_register.specs.Names.{name_cmp}
 use Rattle.airport_register.specs.Runways.{name_of}

@@ -1,4 +1,3 @@
-use Rattle.std.proofs.Common.{◌≡◌, length, ◌≤◌}
 use Rattle.short_text.proofs.Fill.{filled_with}
 use Rattle.short_text.proofs.short_text.ShortText.new.Goals as goal
 
