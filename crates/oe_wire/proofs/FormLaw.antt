@@ -219,7 +219,7 @@ spelled_first word None m = absurd m
 spelled_first word (Some f) m = ap Some m
 
 -- a good request begins with the word of its form
-first_good : (r : Request) → IsGood r → IsField (spelling r) 0 (form_word (form_of r))
+pub first_good : (r : Request) → IsGood r → IsField (spelling r) 0 (form_word (form_of r))
 first_good r h = record {
   there = spelled_first (form_word (form_of r)) (field_at (spelling r) 0) (subst (λ w. Matches w (field_at (spelling r) 0)) (first_wanted (form_of r)) (h.shape.each 0));
 }
@@ -236,7 +236,7 @@ named_again forms.Airport = refl
 named_again forms.Runway = refl
 named_again forms.Screen = refl
 
-one_form : (f g : Form) → form_word f ≡ form_word g → f ≡ g
+pub one_form : (f g : Form) → form_word f ≡ form_word g → f ≡ g
 one_form f g e = let same : Some f ≡ Some g = sym (named_again f) ∙ ap form_named e ∙ named_again g in cc
 
 good_of : (form : Form) (v : Values (shape_of form)) → IsGood (request_of form v).0
