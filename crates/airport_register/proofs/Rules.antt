@@ -11,7 +11,7 @@ use Rattle.ordered_list.specs.Ordered.{put_by}
 use Rattle.ordered_list.proofs.Finding.{found_by-put_other}
 use Rattle.ordered_list.proofs.Rising.{Rises-put, All-put, found_key}
 use Rattle.airport_register.specs.Names.{name_cmp}
-use Rattle.airport_register.specs.Runways.{name_of, IsLong, is_long, length_square}
+use Rattle.airport_register.specs.Runways.{name_of, IsWithinLength, is_within_length, length_square}
 use Rattle.airport_register.specs.Airfields.{id_of, IsHeldAirport}
 use Rattle.airport_register.specs.Amendments.{airfield_at, first_broken, when, put_runway, with_runway, put_airport, after_amendment, amended_id}
 use Rattle.airport_register.specs.declared.runway.Runway.{Runway}
@@ -39,18 +39,18 @@ third_kept false true s a b c e = absurd cc
 third_kept false false true a b c e = refl
 third_kept false false false a b c e = absurd cc
 
-long_kept : (r : Runway) → is_long r ≡ true → IsLong r
+long_kept : (r : Runway) → is_within_length r ≡ true → IsWithinLength r
 long_kept r e = let n : ℕ = length_square r in record { least = grind (arith, nat_tests); most = grind (arith, nat_tests) }
 
-pub runway_allowed : (xs : List Airfield) (id : List ℕ) (r : Runway) → first_broken xs (PutRunway id r) ≡ None → IsLong r
-runway_allowed xs id r e = long_kept r (third_kept _ _ (is_long r) _ _ _ e)
+pub runway_allowed : (xs : List Airfield) (id : List ℕ) (r : Runway) → first_broken xs (PutRunway id r) ≡ None → IsWithinLength r
+runway_allowed xs id r e = long_kept r (third_kept _ _ (is_within_length r) _ _ _ e)
 
 -- an airport whose runways are those of a held one, with one more that is allowed, may be held
-pub held_with : (a b : Airport) (r : Runway) → IsHeldAirport a → IsLong r → b.runways ≡ put_by name_cmp name_of r a.runways → IsHeldAirport b
+pub held_with : (a b : Airport) (r : Runway) → IsHeldAirport a → IsWithinLength r → b.runways ≡ put_by name_cmp name_of r a.runways → IsHeldAirport b
 held_with a b r h l e =
     record {
       rises = rw e (Rises-put name_cmp nat_list_cmp_total name_of r a.runways h.rises);
-      long = rw e (All-put name_cmp nat_list_cmp_total name_of IsLong r a.runways l h.long);
+      long = rw e (All-put name_cmp nat_list_cmp_total name_of IsWithinLength r a.runways l h.long);
     }
 
 -- what is put under one name is not found under another

@@ -3,7 +3,7 @@ use Rattle.std.specs.Prelude.{ℕ, List}
 use Rattle.std.specs.List.{All}
 use Rattle.ordered_list.specs.Ordered.{Rises}
 use Rattle.airport_register.specs.Names.{name_cmp}
-use Rattle.airport_register.specs.Runways.{name_of, IsLong}
+use Rattle.airport_register.specs.Runways.{name_of, IsWithinLength}
 use Rattle.airport_register.specs.declared.airfield.Airport.{Airport}
 use Rattle.airport_register.specs.declared.airfield.Airfield.{Airfield}
 use Rattle.airport_register.specs.declared.airfield.Airfield.TheVariants.{Airport as AnAirport, Heliport as AHeliport}
@@ -15,7 +15,7 @@ id_of (AHeliport h) = h.id
 -- an airport as the register holds it
 pub record IsHeldAirport (a : Airport) : Type 0 where
   pub rises : Rises name_cmp name_of a.runways
-  pub long : All IsLong a.runways
+  pub long : All IsWithinLength a.runways
 
 -- an airfield as the register holds it
 abbrev pub IsHeld : Airfield → Type 0

@@ -3,7 +3,7 @@ use Rattle.std.specs.Prelude.{ℕ, ℤ, List, [], ◌∷◌, ◌++◌, Option, S
 use Rattle.ordered_list.specs.Ordered.{found_by, put_by}
 use Rattle.grid_exact.specs.declared.point.Point.{Point}
 use Rattle.airport_register.specs.Names.{name_cmp}
-use Rattle.airport_register.specs.Runways.{name_of, is_long}
+use Rattle.airport_register.specs.Runways.{name_of, is_within_length}
 use Rattle.airport_register.specs.Airfields.{id_of}
 use Rattle.airport_register.specs.declared.category.Category.{Category}
 use Rattle.airport_register.specs.declared.runway.Runway.{Runway}
@@ -43,7 +43,7 @@ broken_rules airfields (PutAirport id category arp elevation) = when (is_helipor
 broken_rules airfields (PutRunway id runway) =
     when (is_none (airfield_at airfields id)) UnknownAirfield
     ++ when (is_heliport (airfield_at airfields id)) WrongKind
-    ++ when (not (is_long runway)) RunwayLength
+    ++ when (not (is_within_length runway)) RunwayLength
 
 -- the first of them
 abbrev pub first_broken : List Airfield → Amendment → Option AmendRefusal

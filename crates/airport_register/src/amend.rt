@@ -70,7 +70,7 @@ impl Register {
                 if self.is_heliport(id) {
                     return Some(AmendRefusal::WrongKind);
                 }
-                if !runway.is_long() {
+                if !runway.is_within_length() {
                     return Some(AmendRefusal::RunwayLength);
                 }
                 None

@@ -1,7 +1,7 @@
 //! The length of a runway.
 
 ghost use Rattle.std.specs.Prelude.{◌≡◌, ◌≤◌};
-ghost use Rattle.airport_register.specs.Runways.{apart, length_square, is_long};
+ghost use Rattle.airport_register.specs.Runways.{apart, length_square, is_within_length};
 
 use crate::runway::Runway;
 use grid_exact::Point;
@@ -34,8 +34,8 @@ impl Runway {
     }
 
     /// Whether the runway is 1,000 to 200,000 tenths of a foot long, by the exact square of its length.
-    pub(crate) fn is_long(&self) -> bool
-        ensures { result ≡ is_long self.now }
+    pub(crate) fn is_within_length(&self) -> bool
+        ensures { result ≡ is_within_length self.now }
     {
         let square = self.square_length();
         1_000 * 1_000 <= square && square <= 200_000 * 200_000
