@@ -1,27 +1,43 @@
 -- Airfields found and put by name, in a list that holds each behind a function f, as an `Arc` does.
 use Rattle.std.proofs.Common.{◌≡◌, ℕ, ◌<◌, ◌≤◌, List, [], ◌∷◌, Some, None, Ok, Err, length, refl, sym, ◌∙◌, ap, get_or, set, map, zero, suc, arith, take}
-use Rattle.std.specs.List.{All, insert, slice_get}
+use Rattle.std.specs.List.{All, insert, remove, slice_get}
 use Rattle.std.specs.Option.{option_map}
 use Rattle.std.specs.List.Sorted.{IsBinarySearchResult}
 use Rattle.std.proofs.lemmas.Cmp.{nat_list_cmp_total, tied_itself}
 use Rattle.std.proofs.lemmas.List.{take_all}
-use Rattle.ordered_list.specs.Ordered.{found_by, put_by}
+use Rattle.ordered_list.specs.Ordered.{found_by, put_by, removed_by}
 use Rattle.ordered_list.proofs.Places.{search_set, search_insert, search_found, search_missing}
-use Rattle.ordered_list.proofs.Rising.{Rises-put, All-put, found_holds}
-use Rattle.ordered_list.proofs.Finding.{found_by-put_same}
-use Rattle.ordered_list.proofs.Mapped.{found_by-map, put_by-map, Rises-mapped}
+use Rattle.ordered_list.proofs.Rising.{Rises-put, All-put, Rises-removed, All-removed, found_holds}
+use Rattle.ordered_list.proofs.Finding.{found_by-put_same, found_by-removed_same}
+use Rattle.ordered_list.proofs.Mapped.{found_by-map, put_by-map, removed_by-map, Rises-mapped}
+use Rattle.airport_register.proofs.Numbers.{number_put, number_removed}
+use Rattle.airport_register.proofs.Removal.{search_removed, search_kept}
 use Rattle.airport_register.specs.Names.{name_cmp}
 use Rattle.airport_register.specs.Airfields.{id_of, IsHeld, IsRegister}
 use Rattle.airport_register.specs.Amendments.{airfield_at}
 use Rattle.airport_register.specs.declared.airfield.Airfield.{Airfield}
 
--- the register with an airfield that may be held is a register
-pub register_put : (v : Airfield) (xs ys : List Airfield) → IsRegister xs → IsHeld v → ys ≡ put_by name_cmp id_of v xs → IsRegister ys
-register_put v xs ys r h e =
+-- the register with an airfield that may be held, for which there is room, is a register
+pub register_put : (v : Airfield) (xs ys : List Airfield) → IsRegister xs → IsHeld v → (airfield_at xs (id_of v) ≡ None → length xs < 4096) → ys ≡ put_by name_cmp id_of v xs → IsRegister ys
+register_put v xs ys r h room e =
     rw e (record {
+      number = number_put id_of 4096 v xs r.rises r.number room;
       rises = Rises-put name_cmp nat_list_cmp_total id_of v xs r.rises;
       held = All-put name_cmp nat_list_cmp_total id_of IsHeld v xs h r.held;
     })
+
+-- the register without an airfield is a register
+pub register_removed : (k : List ℕ) (xs ys : List Airfield) → IsRegister xs → ys ≡ removed_by name_cmp id_of k xs → IsRegister ys
+register_removed k xs ys r e =
+    rw e (record {
+      number = number_removed id_of 4096 k xs r.number;
+      rises = Rises-removed name_cmp nat_list_cmp_total id_of k xs r.rises;
+      held = All-removed name_cmp nat_list_cmp_total id_of IsHeld k xs r.held;
+    })
+
+-- what was taken out is not found
+pub removed_missing : (k : List ℕ) (xs ys : List Airfield) → ys ≡ removed_by name_cmp id_of k xs → airfield_at ys k ≡ None
+removed_missing k xs ys e = rw e (found_by-removed_same name_cmp nat_list_cmp_total id_of k k xs (tied_itself nat_list_cmp_total k))
 
 -- what was put is found
 pub put_found : (v : Airfield) (xs ys : List Airfield) → ys ≡ put_by name_cmp id_of v xs → airfield_at ys (id_of v) ≡ Some v
@@ -64,6 +80,18 @@ module _ {A : Type 0} (f : A → Airfield) where
       let s : insert zs i x ≡ put_by name_cmp (λ a. id_of (f a)) x zs =
       search_insert name_cmp nat_list_cmp_total (λ a. id_of (f a)) x zs i (rw e (Rises-mapped name_cmp id_of f xs r.rises)) l (rw m at h) in
       rw (← e, s, ← b) (sym (put_by-map name_cmp id_of f x zs))
+
+  pub field_removed : (k : List ℕ) (xs ys zs : List A) (i : ℕ) (d : A) → IsRegister (map f xs) → zs ≡ xs → ys ≡ remove xs i → i < length zs → IsBinarySearchResult (λ a. name_cmp (id_of (f a)) k) zs (Ok i) → map f ys ≡ removed_by name_cmp id_of k (map f xs)
+  field_removed k xs ys zs i d r e n l h =
+      let s : remove zs i ≡ removed_by name_cmp (λ a. id_of (f a)) k zs =
+      search_removed name_cmp nat_list_cmp_total (λ a. id_of (f a)) k zs i d (rw e (Rises-mapped name_cmp id_of f xs r.rises)) l h in
+      rw (n, ← e, s) (sym (removed_by-map name_cmp id_of f k zs))
+
+  pub field_kept : (k : List ℕ) (xs zs : List A) (i : ℕ) → IsRegister (map f xs) → zs ≡ xs → IsBinarySearchResult (λ a. name_cmp (id_of (f a)) k) zs (Err i) → map f xs ≡ removed_by name_cmp id_of k (map f xs)
+  field_kept k xs zs i r e h =
+      let s : removed_by name_cmp (λ a. id_of (f a)) k zs ≡ zs =
+      search_kept name_cmp nat_list_cmp_total (λ a. id_of (f a)) k zs i (rw e (Rises-mapped name_cmp id_of f xs r.rises)) h in
+      rw (← e) (ap (map f) (sym s) ∙ sym (removed_by-map name_cmp id_of f k zs))
 
   -- the item at a place, and none past the end
   pub field_at : (xs : List A) (i : ℕ) (d : A) → i < length xs → slice_get (map f xs) i ≡ Some (f (get_or xs i d))

@@ -1,4 +1,7 @@
 pub mod Lengths
+pub mod Removal
+pub mod Numbers
+pub mod WithinLimits
 pub mod ByName
 pub mod Fields
 pub mod Rules

@@ -1,9 +1,10 @@
 -- What an amendment does to the airfields of a register, and when it is refused.
-use Rattle.std.specs.Prelude.{ℕ, ℤ, List, [], ◌∷◌, ◌++◌, Option, Some, None, Bool, true, false, not, cond, slice_get}
-use Rattle.ordered_list.specs.Ordered.{found_by, put_by}
+use Rattle.std.specs.Prelude.{ℕ, ℤ, List, [], ◌∷◌, ◌++◌, length, Option, Some, None, is_none, Bool, true, false, not, ◌&&◌, cond, nat_le, slice_get}
+use Rattle.std.specs.List.{list_all}
+use Rattle.ordered_list.specs.Ordered.{found_by, put_by, removed_by}
 use Rattle.grid_exact.specs.declared.point.Point.{Point}
 use Rattle.airport_register.specs.Names.{name_cmp}
-use Rattle.airport_register.specs.Runways.{name_of, is_long}
+use Rattle.airport_register.specs.Runways.{name_of, is_within_length, is_elevation, has_elevations, is_precision_on_utility, has_near_ends}
 use Rattle.airport_register.specs.Airfields.{id_of}
 use Rattle.airport_register.specs.declared.category.Category.{Category}
 use Rattle.airport_register.specs.declared.runway.Runway.{Runway}
@@ -11,45 +12,29 @@ use Rattle.airport_register.specs.declared.airfield.Airport.{Airport}
 use Rattle.airport_register.specs.declared.airfield.Airfield.{Airfield}
 use Rattle.airport_register.specs.declared.airfield.Airfield.TheVariants.{Airport as AnAirport, Heliport as AHeliport}
 use Rattle.airport_register.specs.declared.amendment.Amendment.{Amendment}
-use Rattle.airport_register.specs.declared.amendment.Amendment.TheVariants.{PutAirport, PutRunway}
+use Rattle.airport_register.specs.declared.amendment.Amendment.TheVariants.{PutAirport, PutRunway, DropRunway, Drop}
 use Rattle.airport_register.specs.declared.amendment.AmendRefusal.{AmendRefusal}
-use Rattle.airport_register.specs.declared.amendment.AmendRefusal.TheVariants.{UnknownAirfield, RunwayLength, WrongKind}
+use Rattle.airport_register.specs.declared.amendment.AmendRefusal.TheVariants.{PrecisionOnUtility, UnknownAirfield, UnknownRunway, RunwayLength, RunwayFar, TooManyRunways, RegisterFull, ElevationRange, WrongKind}
 
 -- the airfield of this name
 abbrev pub airfield_at : List Airfield → List ℕ → Option Airfield
 airfield_at airfields id = found_by name_cmp id_of id airfields
 
+-- the runway of this name
+abbrev pub runway_at : List Runway → List ℕ → Option Runway
+runway_at runways name = found_by name_cmp name_of name runways
+
 -- the name of the airfield that the amendment is about
 abbrev pub amended_id : Amendment → List ℕ
 amended_id (PutAirport id category arp elevation) = id
 amended_id (PutRunway id runway) = id
+amended_id (DropRunway id name) = id
+amended_id (Drop id) = id
 
--- no airfield of this name is registered
-abbrev pub is_none : Option Airfield → Bool
-is_none None = true
-is_none (Some f) = false
-
--- the airfield of this name is a heliport, and no airport
 abbrev pub is_heliport : Option Airfield → Bool
 is_heliport None = false
 is_heliport (Some (AnAirport a)) = false
 is_heliport (Some (AHeliport h)) = true
-
--- the refusal, if its rule is broken
-abbrev pub when : Bool → AmendRefusal → List AmendRefusal
-when b refusal = cond b (refusal ∷ []) []
-
--- the rules that the amendment breaks, in the order in which they are tested
-abbrev pub broken_rules : List Airfield → Amendment → List AmendRefusal
-broken_rules airfields (PutAirport id category arp elevation) = when (is_heliport (airfield_at airfields id)) WrongKind
-broken_rules airfields (PutRunway id runway) =
-    when (is_none (airfield_at airfields id)) UnknownAirfield
-    ++ when (is_heliport (airfield_at airfields id)) WrongKind
-    ++ when (not (is_long runway)) RunwayLength
-
--- the first of them
-abbrev pub first_broken : List Airfield → Amendment → Option AmendRefusal
-first_broken airfields a = slice_get (broken_rules airfields a) 0
 
 -- the runways of an airport; there are none where there is no airport
 abbrev pub runways_in : Option Airfield → List Runway
@@ -57,25 +42,94 @@ runways_in None = []
 runways_in (Some (AnAirport a)) = a.runways
 runways_in (Some (AHeliport h)) = []
 
+-- the runway has an end that is too far from the airport's reference point
+abbrev pub is_far_from : Option Airfield → Runway → Bool
+is_far_from None runway = false
+is_far_from (Some (AnAirport a)) runway = not (has_near_ends a.arp runway)
+is_far_from (Some (AHeliport h)) runway = false
+
+-- ---- when an amendment is refused
+
+-- the refusal, if its rule is broken
+abbrev pub when : Bool → AmendRefusal → List AmendRefusal
+when b refusal = cond b (refusal ∷ []) []
+
+-- the rules that an airport of this name breaks, where field is the airfield of this name that is there
+abbrev pub airport_rules : List Airfield → Option Airfield → Point → ℤ → List AmendRefusal
+airport_rules airfields field arp elevation =
+    when (is_heliport field) WrongKind
+    ++ when (not (is_elevation elevation)) ElevationRange
+    ++ when (not (list_all (has_near_ends arp) (runways_in field))) RunwayFar
+    ++ when (is_none field && nat_le 4096 (length airfields)) RegisterFull
+
+-- the rules that a runway breaks which that airfield is to have
+abbrev pub runway_rules : Option Airfield → Runway → List AmendRefusal
+runway_rules field runway =
+    when (is_none field) UnknownAirfield
+    ++ when (is_heliport field) WrongKind
+    ++ when (is_precision_on_utility runway) PrecisionOnUtility
+    ++ when (not (has_elevations runway)) ElevationRange
+    ++ when (not (is_within_length runway)) RunwayLength
+    ++ when (is_far_from field runway) RunwayFar
+    ++ when (is_none (runway_at (runways_in field) runway.name) && nat_le 16 (length (runways_in field))) TooManyRunways
+
+-- the rules that are broken where that airfield is to lose its runway of this name
+abbrev pub drop_runway_rules : Option Airfield → List ℕ → List AmendRefusal
+drop_runway_rules field name =
+    when (is_none field) UnknownAirfield
+    ++ when (is_heliport field) WrongKind
+    ++ when (is_none (runway_at (runways_in field) name)) UnknownRunway
+
+-- the rules that the amendment breaks, in the order in which they are tested
+abbrev pub broken_rules : List Airfield → Amendment → List AmendRefusal
+broken_rules airfields (PutAirport id category arp elevation) = airport_rules airfields (airfield_at airfields id) arp elevation
+broken_rules airfields (PutRunway id runway) = runway_rules (airfield_at airfields id) runway
+broken_rules airfields (DropRunway id name) = drop_runway_rules (airfield_at airfields id) name
+broken_rules airfields (Drop id) = when (is_none (airfield_at airfields id)) UnknownAirfield
+
+-- the first of them
+abbrev pub first_broken : List Airfield → Amendment → Option AmendRefusal
+first_broken airfields a = slice_get (broken_rules airfields a) 0
+
+-- ---- what an amendment does
+
 -- the airport of this name with this category, reference point and elevation: a new one has no runways, and one that is
 -- there keeps its runways
 abbrev pub put_airport : List Airfield → List ℕ → Category → Point → ℤ → Airport
 put_airport airfields id category arp elevation =
     record { id = id; category = category; arp = arp; elevation = elevation; runways = runways_in (airfield_at airfields id) }
 
+-- the airport with these runways instead of its own
+abbrev pub with_runways : List Runway → Airport → Airport
+with_runways runways a = record { id = a.id; category = a.category; arp = a.arp; elevation = a.elevation; runways = runways }
+
 -- the airport with the runway, instead of the one of its name
 abbrev pub with_runway : Runway → Airport → Airport
-with_runway runway a =
-    record { id = a.id; category = a.category; arp = a.arp; elevation = a.elevation; runways = put_by name_cmp name_of runway a.runways }
+with_runway runway a = with_runways (put_by name_cmp name_of runway a.runways) a
 
--- the airfields with the runway at the airport that was found; as they are where none was found
+-- the airport without the runway of this name
+abbrev pub without_runway : List ℕ → Airport → Airport
+without_runway name a = with_runways (removed_by name_cmp name_of name a.runways) a
+
 abbrev pub put_runway : List Airfield → Option Airfield → Runway → List Airfield
 put_runway airfields None runway = airfields
 put_runway airfields (Some (AnAirport a)) runway = put_by name_cmp id_of (AnAirport (with_runway runway a)) airfields
 put_runway airfields (Some (AHeliport h)) runway = airfields
+
+abbrev pub drop_runway : List Airfield → Option Airfield → List ℕ → List Airfield
+drop_runway airfields None name = airfields
+drop_runway airfields (Some (AnAirport a)) name = put_by name_cmp id_of (AnAirport (without_runway name a)) airfields
+drop_runway airfields (Some (AHeliport h)) name = airfields
+
+-- the airfields with this one in its place, or without the one of this name
+abbrev pub replaced : List ℕ → Option Airfield → List Airfield → List Airfield
+replaced id None airfields = removed_by name_cmp id_of id airfields
+replaced id (Some field) airfields = put_by name_cmp id_of field airfields
 
 -- the airfields after an amendment that breaks no rule
 abbrev pub after_amendment : List Airfield → Amendment → List Airfield
 after_amendment airfields (PutAirport id category arp elevation) =
     put_by name_cmp id_of (AnAirport (put_airport airfields id category arp elevation)) airfields
 after_amendment airfields (PutRunway id runway) = put_runway airfields (airfield_at airfields id) runway
+after_amendment airfields (DropRunway id name) = drop_runway airfields (airfield_at airfields id) name
+after_amendment airfields (Drop id) = removed_by name_cmp id_of id airfields

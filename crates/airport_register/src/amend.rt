@@ -1,16 +1,14 @@
-//! Amendments of the register: the rules, and the airfield that each amendment puts.
+//! Amendments of the register: the airfield that each amendment puts, and the airfield that it takes out.
 
-ghost use Rattle.std.specs.Prelude.{◌≡◌, ◌≢◌, IfOk, IfErr, OnErr, None, Some, option_copied};
-ghost use Rattle.ordered_list.specs.Ordered.{put_by};
-ghost use Rattle.airport_register.specs.Names.{name_cmp};
+ghost use Rattle.std.specs.Prelude.{◌≡◌, ◌≢◌, IfOk, IfErr, OnErr, None, Some, IfSome, option_copied};
 ghost use Rattle.airport_register.specs.Airfields.{id_of, IsHeld};
-ghost use Rattle.airport_register.specs.Amendments.{airfield_at, amended_id, first_broken, after_amendment};
-ghost use Rattle.airport_register.specs.Amendments.{is_none, is_heliport, runways_in};
+ghost use Rattle.airport_register.specs.Amendments.{airfield_at, amended_id, first_broken, after_amendment, replaced};
+ghost use Rattle.airport_register.specs.Amendments.{runways_in, with_runways};
 ghost use Rattle.airport_register.specs.Changes.{IsChange};
+ghost use Rattle.airport_register.specs.declared.airfield.Airfield.TheVariants.{Airport as AnAirport};
 
 use crate::airfield::{Airfield, Airport};
 use crate::amendment::{AmendRefusal, Amendment, Changed};
-use crate::names::FieldId;
 use crate::register::Register;
 use crate::runways::Runways;
 use grid_exact::NoMemory;
@@ -37,54 +35,30 @@ fn runways_of(alloc: Global, field: Option<&Airfield>) -> Result<Runways, NoMemo
     }
 }
 
+impl Airport {
+    /// The airport with these runways instead of its own.
+    fn with_runways(&self, runways: Runways) -> Airfield
+        ensures { result ≡ AnAirport (with_runways runways self.now) }
+    {
+        Airfield::Airport(Airport {
+            id: self.id,
+            category: self.category,
+            arp: self.arp,
+            elevation: self.elevation,
+            runways,
+        })
+    }
+}
+
 impl Register {
-    /// Whether no airfield of this name is registered.
-    fn is_unknown(&self, id: &FieldId) -> bool
-        ensures { result ≡ is_none (airfield_at self.now id.now) }
-    {
-        self.get(id).is_none()
-    }
-
-    /// Whether the airfield of this name is a heliport.
-    fn is_heliport(&self, id: &FieldId) -> bool
-        ensures { result ≡ is_heliport (airfield_at self.now id.now) }
-    {
-        matches!(self.get(id), Some(Airfield::Heliport(_)))
-    }
-
-    /// The first rule that the amendment breaks.
-    fn refusal(&self, a: &Amendment) -> Option<AmendRefusal>
-        ensures { result ≡ first_broken self.now a.now }
-    {
-        match a {
-            Amendment::PutAirport { id, .. } => {
-                if self.is_heliport(id) {
-                    return Some(AmendRefusal::WrongKind);
-                }
-                None
-            }
-            Amendment::PutRunway { id, runway } => {
-                if self.is_unknown(id) {
-                    return Some(AmendRefusal::UnknownAirfield);
-                }
-                if self.is_heliport(id) {
-                    return Some(AmendRefusal::WrongKind);
-                }
-                if !runway.is_long() {
-                    return Some(AmendRefusal::RunwayLength);
-                }
-                None
-            }
-        }
-    }
-
-    /// The airfield that an amendment puts, which breaks no rule.
-    fn amended(&self, alloc: Global, a: &Amendment) -> Result<Airfield, NoMemory>
+    /// The airfield that the amendment leaves under its name; none where it takes it out. The amendment breaks no rule.
+    fn amended(&self, alloc: Global, a: &Amendment) -> Result<Option<Airfield>, NoMemory>
         requires { first_broken self.now a.now ≡ None }
-        ensures after { IfOk result (λ f. after_amendment self.now a.now ≡ put_by name_cmp id_of f self.now) }
-        ensures held { IfOk result (λ f. IsHeld f) }
-        ensures named { IfOk result (λ f. id_of f ≡ amended_id a.now) }
+        ensures after { IfOk result (λ o. after_amendment self.now a.now ≡ replaced (amended_id a.now) o self.now) }
+        ensures held { IfOk result (λ o. IfSome o (λ f. IsHeld f)) }
+        ensures named { IfOk result (λ o. IfSome o (λ f. id_of f ≡ amended_id a.now)) }
     {
+        self.limits();
         match a {
             Amendment::PutAirport {
                 id,
@@ -93,27 +67,29 @@ impl Register {
                 elevation,
             } => {
                 let runways = runways_of(alloc, self.get(id))?;
-                Ok(Airfield::Airport(Airport {
+                Ok(Some(Airfield::Airport(Airport {
                     id: *id,
                     category: *category,
                     arp: *arp,
                     elevation: *elevation,
                     runways,
-                }))
+                })))
             }
             Amendment::PutRunway { id, runway } => match self.get(id) {
                 Some(Airfield::Airport(airport)) => {
                     let runways = airport.runways.with(alloc, runway)?;
-                    Ok(Airfield::Airport(Airport {
-                        id: airport.id,
-                        category: airport.category,
-                        arp: airport.arp,
-                        elevation: airport.elevation,
-                        runways,
-                    }))
+                    Ok(Some(airport.with_runways(runways)))
                 }
                 _ => unreachable!(),
             },
+            Amendment::DropRunway { id, name } => match self.get(id) {
+                Some(Airfield::Airport(airport)) => {
+                    let runways = airport.runways.without(alloc, name)?;
+                    Ok(Some(airport.with_runways(runways)))
+                }
+                _ => unreachable!(),
+            },
+            Amendment::Drop(_) => Ok(None),
         }
     }
 
@@ -133,8 +109,9 @@ impl Register {
         if let Some(refusal) = self.refusal(a) {
             return Err(refusal);
         }
-        let field = self.amended(alloc, a)?;
-        let changed = self.put(alloc, field)?;
-        Ok(changed)
+        match self.amended(alloc, a)? {
+            Some(field) => Ok(self.put(alloc, field)?),
+            None => Ok(self.remove(a.id())),
+        }
     }
 }

@@ -2,7 +2,7 @@
 
 use crate::airfield::Airfield;
 use crate::category::Category;
-use crate::names::FieldId;
+use crate::names::{FieldId, RunwayName};
 use crate::runway::Runway;
 use grid_exact::Point;
 use std::sync::Arc;
@@ -22,6 +22,13 @@ pub enum Amendment {
         id: FieldId,
         runway: Runway,
     },
+    /// The airport loses the runway of this name.
+    DropRunway {
+        id: FieldId,
+        name: RunwayName,
+    },
+    /// The airfield is taken out.
+    Drop(FieldId),
 }
 
 /// Why an amendment is refused.
@@ -33,15 +40,15 @@ pub enum AmendRefusal {
     UnknownAirfield,
     /// The airport has no runway of this name.
     UnknownRunway,
-    /// The runway's length is outside its limit.
+    /// The runway is not 1,000 to 200,000 tenths of a foot long.
     RunwayLength,
-    /// An end of a runway is too far from the reference point.
+    /// An end of the runway, or of one that is kept, is more than 400,000 tenths of a foot from the reference point in a coordinate.
     RunwayFar,
-    /// The airport has as many runways as it may have.
+    /// The runway's name is new, and the airport has 16 runways.
     TooManyRunways,
-    /// The register has as many airfields as it may have.
+    /// The airfield's name is new, and the register has 4,096 airfields.
     RegisterFull,
-    /// An elevation is outside its limit.
+    /// An elevation is not -20,000 to 200,000 tenths of a foot.
     ElevationRange,
     /// The axis or the width of a heliport is outside its limit.
     HeliportShape,

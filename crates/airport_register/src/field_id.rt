@@ -2,8 +2,10 @@
 
 ghost use Rattle.std.specs.Prelude.{◌≡◌};
 ghost use Rattle.airport_register.specs.Airfields.{id_of};
+ghost use Rattle.airport_register.specs.Amendments.{amended_id};
 
 use crate::airfield::Airfield;
+use crate::amendment::Amendment;
 use crate::names::FieldId;
 
 impl Airfield {
@@ -14,6 +16,20 @@ impl Airfield {
         match self {
             Airfield::Airport(airport) => &airport.id,
             Airfield::Heliport(heliport) => &heliport.id,
+        }
+    }
+}
+
+impl Amendment {
+    /// The name of the airfield that the amendment is about.
+    pub fn id(&self) -> &FieldId
+        ensures { result.now ≡ amended_id self.now }
+    {
+        match self {
+            Amendment::PutAirport { id, .. } => id,
+            Amendment::PutRunway { id, .. } => id,
+            Amendment::DropRunway { id, .. } => id,
+            Amendment::Drop(id) => id,
         }
     }
 }

@@ -1,11 +1,11 @@
 //! The register of airfields.
 
-ghost use Rattle.std.specs.Prelude.{◌≡◌, [], length, slice_get, option_copied, IfOk, IfSome, OnErr};
+ghost use Rattle.std.specs.Prelude.{◌≡◌, ◌<◌, [], length, slice_get, option_copied, IfOk, IfSome, OnErr, None};
 ghost use Rattle.std.specs.Arc.{arc_value};
 ghost use Rattle.std.specs.List.Sorted.{IsBinarySearchResult, IsSearchInRange};
-ghost use Rattle.ordered_list.specs.Ordered.{put_by};
+ghost use Rattle.ordered_list.specs.Ordered.{put_by, removed_by};
 ghost use Rattle.airport_register.specs.Names.{name_cmp};
-ghost use Rattle.airport_register.specs.Airfields.{id_of, IsHeld};
+ghost use Rattle.airport_register.specs.Airfields.{id_of, IsHeld, IsRegister};
 ghost use Rattle.airport_register.specs.Amendments.{airfield_at};
 ghost use Rattle.airport_register.specs.Changes.{IsChange};
 
@@ -100,9 +100,17 @@ impl Register {
         Ok(Register { items })
     }
 
+    /// Shows to a proof that the register is within its limits.
+    pub fn limits(&self)
+        ensures { IsRegister self.now }
+    {
+        let _ = &self.items;
+    }
+
     /// Puts the airfield in its place, instead of the one of its name.
     pub(crate) fn put(&mut self, alloc: Global, field: Airfield) -> Result<Changed, NoMemory>
-        requires { IsHeld field }
+        requires held { IsHeld field }
+        requires room { airfield_at self.old (id_of field) ≡ None → length self.old < 4096 }
         ensures put { IfOk result (λ _. self.new ≡ put_by name_cmp id_of field self.old) }
         ensures change { IfOk result (λ c. IsChange self.old self.new (id_of field) c) }
         ensures same { OnErr result (self.new ≡ self.old) }
@@ -127,6 +135,28 @@ impl Register {
                     after: Some(after),
                 })
             }
+        }
+    }
+
+    /// Takes the airfield of this name out.
+    pub(crate) fn remove(&mut self, id: &FieldId) -> Changed
+        ensures removed { self.new ≡ removed_by name_cmp id_of id.now self.old }
+        ensures change { IsChange self.old self.new id.now result }
+    {
+        match place(self.items.as_slice(), id) {
+            Ok(i) => {
+                let before = self.items.remove(i);
+                Changed {
+                    id: *id,
+                    before: Some(before),
+                    after: None,
+                }
+            }
+            Err(_) => Changed {
+                id: *id,
+                before: None,
+                after: None,
+            },
         }
     }
 }

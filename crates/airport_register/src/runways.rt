@@ -1,14 +1,16 @@
 //! The runways of one airport.
 
-ghost use Rattle.std.specs.Prelude.{◌≡◌, [], length, slice_get, option_copied, IfOk};
+ghost use Rattle.std.specs.Prelude.{◌≡◌, [], length, slice_get, option_copied, is_some, IfOk};
+ghost use Rattle.std.specs.List.{list_all};
 ghost use Rattle.std.specs.List.Sorted.{IsBinarySearchResult, IsSearchInRange};
-ghost use Rattle.ordered_list.specs.Ordered.{Rises, put_by};
+ghost use Rattle.ordered_list.specs.Ordered.{Rises, put_by, removed_by};
 ghost use Rattle.airport_register.specs.Names.{name_cmp};
-ghost use Rattle.airport_register.specs.Runways.{name_of};
+ghost use Rattle.airport_register.specs.Runways.{name_of, has_near_ends};
+ghost use Rattle.airport_register.specs.Amendments.{runway_at};
 
 use crate::names::RunwayName;
 use crate::runway::Runway;
-use grid_exact::NoMemory;
+use grid_exact::{NoMemory, Point};
 use std::alloc::Global;
 use std::marker::Model;
 
@@ -72,6 +74,20 @@ impl Runways {
         self.items.as_slice()
     }
 
+    /// Whether there is a runway of this name.
+    pub(crate) fn has(&self, name: &RunwayName) -> bool
+        ensures { result ≡ is_some (runway_at self.now name.now) }
+    {
+        place(self.items.as_slice(), name).is_ok()
+    }
+
+    /// Whether both ends of each runway are near enough to the reference point.
+    pub(crate) fn have_near_ends(&self, arp: &Point) -> bool
+        ensures { result ≡ list_all (has_near_ends arp.now) self.now }
+    {
+        self.items.iter().all(|runway| runway.has_near_ends(arp))
+    }
+
     /// A copy.
     pub(crate) fn copy(&self, alloc: Global) -> Result<Runways, NoMemory>
         ensures copied { IfOk result (λ r. r ≡ self.now) }
@@ -96,6 +112,21 @@ impl Runways {
                 items.insert(i, *runway)?;
                 Ok(Runways { items })
             }
+        }
+    }
+
+    /// A copy without the runway of this name.
+    pub(crate) fn without(&self, alloc: Global, name: &RunwayName) -> Result<Runways, NoMemory>
+        ensures removed { IfOk result (λ r. r ≡ removed_by name_cmp name_of name.now self.now) }
+    {
+        let place = place(self.items.as_slice(), name);
+        let mut items = Vec::from_slice(alloc, self.items.as_slice())?;
+        match place {
+            Ok(i) => {
+                items.remove(i);
+                Ok(Runways { items })
+            }
+            Err(_) => Ok(Runways { items }),
         }
     }
 }

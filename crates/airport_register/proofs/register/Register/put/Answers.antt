@@ -6,12 +6,12 @@ use Rattle.airport_register.proofs.register.Register.put.Goals as goal
 pub invariant_of-self : goal.invariant_of-self
 invariant_of-self c =
     let held = ap arc_value c.replace-before.ensures.after ∙ c.in_ok-field.ensures.ok in
-    register_put c.args.field _ _ c.self.invariant c.requires
+    register_put c.args.field _ _ c.self.invariant c.requires.held (rw c.self.view_is c.requires.room)
     (field_set arc_value _ c.args.field _ _ _ c.in-Ok.i c.self.invariant held c.id.ensures c.as_slice.ensures.value c.in-Ok.ensures.within c.in-Ok.ensures.found)
 
 pub invariant_of-self-in-Err : goal.invariant_of-self-in-Err
 invariant_of-self-in-Err c =
-    register_put c.args.field _ _ c.self.invariant c.requires
+    register_put c.args.field _ _ c.self.invariant c.requires.held (rw c.self.view_is c.requires.room)
     (ap (map arc_value) c.in_ok-insert-in-Err.ensures.items
     ∙ field_insert arc_value _ c.args.field _ _ _ c.in-Err.i c.self.invariant c.in_ok-field.ensures.ok c.id.ensures c.as_slice.ensures.value c.in-Err.ensures.within c.in-Err.ensures.found)
 
