@@ -6,10 +6,12 @@
 mod finding;
 mod findings;
 mod list;
+mod verdict;
 
 pub use finding::{Finding, Rule, SurfaceKey};
 pub use findings::Findings;
 pub use list::find;
+pub use verdict::Verdict;
 
 #[cfg(test)]
 mod tests {
