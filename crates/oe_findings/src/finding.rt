@@ -1,5 +1,7 @@
 //! One entry of a list of findings.
 
+ghost use Rattle.std.specs.Prelude.{◌≡◌};
+
 use airport_register::{FieldId, RunwayName};
 
 /// A standard or a notice rule that a structure may exceed.
@@ -43,6 +45,28 @@ pub enum Rule {
     WayB2,
     /// Notice by 77.9(b)(3) for a traverse way, under 77.9(c).
     WayB3,
+}
+
+impl Rule {
+    ghost use Rattle.oe_findings.specs.Verdicts.{is_notice as is_notice_of};
+
+    /// Whether it is a notice rule, of 77.9; the others are standards.
+    pub fn is_notice(self) -> bool
+        ensures { result ≡ is_notice_of self }
+    {
+        match self {
+            Rule::NoticeA
+            | Rule::NoticeB1
+            | Rule::NoticeB2
+            | Rule::NoticeB3
+            | Rule::NoticeD
+            | Rule::WayA
+            | Rule::WayB1
+            | Rule::WayB2
+            | Rule::WayB3 => true,
+            _ => false,
+        }
+    }
 }
 
 /// Which surface or slope of its rule is exceeded.

@@ -3,14 +3,16 @@
 //! An excess is in whole tenths of a foot.
 #![tactic(auto)]
 
+mod collector;
 mod finding;
 mod findings;
 mod list;
+mod sky;
 mod verdict;
 
 pub use finding::{Finding, Rule, SurfaceKey};
 pub use findings::Findings;
-pub use list::find;
+pub use sky::Sky;
 pub use verdict::Verdict;
 
 #[cfg(test)]

@@ -1,12 +1,14 @@
 //! The list of findings of a structure.
 
-ghost use Rattle.std.specs.Prelude.{◌≡◌, ◌++◌, OnOk};
-ghost use Rattle.std.specs.List.{flat_map};
+ghost use Rattle.std.specs.Prelude.{◌≡◌, ◌++◌, [], List, OnOk, OnErr};
+ghost use Rattle.std.specs.List.{All, flat_map};
+ghost use Rattle.airport_register.specs.Airfields.{IsHeld};
 ghost use Rattle.oe_findings.specs.List.{entries, findings_of, of_airfield};
+ghost use Rattle.oe_findings.specs.declared.finding.Finding.{Finding as AFinding};
 
+use crate::collector::Collector;
 use crate::finding::{Finding, Rule, SurfaceKey};
-use crate::findings::Findings;
-use airport_register::{Airfield, Filing, Register};
+use airport_register::{Airfield, FieldId, Filing, Register};
 use grid_exact::NoMemory;
 use height_rules::{excess_200, excess_499, excess_near_airport};
 
@@ -17,23 +19,25 @@ const NO_KEY: SurfaceKey = SurfaceKey {
 };
 
 /// Puts the entry of a rule behind the others, where it is exceeded.
-fn push_entry(
-    list: &mut Findings,
+fn put_entry<C: Collector>(
+    out: &mut C,
     rule: Rule,
     key: SurfaceKey,
     excess: Option<u32>,
 ) -> Result<(), NoMemory>
-    ensures { OnOk result (list.new ≡ list.old ++ entries rule key excess) }
+    ensures taken { OnOk result ((list : List AFinding) → C.taken out.old list → C.taken out.new (list ++ entries rule key excess)) }
+    ensures fails { OnErr result C.fails }
 {
     if let Some(excess) = excess {
-        list.push(Finding { rule, key, excess })?;
+        out.take(Finding { rule, key, excess })?;
     }
     Ok(())
 }
 
 /// Puts the entries of one airfield behind the others.
-fn push_airfield(list: &mut Findings, filing: &Filing, airfield: &Airfield) -> Result<(), NoMemory>
-    ensures { OnOk result (list.new ≡ list.old ++ of_airfield filing.now airfield.now) }
+fn put_airfield<C: Collector>(out: &mut C, filing: &Filing, airfield: &Airfield) -> Result<(), NoMemory>
+    ensures taken { OnOk result ((list : List AFinding) → C.taken out.old list → C.taken out.new (list ++ of_airfield filing.now airfield.now)) }
+    ensures fails { OnErr result C.fails }
 {
     match airfield {
         Airfield::Airport(airport) => {
@@ -42,38 +46,33 @@ fn push_airfield(list: &mut Findings, filing: &Filing, airfield: &Airfield) -> R
                 runway: None,
                 part: 0,
             };
-            push_entry(list, Rule::Near, key, excess_near_airport(airport, filing))
+            put_entry(out, Rule::Near, key, excess_near_airport(airport, filing))
         }
         Airfield::Heliport(_) => Ok(()),
     }
 }
 
-#[tactic(auto, using(crate::proofs::ListFacts::one_more, crate::proofs::ListFacts::not_past))]
 /// Puts the entries of all airfields behind the others, in order of name.
-fn push_airfields(list: &mut Findings, filing: &Filing, register: &Register) -> Result<(), NoMemory>
-    ensures { OnOk result (list.new ≡ list.old ++ flat_map (of_airfield filing.now) register.now) }
+fn put_airfields<C: Collector>(out: &mut C, filing: &Filing, register: &Register) -> Result<(), NoMemory>
+    ensures taken { OnOk result ((list : List AFinding) → C.taken out.old list → C.taken out.new (list ++ flat_map (of_airfield filing.now) register.now)) }
+    ensures fails { OnErr result C.fails }
 {
     for i in 0..register.len() {
         let Some(airfield) = register.nth(i) else {
             unreachable!();
         };
-        push_airfield(list, filing, airfield)?;
+        put_airfield(out, filing, airfield)?;
     }
     Ok(())
 }
 
-/// Makes `list` the findings of a structure over all airfields of the register: each standard and notice rule that it
-/// exceeds, in order, with how far its top is above the surface or limit, in tenths of a foot, rounded down. The rules
-/// built so far are 77.17(a)(1) and (2) and 77.9(a).
-///
-/// # Errors
-///
-/// `NoMemory` where memory was refused; the list is then some list.
-pub fn find(list: &mut Findings, register: &Register, filing: &Filing) -> Result<(), NoMemory>
-    ensures { OnOk result (list.new ≡ findings_of register.now filing.now) }
+/// Gives `out`, which has taken nothing, the findings of a structure over all airfields of the register, in their order.
+pub(crate) fn put_findings<C: Collector>(out: &mut C, register: &Register, filing: &Filing) -> Result<(), NoMemory>
+    requires nothing { C.taken out.old [] }
+    ensures taken { OnOk result (C.taken out.new (findings_of register.now filing.now)) }
+    ensures fails { OnErr result C.fails }
 {
-    list.clear();
-    push_entry(list, Rule::H499, NO_KEY, excess_499(filing))?;
-    push_airfields(list, filing, register)?;
-    push_entry(list, Rule::NoticeA, NO_KEY, excess_200(filing))
+    put_entry(out, Rule::H499, NO_KEY, excess_499(filing))?;
+    put_airfields(out, filing, register)?;
+    put_entry(out, Rule::NoticeA, NO_KEY, excess_200(filing))
 }
