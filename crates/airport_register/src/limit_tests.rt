@@ -1,4 +1,4 @@
-//! The limits of the register, and the order in which they are tested.
+//! The limits of the register and the order in which they are tested.
 
 use crate::{
     Airfield, AmendRefusal, Amendment, Category, FieldId, Heliport, Register, Runway, RunwayEnd,
@@ -71,8 +71,19 @@ fn drop_runway(id: &str, name: &str) -> Result<Amendment, Fail> {
     })
 }
 
-/// The heliport `HELI`, the airport `FULL` with 16 runways, and the airport `ONE` with the runway `09/27`.
-fn register(rt: &HostRuntime) -> Result<Register, Fail> {
+/// An amendment that is not refused.
+fn accept(rt: &HostRuntime, register: &mut Register, a: Amendment) -> Result<(), Fail> {
+    register.amend(rt.alloc(), &a)?;
+    Ok(())
+}
+
+/// Why the amendment is refused.
+fn refusal(rt: &HostRuntime, register: &mut Register, a: &Amendment) -> Option<AmendRefusal> {
+    register.amend(rt.alloc(), a).err()
+}
+
+/// The heliport `HELI` alone.
+fn heliport(rt: &HostRuntime) -> Result<Register, Fail> {
     let mut register = Register::empty(rt.alloc());
     let heliport = Heliport {
         id: FieldId::new(b"HELI")?,
@@ -83,15 +94,29 @@ fn register(rt: &HostRuntime) -> Result<Register, Fail> {
         elevation: 0,
     };
     register.put(rt.alloc(), Airfield::Heliport(heliport))?;
-    register.amend(rt.alloc(), &airport("FULL", 0, 0, 0)?)?;
+    Ok(register)
+}
+
+/// The heliport `HELI`, the airport `FULL` with 16 runways, and the airport `ONE` with the runway `09/27`.
+fn register(rt: &HostRuntime) -> Result<Register, Fail> {
+    let mut register = heliport(rt)?;
+    accept(rt, &mut register, airport("FULL", 0, 0, 0)?)?;
+    accept(rt, &mut register, airport("ONE", 0, 0, 0)?)?;
+    accept(
+        rt,
+        &mut register,
+        put("ONE", runway("09/27", -50_000, 50_000)?)?,
+    )?;
     for name in [
         "01", "02", "03", "04", "05", "06", "07", "08", "09", "10", "11", "12", "13", "14", "15",
         "16",
     ] {
-        register.amend(rt.alloc(), &put("FULL", runway(name, -50_000, 50_000)?)?)?;
+        accept(
+            rt,
+            &mut register,
+            put("FULL", runway(name, -50_000, 50_000)?)?,
+        )?;
     }
-    register.amend(rt.alloc(), &airport("ONE", 0, 0, 0)?)?;
-    register.amend(rt.alloc(), &put("ONE", runway("09/27", -50_000, 50_000)?)?)?;
     Ok(register)
 }
 
@@ -107,7 +132,7 @@ fn count(register: &Register, id: &str) -> Result<Option<usize>, Fail> {
 #[test]
 fn refusals_of_airports(rt: HostRuntime) -> Result<(), Fail> {
     let mut register = register(&rt)?;
-    for (id, x, y, elevation, refusal) in [
+    for (id, x, y, elevation, wanted) in [
         ("HELI", 0, 0, 0, AmendRefusal::WrongKind),
         ("HELI", 0, 0, 200_001, AmendRefusal::WrongKind),
         ("NEW", 0, 0, 200_001, AmendRefusal::ElevationRange),
@@ -121,11 +146,7 @@ fn refusals_of_airports(rt: HostRuntime) -> Result<(), Fail> {
         ("ONE", 0, -400_001, 0, AmendRefusal::RunwayFar),
     ] {
         let a = airport(id, x, y, elevation)?;
-        assert_eq!(rt;
-            register.amend(rt.alloc(), &a).err(),
-            Some(refusal),
-            "{a:?}"
-        );
+        assert_eq!(rt; refusal(&rt, &mut register, &a), Some(wanted), "{a:?}");
     }
     Ok(())
 }
@@ -143,7 +164,7 @@ fn refusals_of_runways(rt: HostRuntime) -> Result<(), Fail> {
         end2: end(0, 400_001, 0)?,
         ..good
     };
-    for (id, runway, refusal) in [
+    for (id, runway, wanted) in [
         ("NONE", good, AmendRefusal::UnknownAirfield),
         ("NONE", with_precision(good), AmendRefusal::UnknownAirfield),
         ("HELI", good, AmendRefusal::WrongKind),
@@ -177,11 +198,7 @@ fn refusals_of_runways(rt: HostRuntime) -> Result<(), Fail> {
         ("FULL", good, AmendRefusal::TooManyRunways),
     ] {
         let a = put(id, runway)?;
-        assert_eq!(rt;
-            register.amend(rt.alloc(), &a).err(),
-            Some(refusal),
-            "{a:?}"
-        );
+        assert_eq!(rt; refusal(&rt, &mut register, &a), Some(wanted), "{a:?}");
     }
     Ok(())
 }
@@ -189,21 +206,17 @@ fn refusals_of_runways(rt: HostRuntime) -> Result<(), Fail> {
 #[test]
 fn refusals_of_removals(rt: HostRuntime) -> Result<(), Fail> {
     let mut register = register(&rt)?;
-    for (id, name, refusal) in [
+    for (id, name, wanted) in [
         ("NONE", "09/27", AmendRefusal::UnknownAirfield),
         ("HELI", "09/27", AmendRefusal::WrongKind),
         ("ONE", "27/09", AmendRefusal::UnknownRunway),
     ] {
         let a = drop_runway(id, name)?;
-        assert_eq!(rt;
-            register.amend(rt.alloc(), &a).err(),
-            Some(refusal),
-            "{a:?}"
-        );
+        assert_eq!(rt; refusal(&rt, &mut register, &a), Some(wanted), "{a:?}");
     }
     let a = Amendment::Drop(FieldId::new(b"NONE")?);
     assert_eq!(rt;
-        register.amend(rt.alloc(), &a).err(),
+        refusal(&rt, &mut register, &a),
         Some(AmendRefusal::UnknownAirfield)
     );
     Ok(())
@@ -219,7 +232,7 @@ fn at_the_limits(rt: HostRuntime) -> Result<(), Fail> {
         ("ONE", -350_000, -400_000, 0),
     ] {
         let a = airport(id, x, y, elevation)?;
-        assert!(rt; register.amend(rt.alloc(), &a).is_ok(), "{a:?}");
+        assert_eq!(rt; refusal(&rt, &mut register, &a), None, "{a:?}");
     }
     for (name, x1, x2, z) in [
         ("A", 0, 1_000, 0),
@@ -228,7 +241,7 @@ fn at_the_limits(rt: HostRuntime) -> Result<(), Fail> {
         ("D", 300_000, 400_000, 200_000),
     ] {
         let a = put("NEW", at_elevation(runway(name, x1, x2)?, z))?;
-        assert!(rt; register.amend(rt.alloc(), &a).is_ok(), "{a:?}");
+        assert_eq!(rt; refusal(&rt, &mut register, &a), None, "{a:?}");
     }
     assert_eq!(rt; count(&register, "NEW")?, Some(4));
     Ok(())
@@ -238,16 +251,16 @@ fn at_the_limits(rt: HostRuntime) -> Result<(), Fail> {
 fn seventeenth_runway(rt: HostRuntime) -> Result<(), Fail> {
     let mut register = register(&rt)?;
     let shorter = runway("16", -30_000, 30_000)?;
-    register.amend(rt.alloc(), &put("FULL", shorter)?)?;
+    accept(&rt, &mut register, put("FULL", shorter)?)?;
     assert_eq!(rt; count(&register, "FULL")?, Some(16));
     let more = put("FULL", runway("17", -50_000, 50_000)?)?;
     assert_eq!(rt;
-        register.amend(rt.alloc(), &more).err(),
+        refusal(&rt, &mut register, &more),
         Some(AmendRefusal::TooManyRunways)
     );
-    register.amend(rt.alloc(), &drop_runway("FULL", "05")?)?;
+    accept(&rt, &mut register, drop_runway("FULL", "05")?)?;
     assert_eq!(rt; count(&register, "FULL")?, Some(15));
-    register.amend(rt.alloc(), &more)?;
+    accept(&rt, &mut register, more)?;
     assert_eq!(rt; count(&register, "FULL")?, Some(16));
     Ok(())
 }
@@ -255,27 +268,30 @@ fn seventeenth_runway(rt: HostRuntime) -> Result<(), Fail> {
 #[test]
 fn changed_airport_keeps_its_runways(rt: HostRuntime) -> Result<(), Fail> {
     let mut register = register(&rt)?;
-    let changed = register.amend(rt.alloc(), &airport("ONE", 100_000, 0, 5_000)?)?;
-    assert!(rt; changed.before.is_some());
+    accept(&rt, &mut register, airport("ONE", 100_000, 0, 5_000)?)?;
+    let kept = runway("09/27", -50_000, 50_000)?;
     let id = FieldId::new(b"ONE")?;
     match register.get(&id) {
         Some(Airfield::Airport(airport)) => {
             assert_eq!(rt; airport.elevation, 5_000);
             assert_eq!(rt; airport.arp.x, 100_000);
-            let kept = runway("09/27", -50_000, 50_000)?;
             assert_eq!(rt; airport.runways.as_slice(), [kept].as_slice());
         }
         _ => assert!(rt; false),
     }
-    // Its runway alone is far from this point.
+    Ok(())
+}
+
+#[test]
+fn airport_without_runways_moves(rt: HostRuntime) -> Result<(), Fail> {
+    let mut register = register(&rt)?;
+    let moved = airport("ONE", 400_000, 0, 0)?;
     assert_eq!(rt;
-        register
-            .amend(rt.alloc(), &airport("ONE", 400_000, 0, 0)?)
-            .err(),
+        refusal(&rt, &mut register, &moved),
         Some(AmendRefusal::RunwayFar)
     );
-    register.amend(rt.alloc(), &drop_runway("ONE", "09/27")?)?;
-    register.amend(rt.alloc(), &airport("ONE", 400_000, 0, 0)?)?;
+    accept(&rt, &mut register, drop_runway("ONE", "09/27")?)?;
+    accept(&rt, &mut register, moved)?;
     assert_eq!(rt; count(&register, "ONE")?, Some(0));
     Ok(())
 }
@@ -302,24 +318,20 @@ fn full_register(rt: HostRuntime) -> Result<(), Fail> {
     let mut register = Register::empty(rt.alloc());
     for number in 0..4_096 {
         let id = format!(in rt.alloc(); "A{number}")?;
-        register.amend(rt.alloc(), &airport(id.as_str(), 0, 0, 0)?)?;
+        accept(&rt, &mut register, airport(id.as_str(), 0, 0, 0)?)?;
     }
     assert_eq!(rt; register.len(), 4_096);
-    for (elevation, refusal) in [
+    for (elevation, wanted) in [
         (0, AmendRefusal::RegisterFull),
         (200_001, AmendRefusal::ElevationRange),
     ] {
         let a = airport("B", 0, 0, elevation)?;
-        assert_eq!(rt;
-            register.amend(rt.alloc(), &a).err(),
-            Some(refusal),
-            "{a:?}"
-        );
+        assert_eq!(rt; refusal(&rt, &mut register, &a), Some(wanted), "{a:?}");
     }
     // One that is there is changed, and one that is taken out makes room.
-    register.amend(rt.alloc(), &airport("A0", 0, 0, 10)?)?;
-    register.amend(rt.alloc(), &Amendment::Drop(FieldId::new(b"A0")?))?;
-    register.amend(rt.alloc(), &airport("B", 0, 0, 0)?)?;
+    accept(&rt, &mut register, airport("A0", 0, 0, 10)?)?;
+    accept(&rt, &mut register, Amendment::Drop(FieldId::new(b"A0")?))?;
+    accept(&rt, &mut register, airport("B", 0, 0, 0)?)?;
     assert_eq!(rt; register.len(), 4_096);
     Ok(())
 }
