@@ -22,7 +22,7 @@ impl Airfield {
 
 impl Amendment {
     /// The name of the airfield that the amendment is about.
-    pub fn id(&self) -> &FieldId
+    pub(crate) fn id(&self) -> &FieldId
         ensures { result.now ≡ amended_id self.now }
     {
         match self {

@@ -30,4 +30,6 @@ pub use runways::Runways;
 pub use structure::{Filing, Flags, StructureKind};
 
 #[cfg(test)]
+mod limit_tests;
+#[cfg(test)]
 mod tests;

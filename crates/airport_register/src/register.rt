@@ -145,10 +145,10 @@ impl Register {
     {
         match place(self.items.as_slice(), id) {
             Ok(i) => {
-                let before = self.items.remove(i);
+                let taken = self.items.remove(i);
                 Changed {
                     id: *id,
-                    before: Some(before),
+                    before: Some(taken),
                     after: None,
                 }
             }

@@ -6,17 +6,17 @@ use Rattle.airport_register.proofs.register.Register.remove.Goals as goal
 pub invariant_of-self : goal.invariant_of-self
 invariant_of-self c =
     register_removed c.args.id.now _ _ c.self.invariant
-    (field_removed arc_value c.args.id.now _ _ _ c.in-Ok.i c.remove-before.result c.self.invariant c.as_slice.ensures.value c.remove-before.ensures.items c.in-Ok.ensures.within c.in-Ok.ensures.found)
+    (field_removed arc_value c.args.id.now _ _ _ c.in-Ok.i c.remove-taken.result c.self.invariant c.as_slice.ensures.value c.remove-taken.ensures.items c.in-Ok.ensures.within c.in-Ok.ensures.found)
 
 pub returns-in-Ok-clause-removed : goal.returns-in-Ok-clause-removed
 returns-in-Ok-clause-removed c =
     rw (← c.self.view_is)
-    (field_removed arc_value c.args.id.now _ _ _ c.in-Ok.i c.remove-before.result c.self.invariant c.as_slice.ensures.value c.remove-before.ensures.items c.in-Ok.ensures.within c.in-Ok.ensures.found)
+    (field_removed arc_value c.args.id.now _ _ _ c.in-Ok.i c.remove-taken.result c.self.invariant c.as_slice.ensures.value c.remove-taken.ensures.items c.in-Ok.ensures.within c.in-Ok.ensures.found)
 
 pub returns-in-Ok-clause-change : goal.returns-in-Ok-clause-change
 returns-in-Ok-clause-change c =
-    let gone = field_removed arc_value c.args.id.now _ _ _ c.in-Ok.i c.remove-before.result c.self.invariant c.as_slice.ensures.value c.remove-before.ensures.items c.in-Ok.ensures.within c.in-Ok.ensures.found in
-    let read = field_read arc_value c.args.id.now _ _ c.in-Ok.i c.remove-before.result (arc_value c.remove-before.result) c.self.invariant c.as_slice.ensures.value c.remove-before.ensures.value refl c.in-Ok.ensures.within c.in-Ok.ensures.found in
+    let gone = field_removed arc_value c.args.id.now _ _ _ c.in-Ok.i c.remove-taken.result c.self.invariant c.as_slice.ensures.value c.remove-taken.ensures.items c.in-Ok.ensures.within c.in-Ok.ensures.found in
+    let read = field_read arc_value c.args.id.now _ _ c.in-Ok.i c.remove-taken.result (arc_value c.remove-taken.result) c.self.invariant c.as_slice.ensures.value c.remove-taken.ensures.value refl c.in-Ok.ensures.within c.in-Ok.ensures.found in
     record {
       named = refl;
       was = rw (← c.self.view_is) (sym read);
