@@ -5,9 +5,10 @@ use Rattle.std.proofs.lemmas.Int.{ints, by_lt_z}
 use Rattle.grid_exact.specs.Vector.{length_of}
 use Rattle.grid_exact.proofs.RootSums.{le_from_squares}
 use Rattle.airport_register.specs.declared.runway.Runway.{Runway}
-use Rattle.airport_register.specs.Runways.{IsLong, apart, length_square}
+use Rattle.airport_register.specs.Runways.{apart, length_square}
 use Rattle.imaginary_surfaces.specs.declared.end.End.{End}
 use Rattle.imaginary_surfaces.specs.declared.end.End.TheVariants.{One, Two}
+use Rattle.imaginary_surfaces.specs.Proper.{IsWithinLength}
 use Rattle.imaginary_surfaces.specs.Lines.{IsSquare}
 use Rattle.imaginary_surfaces.specs.Centers.{IsCenter, center, extended}
 use Rattle.imaginary_surfaces.specs.Strips.{AreCenters, center_x, center_y, centers, other}
@@ -62,10 +63,10 @@ part_x r = omega arith
 pub part_y : (r : Runway) → apart r.end1.at.y r.end2.at.y * apart r.end1.at.y r.end2.at.y ≤ length_square r
 part_y r = omega arith
 
-pub length_is_square : (r : Runway) → IsLong r → IsSquare (length_square r)
+pub length_is_square : (r : Runway) → IsWithinLength r → IsSquare (length_square r)
 length_is_square r h = record { some = omega (arith, h.least); size = omega (arith, h.most) }
 
-pub axis_square : (r : Runway) → IsLong r → IsSquare (length_of (center_x r One -ℤ center_x r Two) (center_y r One -ℤ center_y r Two))
+pub axis_square : (r : Runway) → IsWithinLength r → IsSquare (length_of (center_x r One -ℤ center_x r Two) (center_y r One -ℤ center_y r Two))
 axis_square r h =
     let some : 0 < length_square r = (length_is_square r h).some in
     square_of_spread (apart r.end1.at.x r.end2.at.x) (apart r.end1.at.y r.end2.at.y)
@@ -74,7 +75,7 @@ axis_square r h =
     (center_spreads r.hard r.end1.at.y r.end2.at.y (length_square r) (part_y r) some)
     h.least h.most
 
-pub axis_square_back : (r : Runway) → IsLong r → IsSquare (length_of (center_x r Two -ℤ center_x r One) (center_y r Two -ℤ center_y r One))
+pub axis_square_back : (r : Runway) → IsWithinLength r → IsSquare (length_of (center_x r Two -ℤ center_x r One) (center_y r Two -ℤ center_y r One))
 axis_square_back r h = rw (swapped (center_x r Two) (center_x r One), swapped (center_y r Two) (center_y r One)) (axis_square r h)
 
 -- ---- the centers are where they must be
@@ -82,7 +83,7 @@ center_is : (hard : Bool) (here there : ℤ) (n : ℕ) → unsigned_abs (there -
 center_is true here there n h s = extended_is here there n h s
 center_is false here there n h s = refl
 
-pub centers_are : (r : Runway) → IsLong r → AreCenters r (centers r)
+pub centers_are : (r : Runway) → IsWithinLength r → AreCenters r (centers r)
 centers_are r h =
     let some : 0 < length_square r = (length_is_square r h).some in
     record {
@@ -92,9 +93,9 @@ centers_are r h =
       y2 = center_is r.hard r.end2.at.y r.end1.at.y (length_square r) (part_y r) some;
     }
 
-pub outward_square : (r : Runway) (end : End) → IsLong r → IsSquare (length_of (center_x r end -ℤ center_x r (other end)) (center_y r end -ℤ center_y r (other end)))
+pub outward_square : (r : Runway) (end : End) → IsWithinLength r → IsSquare (length_of (center_x r end -ℤ center_x r (other end)) (center_y r end -ℤ center_y r (other end)))
 outward_square r One h = axis_square r h
 outward_square r Two h = axis_square_back r h
 
-pub runway_square : (r : Runway) → IsLong r → IsSquare (length_of (r.end2.at.x -ℤ r.end1.at.x) (r.end2.at.y -ℤ r.end1.at.y))
+pub runway_square : (r : Runway) → IsWithinLength r → IsSquare (length_of (r.end2.at.x -ℤ r.end1.at.x) (r.end2.at.y -ℤ r.end1.at.y))
 runway_square r h = rw (swapped r.end2.at.x r.end1.at.x, swapped r.end2.at.y r.end1.at.y) (length_is_square r h)

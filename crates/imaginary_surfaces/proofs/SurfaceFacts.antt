@@ -1,5 +1,5 @@
 -- What covers a point, as the tests compute it, and excesses by them.
-use Rattle.std.proofs.Common.{◌≡◌, ℕ, ℤ, pos, ◌*◌, ◌-ℤ◌, ◌*ℤ◌, ◌≤◌, ◌^◌, sym, Option, true, int_le, int_lt}
+use Rattle.std.proofs.Common.{◌≡◌, ℕ, ℤ, pos, ◌*◌, ◌*ℤ◌, ◌≤◌, ◌^◌, sym, Option, true, int_le, int_lt}
 use Rattle.std.specs.Prelude.{IfSome}
 use Rattle.grid_exact.specs.Excess.{IsExcess, is_at_most_root}
 use Rattle.grid_exact.specs.declared.point.Point.{Point}
@@ -10,7 +10,7 @@ use Rattle.imaginary_surfaces.specs.declared.end.End.{End}
 use Rattle.imaginary_surfaces.specs.Lines.{Line, along, aside, square}
 use Rattle.imaginary_surfaces.specs.Centerlines.{Profile, elevation}
 use Rattle.imaginary_surfaces.specs.Primaries.{Primary, PrimaryCovers, primary_covers}
-use Rattle.imaginary_surfaces.specs.Approaches.{Approach, ApproachCovers, approach_covers, slope_at, base_at}
+use Rattle.imaginary_surfaces.specs.Approaches.{Approach, ApproachCovers, approach_covers, outside, slope_at, base_at}
 use Rattle.imaginary_surfaces.specs.Strips.{primary_of, approach_of, primary_surface, approach_surface, primary_excess, approach_excess}
 use Rattle.imaginary_surfaces.proofs.TestFacts.{all_true, at_most_in, at_most_out, first_true, le_in, le_out, lt_in, lt_out, second_true, third_true}
 
@@ -39,7 +39,7 @@ unfolding approach_covers
 approach_out a x h =
     let m = along a.line x in
     let n = square a.line in
-    let out = pos (40 * aside a.line x) -ℤ a.class.k *ℤ m in
+    let out = outside a x in
     all_true (int_lt (pos 0) m) (is_at_most_root m a.class.length n) (is_at_most_root out (pos 20 *ℤ a.width) n)
     (lt_out (pos 0) m h.ahead) (at_most_out m a.class.length n h.not_past) (at_most_out out (pos 20 *ℤ a.width) n h.not_beside)
 
@@ -48,7 +48,7 @@ unfolding approach_covers
 approach_in a x h =
     let m = along a.line x in
     let n = square a.line in
-    let out = pos (40 * aside a.line x) -ℤ a.class.k *ℤ m in
+    let out = outside a x in
     let b = int_lt (pos 0) m in
     let d = is_at_most_root m a.class.length n in
     let e = is_at_most_root out (pos 20 *ℤ a.width) n in

@@ -16,11 +16,15 @@ pub record Approach : Type 0 where
   pub class : EndClass
   pub z : ℤ
 
+-- forty times how far the point is to a side, less what forty times the half width has grown there, times the vector's length
+abbrev pub outside : Approach → Point → ℤ
+outside a x = pos (40 * aside a.line x) -ℤ a.class.k *ℤ along a.line x
+
 -- it covers the points ahead of the end, up to its length, within the half width that grows by k in 40
 pub record ApproachCovers (a : Approach) (x : Point) : Type 0 where
   pub ahead : pos 0 <ℤ along a.line x
   pub not_past : AtMostRoot (along a.line x) a.class.length (square a.line)
-  pub not_beside : AtMostRoot (pos (40 * aside a.line x) -ℤ a.class.k *ℤ along a.line x) (pos 20 *ℤ a.width) (square a.line)
+  pub not_beside : AtMostRoot (outside a x) (pos 20 *ℤ a.width) (square a.line)
 
 -- the point is where a precision approach has its second slope: past the first 10,000 feet; of the other approaches it is past
 -- the whole surface
@@ -57,7 +61,8 @@ unfoldable pub approach_covers : Approach → Point → Bool
 approach_covers a x =
     int_lt (pos 0) (along a.line x)
     && is_at_most_root (along a.line x) a.class.length (square a.line)
-    && is_at_most_root (pos (40 * aside a.line x) -ℤ a.class.k *ℤ along a.line x) (pos 20 *ℤ a.width) (square a.line)
+    && is_at_most_root (outside a x) (pos 20 *ℤ a.width) (square a.line)
 
 abbrev pub excess_over_approach : Approach → Point → ℤ → Option ℕ
-excess_over_approach a x top = root_excess_of (approach_covers a x) (along a.line x) (slope_at a x) (slope_at a x *ℤ base_at a x) (square a.line) top
+excess_over_approach a x top =
+    root_excess_of (approach_covers a x) (along a.line x) (slope_at a x) (slope_at a x *ℤ base_at a x) (square a.line) top

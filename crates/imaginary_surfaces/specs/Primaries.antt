@@ -31,7 +31,9 @@ pub record IsWidth (width : ℤ) : Type 0 where
 
 unfoldable pub primary_covers : Primary → Point → Bool
 primary_covers p x =
-    int_le (pos 0) (along p.line x) && int_le (along p.line x) (pos (square p.line)) && is_at_most_root (pos (2 * aside p.line x)) p.width (square p.line)
+    int_le (pos 0) (along p.line x)
+    && int_le (along p.line x) (pos (square p.line))
+    && is_at_most_root (pos (2 * aside p.line x)) p.width (square p.line)
 
 abbrev pub excess_over_primary : Primary → Point → ℤ → Option ℕ
 excess_over_primary p x top = flat_excess_of (primary_covers p x) (elevation p.profile x) top

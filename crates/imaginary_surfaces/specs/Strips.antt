@@ -74,7 +74,12 @@ unfoldable pub primary_of : Runway → Primary
 primary_of r = record { line = line_between r One One Two; width = (class_of r).width; profile = profile_of r }
 
 unfoldable pub approach_of : Runway → End → Approach
-approach_of r end = record { line = line_between r end (other end) end; width = (class_of r).width; class = end_class_of r end; z = (end_of r end).z }
+approach_of r end = record {
+  line = line_between r end (other end) end;
+  width = (class_of r).width;
+  class = end_class_of r end;
+  z = (end_of r end).z;
+}
 
 -- the surfaces at a point
 abbrev pub primary_surface : Runway → Point → Surface

@@ -31,21 +31,20 @@ struct Rise {
 }
 
 impl ApproachSurface {
-    ghost use Rattle.imaginary_surfaces.specs.Lines.{along as along_of, aside as aside_of, square as square_of};
-    ghost use Rattle.imaginary_surfaces.specs.Axes.{line_of};
-    ghost use Rattle.imaginary_surfaces.specs.Approaches.{ApproachCovers, approach, is_past_split as is_past_split_of, slope_at, base_at};
+    ghost use Rattle.imaginary_surfaces.specs.Axes.{axis_along, axis_square};
+    ghost use Rattle.imaginary_surfaces.specs.Approaches.{ApproachCovers, approach, outside as outside_of, is_past_split as is_past_split_of, slope_at, base_at};
     ghost use Rattle.imaginary_surfaces.specs.Shapes.{approach_shape};
 
     /// Whether a point is ahead of the end.
     fn is_ahead(&self, point: &Point) -> bool
-        ensures { IsTrue result ↔ (pos 0 <ℤ along_of (line_of self.now.axis) point.now) }
+        ensures { IsTrue result ↔ (pos 0 <ℤ axis_along self.now.axis point.now) }
     {
         0 < self.axis.along(point)
     }
 
     /// Whether a point is not past its outer end.
     fn is_not_past(&self, point: &Point) -> bool
-        ensures { IsTrue result ↔ AtMostRoot (along_of (line_of self.now.axis) point.now) self.now.class.length (square_of (line_of self.now.axis)) }
+        ensures { IsTrue result ↔ AtMostRoot (axis_along self.now.axis point.now) self.now.class.length (axis_square self.now.axis) }
     {
         is_at_most_root(
             self.axis.along(point),
@@ -56,7 +55,7 @@ impl ApproachSurface {
 
     /// How far a point is to a side less what the half width has grown, in fortieths, times the vector's length.
     fn outside(&self, point: &Point) -> i128
-        ensures value { result ≡ pos (40 * aside_of (line_of self.now.axis) point.now) -ℤ self.now.class.k *ℤ along_of (line_of self.now.axis) point.now }
+        ensures value { result ≡ outside_of (approach_shape self.now) point.now }
         ensures size { unsigned_abs result ≤ 2 ^ 62 }
     {
         minus(
@@ -67,7 +66,7 @@ impl ApproachSurface {
 
     /// Whether a point is within the half width there.
     fn is_not_beside(&self, point: &Point) -> bool
-        ensures { IsTrue result ↔ AtMostRoot (pos (40 * aside_of (line_of self.now.axis) point.now) -ℤ self.now.class.k *ℤ along_of (line_of self.now.axis) point.now) (pos 20 *ℤ self.now.width) (square_of (line_of self.now.axis)) }
+        ensures { IsTrue result ↔ AtMostRoot (outside_of (approach_shape self.now) point.now) (pos 20 *ℤ self.now.width) (axis_square self.now.axis) }
     {
         is_at_most_root(
             self.outside(point),

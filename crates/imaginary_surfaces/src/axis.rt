@@ -16,12 +16,11 @@ pub(crate) struct Axis {
 }
 
 impl Axis {
-    ghost use Rattle.imaginary_surfaces.specs.Lines.{along as along_of, aside as aside_of, square as square_of};
-    ghost use Rattle.imaginary_surfaces.specs.Axes.{line_of};
+    ghost use Rattle.imaginary_surfaces.specs.Axes.{axis_along, axis_aside, axis_square};
 
     /// How far a point is from the start in the line's direction, times the vector's length.
     pub(crate) fn along(&self, point: &Point) -> i128
-        ensures value { result ≡ along_of (line_of self.now) point.now }
+        ensures value { result ≡ axis_along self.now point.now }
         ensures size { unsigned_abs result ≤ 2 ^ 55 }
     {
         self.from.to_point(point).dot(&self.way)
@@ -29,7 +28,7 @@ impl Axis {
 
     /// How far a point is to a side of the line, times the vector's length.
     pub(crate) fn aside(&self, point: &Point) -> i128
-        ensures value { result ≡ pos (aside_of (line_of self.now) point.now) }
+        ensures value { result ≡ pos (axis_aside self.now point.now) }
         ensures size { unsigned_abs result ≤ 2 ^ 55 }
     {
         self.from.to_point(point).cross(&self.way).abs()
@@ -37,7 +36,7 @@ impl Axis {
 
     /// The square of the vector's length.
     pub(crate) fn square(&self) -> u128
-        ensures value { result ≡ square_of (line_of self.now) }
+        ensures value { result ≡ axis_square self.now }
         ensures size { IsSquare result }
     {
         self.way.square_length()

@@ -19,16 +19,15 @@ pub(crate) struct Centerline {
 }
 
 impl Centerline {
-    ghost use Rattle.imaginary_surfaces.specs.Lines.{along as along_of, square as square_of};
-    ghost use Rattle.imaginary_surfaces.specs.Axes.{line_of};
+    ghost use Rattle.imaginary_surfaces.specs.Axes.{axis_along, axis_square};
     ghost use Rattle.imaginary_surfaces.specs.Centerlines.{clamped, climb as climb_of, elevation as elevation_of};
     ghost use Rattle.imaginary_surfaces.specs.Shapes.{profile};
 
     /// How far along it the point of it lies that is nearest to `point`, times its length.
     fn progress(&self, point: &Point) -> i128
-        ensures value { result ≡ clamped (along_of (line_of self.now.axis) point.now) (square_of (line_of self.now.axis)) }
+        ensures value { result ≡ clamped (axis_along self.now.axis point.now) (axis_square self.now.axis) }
         ensures least { pos 0 ≤ℤ result }
-        ensures most { result ≤ℤ pos (square_of (line_of self.now.axis)) }
+        ensures most { result ≤ℤ pos (axis_square self.now.axis) }
     {
         let along = self.axis.along(point);
         if along < 0 {

@@ -21,28 +21,27 @@ pub(crate) struct PrimarySurface {
 }
 
 impl PrimarySurface {
-    ghost use Rattle.imaginary_surfaces.specs.Lines.{along as along_of, aside as aside_of, square as square_of};
-    ghost use Rattle.imaginary_surfaces.specs.Axes.{line_of};
+    ghost use Rattle.imaginary_surfaces.specs.Axes.{axis_along, axis_aside, axis_square};
     ghost use Rattle.imaginary_surfaces.specs.Primaries.{PrimaryCovers, primary};
     ghost use Rattle.imaginary_surfaces.specs.Shapes.{primary_shape};
 
     /// Whether a point is not before the first end.
     fn is_past_start(&self, point: &Point) -> bool
-        ensures { IsTrue result ↔ (pos 0 ≤ℤ along_of (line_of self.now.axis) point.now) }
+        ensures { IsTrue result ↔ (pos 0 ≤ℤ axis_along self.now.axis point.now) }
     {
         0 <= self.axis.along(point)
     }
 
     /// Whether a point is not past the second end.
     fn is_before_end(&self, point: &Point) -> bool
-        ensures { IsTrue result ↔ (along_of (line_of self.now.axis) point.now ≤ℤ pos (square_of (line_of self.now.axis))) }
+        ensures { IsTrue result ↔ (axis_along self.now.axis point.now ≤ℤ pos (axis_square self.now.axis)) }
     {
         self.axis.along(point) <= self.axis.square() as i128
     }
 
     /// Whether a point is at most half the width from the line.
     fn is_not_beside(&self, point: &Point) -> bool
-        ensures { IsTrue result ↔ AtMostRoot (pos (2 * aside_of (line_of self.now.axis) point.now)) self.now.width (square_of (line_of self.now.axis)) }
+        ensures { IsTrue result ↔ AtMostRoot (pos (2 * axis_aside self.now.axis point.now)) self.now.width (axis_square self.now.axis) }
     {
         let twice = scale(2, self.axis.aside(point));
         is_at_most_root(twice, self.width as i128, self.axis.square())
