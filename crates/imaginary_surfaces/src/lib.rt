@@ -13,3 +13,6 @@ mod strip;
 
 pub use end::End;
 pub use strip::Strip;
+
+#[cfg(test)]
+mod tests;
