@@ -1,5 +1,15 @@
-//! Classes of runway ends under 77.19.
+//! Classes of runways: the widths, lengths and slopes that 77.19(a), (c) and (d) give a runway by its use and by the
+//! approaches to its ends. All lengths are in tenths of a foot.
 #![tactic(auto)]
+
+mod class;
+mod table;
+
+pub use class::{EndClass, PrecisionOnUtility, RunwayClass};
+pub use table::classify;
+
+#[cfg(test)]
+mod tests;
 
 /// The kind of approach that a runway end has or is planned for (77.19), in rising order of precision.
 #[derive(Clone, Copy, Debug, PartialEq, Eq)]

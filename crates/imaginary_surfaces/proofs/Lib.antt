@@ -1,0 +1,5 @@
+pub mod TestFacts
+pub mod CenterFacts
+pub mod AxisFacts
+pub mod ElevationFacts
+pub mod SurfaceFacts

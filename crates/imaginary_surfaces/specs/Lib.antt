@@ -1,0 +1,10 @@
+pub mod Proper
+pub mod Lines
+pub mod Axes
+pub mod Centers
+pub mod Centerlines
+pub mod Primaries
+pub mod Approaches
+pub mod Shapes
+pub mod Strips
+pub mod Prepared

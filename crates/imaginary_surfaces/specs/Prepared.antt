@@ -1,0 +1,16 @@
+-- What is prepared of a runway.
+use Rattle.std.specs.Prelude.{◌≡◌}
+use Rattle.airport_register.specs.declared.runway.Runway.{Runway}
+use Rattle.imaginary_surfaces.specs.Proper.{IsProper}
+use Rattle.imaginary_surfaces.specs.Shapes.{primary_shape, approach_shape}
+use Rattle.imaginary_surfaces.specs.Strips.{primary_of, approach_of}
+use Rattle.imaginary_surfaces.specs.declared.primary.PrimarySurface.{PrimarySurface}
+use Rattle.imaginary_surfaces.specs.declared.approach.ApproachSurface.{ApproachSurface}
+use Rattle.imaginary_surfaces.specs.declared.end.End.TheVariants.{One, Two}
+
+-- the runway keeps its limits, and the surfaces are its own
+pub record IsPrepared (r : Runway) (primary : PrimarySurface) (approach1 approach2 : ApproachSurface) : Type 0 where
+  pub proper : IsProper r
+  pub primary_is : primary_shape primary ≡ primary_of r
+  pub approach1_is : approach_shape approach1 ≡ approach_of r One
+  pub approach2_is : approach_shape approach2 ≡ approach_of r Two

@@ -1,0 +1,92 @@
+//! The surfaces of one runway.
+
+ghost use Rattle.std.specs.Prelude.{◌≡◌};
+ghost use Rattle.grid_exact.specs.Excess.{IsExcess};
+ghost use Rattle.grid_exact.specs.Level.{IsLevel};
+ghost use Rattle.imaginary_surfaces.specs.Proper.{IsProper};
+ghost use Rattle.imaginary_surfaces.specs.Shapes.{approach_shape};
+ghost use Rattle.imaginary_surfaces.specs.Strips.{AreCenters, centers as centers_of, approach_of, primary_surface, approach_surface, primary_excess, approach_excess};
+
+use crate::approach::ApproachSurface;
+use crate::end::End;
+use crate::prepare::{approach, primary};
+use crate::primary::PrimarySurface;
+use airport_register::Runway;
+use grid_exact::Point;
+use std::marker::Model;
+
+/// The imaginary surfaces of a runway, prepared for many points; seen as the runway.
+#[derive(Drop)]
+pub struct Strip {
+    runway: Runway,
+    primary: PrimarySurface,
+    approach1: ApproachSurface,
+    approach2: ApproachSurface,
+}
+
+impl Model for Strip {
+    ghost use Rattle.airport_register.specs.declared.runway.Runway.{Runway};
+    ghost use Rattle.imaginary_surfaces.specs.Prepared.{IsPrepared};
+
+    ghost Value = { Runway };
+
+    ghost view = { λ s. s.runway };
+
+    ghost invariant = { λ s. IsPrepared s.runway s.primary s.approach1 s.approach2 };
+}
+
+impl Strip {
+    /// The surfaces of a runway that keeps the limits of a register's runways.
+    pub fn of(runway: &Runway) -> Strip
+        requires proper { IsProper runway.now }
+        ensures runway { result ≡ runway.now }
+    {
+        Strip {
+            runway: *runway,
+            primary: primary(runway),
+            approach1: approach(runway, End::One),
+            approach2: approach(runway, End::Two),
+        }
+    }
+
+    /// The approach surface of this end.
+    fn approach(&self, end: End) -> &ApproachSurface
+        ensures shape { approach_shape result.now ≡ approach_of self.now end }
+    {
+        match end {
+            End::One => &self.approach1,
+            End::Two => &self.approach2,
+        }
+    }
+
+    /// How far `top` is above the primary surface at a point, in tenths of a foot, rounded down: 77.19(c). `None` where it is not
+    /// above, and where the surface does not cover the point.
+    pub fn excess_primary(&self, x: &Point, top: i64) -> Option<u32>
+        requires top { IsLevel top }
+        ensures exact { IsExcess (primary_surface self.now x.now) top result }
+        ensures value { result ≡ primary_excess self.now x.now top }
+    {
+        self.primary.excess(x, top)
+    }
+
+    /// How far `top` is above the approach surface of an end at a point, in tenths of a foot, rounded down: 77.19(d). `None` where
+    /// it is not above, and where the surface does not cover the point.
+    pub fn excess_approach(&self, end: End, x: &Point, top: i64) -> Option<u32>
+        requires top { IsLevel top }
+        ensures exact { IsExcess (approach_surface self.now end x.now) top result }
+        ensures value { result ≡ approach_excess self.now end x.now top }
+    {
+        self.approach(end).excess(x, top)
+    }
+
+    /// The two ends of the primary surface on the extended centerline, each by its two coordinates: 77.19(c). They are the ends of
+    /// the runway, or 200 feet past them where it has a prepared hard surface, rounded down to whole tenths of a foot.
+    pub fn centers(&self) -> ((i64, i64), (i64, i64))
+        ensures exact { AreCenters self.now result }
+        ensures value { result ≡ centers_of self.now }
+    {
+        let one = self.approach1.axis.from;
+        let two = self.approach2.axis.from;
+        ((one.x, one.y), (two.x, two.y))
+    }
+}
