@@ -1,4 +1,3 @@
-use Rattle.std.proofs.Common.{sym}
 use Rattle.oe_wire.specs.Shape.{WordWanted}
 use Rattle.oe_wire.proofs.FieldFacts.{fits_more, same_field}
 use Rattle.oe_wire.proofs.fields.word.Goals as goal
