@@ -1,7 +1,7 @@
 -- The first field of a record names its form.
-use Rattle.std.proofs.Common.{arith, ℕ, zero, suc, ◌+◌, ◌<◌, ◌≡◌, ◌≢◌, List, [], ◌∷◌, Option, Some, None, slice_get, refl, ap, codes, ◌∙◌, sym, subst, Result, Ok, Err, IfErr}
+use Rattle.std.proofs.Common.{arith, ℕ, ◌≡◌, ◌≢◌, List, Some, None, slice_get, refl, ◌∙◌, sym, subst, Result, Ok, Err, IfErr}
 use Rattle.csv.specs.Records.{field_at}
-use Rattle.oe_wire.specs.Shape.{Wanted, Spelled, FitsAt, FitsBefore, HasShape, FirstBad, IsField}
+use Rattle.oe_wire.specs.Shape.{Spelled, FitsBefore, HasShape, FirstBad, IsField}
 use Rattle.oe_wire.specs.Forms.{form_word, shape_of, IsNoForm, FirstWrong, NoForm, InForm}
 use Rattle.oe_wire.specs.Requests.{spelling, form_of, IsValid, IsGood}
 use Rattle.oe_wire.specs.declared.request.Request.{Request}

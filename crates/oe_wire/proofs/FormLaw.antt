@@ -1,23 +1,21 @@
 -- The first field that leaves the forms is the first that no request with the same earlier fields has.
-use Rattle.std.proofs.Common.{arith, ℕ, zero, suc, ◌+◌, ◌-◌, ◌<◌, ◌≤◌, ◌≡◌, ◌≢◌, ◌≤ℤ◌, List, [], ◌∷◌, Option, Some, None, Bool, true, false, take, drop, length, slice_get, refl, ap, sym, subst, ◌∙◌, inl, inr, codes, ℤ, neg_ℤ, pos, if◌then◌else◌}
+use Rattle.std.proofs.Common.{arith, ℕ, zero, suc, ◌-◌, ◌<◌, ◌≡◌, ◌≢◌, ◌≤ℤ◌, List, [], ◌∷◌, Option, Some, None, true, false, take, slice_get, refl, ap, sym, subst, ◌∙◌, inl, codes, ℤ, neg_ℤ, pos, if◌then◌else◌}
 use Rattle.std.specs.Str.{bytes_eq}
 use Rattle.std.proofs.lemmas.Fmt.{decimal_digit}
 use Rattle.whole_number.specs.Whole.{HasNineDigits}
 use Rattle.grid_exact.specs.Grid.{OnGrid}
 use Rattle.std.proofs.lemmas.Int.{ints}
-use Rattle.std.proofs.lemmas.List.{take-take}
 use Rattle.std.proofs.lemmas.List.Elements.{All-cons, All-nil}
-use Rattle.std.proofs.lemmas.Bool.{cases_lt}
 use Rattle.std.specs.Fmt.{signed_decimal}
 use Rattle.csv.specs.Records.{field_at}
 use Rattle.runway_classes.specs.declared.ApproachKind.TheVariants.{Visual}
-use Rattle.airport_register.specs.Names.{IsFieldId, IsRunwayName, IsLetterOrDigit, IsRunwayByte}
+use Rattle.airport_register.specs.Names.{IsLetterOrDigit, IsRunwayByte}
 use Rattle.airport_register.specs.declared.category.Category.TheVariants.{PublicUse}
 use Rattle.airport_register.specs.declared.structure.StructureKind.TheVariants.{Object}
 use Rattle.airport_register.specs.declared.amendment.Amendment.TheVariants.{PutAirport, PutRunway, DropRunway, Drop}
-use Rattle.oe_wire.specs.Words.{IsWord, IsWordByte, category_word, approach_word, weight_word, pavement_word}
-use Rattle.oe_wire.specs.Shape.{Wanted, Spelled, Between, FieldIdWanted, RunwayNameWanted, WordWanted, CategoryWanted, WeightWanted, PavementWanted, ApproachWanted, IsBetween, Fits, Matches, FitsAt, FitsBefore, HasShape, FirstBad, IsField}
-use Rattle.oe_wire.specs.Forms.{form_word, shape_of, site_shape, IsNoForm, FirstWrong, NoForm, InForm}
+use Rattle.oe_wire.specs.Words.{IsWordByte, category_word, approach_word, weight_word, pavement_word}
+use Rattle.oe_wire.specs.Shape.{Wanted, Spelled, Between, FieldIdWanted, RunwayNameWanted, WordWanted, CategoryWanted, WeightWanted, PavementWanted, ApproachWanted, IsBetween, Fits, Matches, FitsAt, FirstBad, IsField}
+use Rattle.oe_wire.specs.Forms.{form_word, shape_of, site_shape, FirstWrong, NoForm, InForm}
 use Rattle.oe_wire.specs.Requests.{site_spelling, spelling, form_of, IsValid, IsValidSite, IsGood, IsFirstWithout}
 use Rattle.airport_register.specs.Sites.{Site}
 use Rattle.oe_wire.specs.declared.form.Form.{Form}

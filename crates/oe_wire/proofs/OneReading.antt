@@ -1,11 +1,11 @@
 -- A line is the record of a request or leaves the forms at one field.
-use Rattle.std.proofs.Common.{arith, ℕ, ◌+◌, ◌-◌, ◌<◌, ◌≤◌, ◌≡◌, ◌≢◌, List, [], Option, Some, None, length, take, refl, ap, sym, subst, ◌∙◌, ◌⊎◌, inl, inr}
+use Rattle.std.proofs.Common.{arith, ℕ, ◌-◌, ◌<◌, ◌≤◌, ◌≡◌, ◌≢◌, List, [], Some, None, length, take, ap, sym, subst, ◌∙◌, inl, inr}
 use Rattle.std.proofs.lemmas.Bool.{cases_lt}
 use Rattle.std.proofs.lemmas.List.{take-take}
 use Rattle.record_fields.specs.Fields.{one_record}
 use Rattle.record_fields.proofs.PlainFacts.{no_record}
 use Rattle.oe_wire.specs.Forms.{FirstWrong, NoForm, InForm}
-use Rattle.oe_wire.specs.Requests.{spelling, IsGood, IsFirstWithout, IsRecord, IsMalformed, Long, Empty, NotOne, Wrong}
+use Rattle.oe_wire.specs.Requests.{spelling, IsRecord, IsMalformed, Long, Empty, NotOne, Wrong}
 use Rattle.oe_wire.specs.declared.request.Request.{Request}
 use Rattle.oe_wire.proofs.FormLaw.{first_without}
 use Rattle.oe_wire.proofs.OneRequest.{one_request}

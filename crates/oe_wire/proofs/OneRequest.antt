@@ -1,5 +1,5 @@
 -- A request is known by its spelling.
-use Rattle.std.proofs.Common.{arith, ℕ, ◌≡◌, ◌≤ℤ◌, ℤ, pos, List, [], ◌∷◌, Option, Some, None, Bool, true, false, get_or, drop, refl, ap, sym, subst, ◌∙◌, codes, if◌then◌else◌, inl, inr}
+use Rattle.std.proofs.Common.{arith, ℕ, ◌≡◌, ◌≤ℤ◌, ℤ, pos, List, [], Option, Some, None, Bool, true, false, get_or, drop, refl, ap, sym, subst, ◌∙◌, codes, if◌then◌else◌, inl, inr}
 use Rattle.std.proofs.lemmas.Int.{ints}
 use Rattle.std.proofs.lemmas.Fmt.{signed_decimal_injective}
 use Rattle.std.specs.Fmt.{signed_decimal}
@@ -11,7 +11,7 @@ use Rattle.grid_exact.specs.Grid.{OnGrid}
 use Rattle.grid_exact.specs.declared.point.Point.{Point}
 use Rattle.runway_classes.specs.declared.ApproachKind.{ApproachKind}
 use Rattle.runway_classes.specs.declared.ApproachKind.TheVariants as approaches
-use Rattle.airport_register.specs.Names.{IsFieldId, IsLetterOrDigit}
+use Rattle.airport_register.specs.Names.{IsFieldId}
 use Rattle.airport_register.specs.Sites.{Site, IsSite, greatest_mobile}
 use Rattle.airport_register.specs.declared.category.Category.{Category}
 use Rattle.airport_register.specs.declared.category.Category.TheVariants as categories

@@ -6,9 +6,9 @@ ghost use Rattle.oe_wire.specs.Rows.{airfield_row};
 
 use crate::entry::{push_entries, push_number};
 use crate::reply::{Outcome, Plain, Refusal, Reply};
-use grid_exact::{NoMemory, Text};
 use crate::row::push_row;
 use airport_register::Airfield;
+use grid_exact::{NoMemory, Text};
 use oe_findings::{Finding, Verdict};
 use std::alloc::Global;
 

@@ -253,7 +253,10 @@ fn questions(rt: HostRuntime) {
         assert!(rt; false, "it asks for a verdict");
         return;
     };
-    assert_eq!(rt; [filing.at.x, filing.at.y, filing.ground, filing.height], [-1, 2, 3, 4]);
+    assert_eq!(rt;
+        [filing.at.x, filing.at.y, filing.ground, filing.height],
+        [-1, 2, 3, 4]
+    );
     let line = b"airfield,A1";
     let Query::Airfield(id) = query_of(rt.alloc(), line).expect(&rt, "it is a record") else {
         assert!(rt; false, "it asks for an airfield");
@@ -566,10 +569,7 @@ fn rows_of_airports(rt: HostRuntime) {
             Category::MilitaryBuilding,
             b"airfield,airport,military,-5,7,-20000\n",
         ),
-        (
-            Category::Federal,
-            b"airfield,airport,federal,-5,7,-20000\n",
-        ),
+        (Category::Federal, b"airfield,airport,federal,-5,7,-20000\n"),
         (Category::Dod, b"airfield,airport,dod,-5,7,-20000\n"),
         (
             Category::Procedure,

@@ -1,5 +1,5 @@
 use Rattle.oe_wire.specs.Shape.{WordWanted}
-use Rattle.oe_wire.proofs.FieldFacts.{fits_more, same_field}
+use Rattle.oe_wire.proofs.FieldFacts.{fits_more}
 use Rattle.oe_wire.proofs.fields.word.Goals as goal
 
 pub returns-in-Some-clause-fits : goal.returns-in-Some-clause-fits
