@@ -329,9 +329,10 @@ fn drops(rt: HostRuntime) {
     ];
     for (line, want) in table {
         let change = change_of(rt.alloc(), line).expect(&rt, "it is a record");
-        let Act::Amend(amendment) = change.act;
-        assert_eq!(rt; change.caller.as_bytes(), b"u".as_slice());
-        assert_eq!(rt; change.key.as_bytes(), b"k".as_slice());
+        let Change { caller, key, act } = change;
+        let Act::Amend(amendment) = act;
+        assert_eq!(rt; caller.as_bytes(), b"u".as_slice());
+        assert_eq!(rt; key.as_bytes(), b"k".as_slice());
         assert_eq!(rt; amendment, want);
     }
 }
