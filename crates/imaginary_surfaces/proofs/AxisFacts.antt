@@ -8,7 +8,7 @@ use Rattle.airport_register.specs.declared.runway.Runway.{Runway}
 use Rattle.airport_register.specs.Runways.{apart, length_square}
 use Rattle.imaginary_surfaces.specs.declared.end.End.{End}
 use Rattle.imaginary_surfaces.specs.declared.end.End.TheVariants.{One, Two}
-use Rattle.imaginary_surfaces.specs.Proper.{IsWithinLength}
+use Rattle.airport_register.specs.Runways.{IsWithinLength}
 use Rattle.imaginary_surfaces.specs.Lines.{IsSquare}
 use Rattle.imaginary_surfaces.specs.Centers.{IsCenter, center, extended}
 use Rattle.imaginary_surfaces.specs.Strips.{AreCenters, center_x, center_y, centers, other}

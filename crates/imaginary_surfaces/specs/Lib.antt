@@ -1,4 +1,3 @@
-pub mod Proper
 pub mod Lines
 pub mod Axes
 pub mod Centers

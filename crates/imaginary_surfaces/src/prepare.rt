@@ -2,7 +2,7 @@
 
 ghost use Rattle.std.specs.Prelude.{◌≡◌};
 ghost use Rattle.runway_classes.specs.Class.{IsSized, HasSizes};
-ghost use Rattle.imaginary_surfaces.specs.Proper.{IsProper};
+ghost use Rattle.airport_register.specs.Runways.{IsProper};
 ghost use Rattle.imaginary_surfaces.specs.Axes.{line_of};
 ghost use Rattle.imaginary_surfaces.specs.Shapes.{profile, primary_shape, approach_shape};
 ghost use Rattle.imaginary_surfaces.specs.Strips.{other as other_of, end_of as end_of_spec, center_x, center_y, line_between, class_of, end_class_of, profile_of, primary_of, approach_of};

@@ -3,7 +3,7 @@
 ghost use Rattle.std.specs.Prelude.{◌≡◌};
 ghost use Rattle.grid_exact.specs.Excess.{IsExcess};
 ghost use Rattle.grid_exact.specs.Level.{IsLevel};
-ghost use Rattle.imaginary_surfaces.specs.Proper.{IsProper};
+ghost use Rattle.airport_register.specs.Runways.{IsProper};
 ghost use Rattle.imaginary_surfaces.specs.Shapes.{approach_shape};
 ghost use Rattle.imaginary_surfaces.specs.Strips.{AreCenters, centers as centers_of, approach_of, primary_surface, approach_surface, primary_excess, approach_excess};
 

@@ -3,14 +3,16 @@
 ghost use Rattle.std.specs.Prelude.{◌≡◌, ◌++◌, [], List, OnOk, OnErr};
 ghost use Rattle.std.specs.List.{All, flat_map};
 ghost use Rattle.airport_register.specs.Airfields.{IsHeld};
-ghost use Rattle.oe_findings.specs.List.{entries, findings_of, of_airfield};
+ghost use Rattle.airport_register.specs.Runways.{IsProper};
+ghost use Rattle.oe_findings.specs.List.{entries, findings_of, of_airfield, of_runway, of_runways};
 ghost use Rattle.oe_findings.specs.declared.finding.Finding.{Finding as AFinding};
 
 use crate::collector::Collector;
 use crate::finding::{Finding, Rule, SurfaceKey};
-use airport_register::{Airfield, FieldId, Filing, Register};
+use airport_register::{Airfield, Airport, FieldId, Filing, Register, Runway};
 use grid_exact::NoMemory;
-use height_rules::{excess_200, excess_499, excess_near_airport};
+use height_rules::{excess_200, excess_499, excess_near_airport, top_for_standards};
+use imaginary_surfaces::{End, Strip};
 
 const NO_KEY: SurfaceKey = SurfaceKey {
     field: None,
@@ -34,8 +36,47 @@ fn put_entry<C: Collector>(
     Ok(())
 }
 
+/// Puts the entries of one runway behind the others.
+fn put_runway<C: Collector>(
+    out: &mut C,
+    filing: &Filing,
+    field: FieldId,
+    runway: &Runway,
+) -> Result<(), NoMemory>
+    requires proper { IsProper runway.now }
+    ensures taken { OnOk result ((list : List AFinding) → C.taken out.old list → C.taken out.new (list ++ of_runway field filing.now runway.now)) }
+    ensures fails { OnErr result C.fails }
+{
+    let strip = Strip::of(runway);
+    let top = top_for_standards(filing);
+    let key = |part| SurfaceKey {
+        field: Some(field),
+        runway: Some(runway.name),
+        part,
+    };
+    put_entry(out, Rule::Primary, key(0), strip.excess_primary(&filing.at, top))?;
+    put_entry(out, Rule::Approach, key(1), strip.excess_approach(End::One, &filing.at, top))?;
+    put_entry(out, Rule::Approach, key(2), strip.excess_approach(End::Two, &filing.at, top))
+}
+
+/// Puts the entries of the runways of an airport behind the others, in order of name.
+fn put_runways<C: Collector>(out: &mut C, filing: &Filing, airport: &Airport) -> Result<(), NoMemory>
+    requires proper { All IsProper airport.now.runways }
+    ensures taken { OnOk result ((list : List AFinding) → C.taken out.old list → C.taken out.new (list ++ of_runways filing.now airport.now)) }
+    ensures fails { OnErr result C.fails }
+{
+    if !airport.category.civil_surfaces() {
+        return Ok(());
+    }
+    for runway in airport.runways.as_slice() {
+        put_runway(out, filing, airport.id, runway)?;
+    }
+    Ok(())
+}
+
 /// Puts the entries of one airfield behind the others.
 fn put_airfield<C: Collector>(out: &mut C, filing: &Filing, airfield: &Airfield) -> Result<(), NoMemory>
+    requires held { IsHeld airfield.now }
     ensures taken { OnOk result ((list : List AFinding) → C.taken out.old list → C.taken out.new (list ++ of_airfield filing.now airfield.now)) }
     ensures fails { OnErr result C.fails }
 {
@@ -46,7 +87,8 @@ fn put_airfield<C: Collector>(out: &mut C, filing: &Filing, airfield: &Airfield)
                 runway: None,
                 part: 0,
             };
-            put_entry(out, Rule::Near, key, excess_near_airport(airport, filing))
+            put_entry(out, Rule::Near, key, excess_near_airport(airport, filing))?;
+            put_runways(out, filing, airport)
         }
         Airfield::Heliport(_) => Ok(()),
     }

@@ -13,7 +13,11 @@ use Rattle.oe_wire.proofs.FieldFacts.{fits_more}
 pub first_wanted : (form : Form) → slice_get (shape_of form) 0 ≡ Some (Spelled (form_word form))
 first_wanted forms.Airport = refl
 first_wanted forms.Runway = refl
+first_wanted forms.DropRunway = refl
+first_wanted forms.Drop = refl
 first_wanted forms.Screen = refl
+first_wanted forms.Verdict = refl
+first_wanted forms.Airfield = refl
 
 pub form_begun : (form : Form) (fields : List (List ℕ)) → IsField fields 0 (form_word form) → FitsBefore (shape_of form) fields 1
 form_begun form fields f = fits_more (shape_of form) fields 0 (Spelled (form_word form)) (form_word form) (record { each = λ j lt. absurd (omega (arith, lt)) }) (first_wanted form) f refl

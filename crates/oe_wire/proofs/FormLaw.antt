@@ -12,11 +12,12 @@ use Rattle.runway_classes.specs.declared.ApproachKind.TheVariants.{Visual}
 use Rattle.airport_register.specs.Names.{IsLetterOrDigit, IsRunwayByte}
 use Rattle.airport_register.specs.declared.category.Category.TheVariants.{PublicUse}
 use Rattle.airport_register.specs.declared.structure.StructureKind.TheVariants.{Object}
-use Rattle.airport_register.specs.declared.amendment.Amendment.TheVariants.{PutAirport, PutRunway}
+use Rattle.airport_register.specs.declared.amendment.Amendment.TheVariants.{PutAirport, PutRunway, DropRunway, Drop}
 use Rattle.oe_wire.specs.Words.{IsWordByte, category_word, approach_word, weight_word, pavement_word}
 use Rattle.oe_wire.specs.Shape.{Wanted, Spelled, Between, FieldIdWanted, RunwayNameWanted, WordWanted, CategoryWanted, WeightWanted, PavementWanted, ApproachWanted, IsBetween, Fits, Matches, FitsAt, FirstBad, IsField}
-use Rattle.oe_wire.specs.Forms.{form_word, shape_of, FirstWrong, NoForm, InForm}
-use Rattle.oe_wire.specs.Requests.{spelling, form_of, IsValid, IsGood, IsFirstWithout}
+use Rattle.oe_wire.specs.Forms.{form_word, shape_of, site_shape, FirstWrong, NoForm, InForm}
+use Rattle.oe_wire.specs.Requests.{site_spelling, spelling, form_of, IsValid, IsValidSite, IsGood, IsFirstWithout}
+use Rattle.airport_register.specs.Sites.{Site}
 use Rattle.oe_wire.specs.declared.form.Form.{Form}
 use Rattle.oe_wire.specs.declared.form.Form.TheVariants as forms
 use Rattle.oe_wire.specs.declared.request.Request.{Request}
@@ -78,6 +79,9 @@ examples : (ws : List Wanted) → AllCanBe ws → Values ws
 examples [] can = tt
 examples (w ∷ ws) can = (example w can.0, examples ws can.1)
 
+site_can_be : AllCanBe site_shape
+site_can_be = (omega (arith, ints), (omega (arith, ints), (omega (arith, ints), (omega (arith, ints), (tt, (tt, (tt, (tt, tt))))))))
+
 form_example : (form : Form) → Values (shape_of form)
 form_example forms.Airport = examples (shape_of forms.Airport) (tt, (tt, (tt, (tt, (tt, (omega (arith, ints), (omega (arith, ints), (omega (arith, ints), tt))))))))
 form_example forms.Runway = examples (shape_of forms.Runway) (
@@ -111,13 +115,50 @@ form_example forms.Runway = examples (shape_of forms.Runway) (
     ),
   ),
 )
-form_example forms.Screen = examples (shape_of forms.Screen) (tt, (omega (arith, ints), (omega (arith, ints), (omega (arith, ints), (omega (arith, ints), (tt, (tt, (tt, (tt, tt)))))))))
+form_example forms.DropRunway = examples (shape_of forms.DropRunway) (tt, (tt, (tt, (tt, (tt, tt)))))
+form_example forms.Drop = examples (shape_of forms.Drop) (tt, (tt, (tt, (tt, tt))))
+form_example forms.Screen = examples (shape_of forms.Screen) (tt, site_can_be)
+form_example forms.Verdict = examples (shape_of forms.Verdict) (tt, site_can_be)
+form_example forms.Airfield = examples (shape_of forms.Airfield) (tt, (tt, tt))
 
 on_grid : {x y : ℤ} → IsBetween (neg_ℤ (pos 20000000)) (pos 20000000) x → IsBetween (neg_ℤ (pos 20000000)) (pos 20000000) y → OnGrid x y
 on_grid h k = record { west = h.0; east = h.1; south = k.0; north = k.1 }
 
 nine_digits : {z : ℤ} → IsBetween (neg_ℤ (pos 999999999)) (pos 999999999) z → HasNineDigits z
 nine_digits h = omega (arith, ints)
+
+-- the fields of a structure are those of a site
+site_of : (v : Values site_shape) → (site : Site) × (texts site_shape v ≡ site_spelling site) × IsValidSite site
+site_of x =
+    let y = x.1 in
+    let terrain = y.1 in
+    let height = terrain.1 in
+    let kind = height.1 in
+    let mobile = kind.1 in
+    let flags = mobile.1 in
+    let on = flags.1 in (
+      record {
+        at = record { x = x.0.1.0; y = y.0.1.0; on_grid = on_grid x.0.1.2 y.0.1.2 };
+        terrain = terrain.0.1.0;
+        height = height.0.1.0;
+        kind = Object;
+        mobile = pos 0;
+        flags = record { shielded = false; device = false; other_rule = false; increases = false; controlled = false; temporary = false };
+        on = None;
+      },
+      rw (x.0.1.1, y.0.1.1, terrain.0.1.1, height.0.1.1, kind.0.1, mobile.0.1, flags.0.1, on.0.1, decimal_digit 0 (omega arith)) refl,
+      (
+        record {
+          terrain_least = terrain.0.1.2.0;
+          terrain_most = terrain.0.1.2.1;
+          height_least = height.0.1.2.0;
+          height_most = height.0.1.2.1;
+          mobile_least = omega (arith, ints);
+          mobile_most = omega (arith, ints);
+        },
+        tt,
+      ),
+    )
 
 -- fields of a form are those of a request
 request_of : (form : Form) (v : Values (shape_of form)) → (r : Request) × (form_of r ≡ form) × (texts (shape_of form) v ≡ spelling r) × IsValid r
@@ -168,38 +209,24 @@ request_of forms.Runway v =
       rw (v.0.1, weight.0.1.1, pavement.0.1.1, x1.0.1.1, y1.0.1.1, z1.0.1.1, kind1.0.1.1, x2.0.1.1, y2.0.1.1, z2.0.1.1, kind2.0.1.1) refl,
       (nine_digits z1.0.1.2, nine_digits z2.0.1.2),
     )
+request_of forms.DropRunway v =
+    let caller = v.1 in
+    let key = caller.1 in
+    let id = key.1 in
+    let name = id.1 in
+    (requests.Change (record { caller = caller.0.0; key = key.0.0; act = acts.Amend (DropRunway id.0.0 name.0.0) }), refl, rw v.0.1 refl, tt)
+request_of forms.Drop v =
+    let caller = v.1 in
+    let key = caller.1 in
+    let id = key.1 in
+    (requests.Change (record { caller = caller.0.0; key = key.0.0; act = acts.Amend (Drop id.0.0) }), refl, rw v.0.1 refl, tt)
 request_of forms.Screen v =
-    let x = v.1 in
-    let y = x.1 in
-    let terrain = y.1 in
-    let height = terrain.1 in
-    let kind = height.1 in
-    let mobile = kind.1 in
-    let flags = mobile.1 in
-    let on = flags.1 in (
-      requests.Query (queries.Screen (record {
-        at = record { x = x.0.1.0; y = y.0.1.0; on_grid = on_grid x.0.1.2 y.0.1.2 };
-        terrain = terrain.0.1.0;
-        height = height.0.1.0;
-        kind = Object;
-        mobile = pos 0;
-        flags = record { shielded = false; device = false; other_rule = false; increases = false; controlled = false; temporary = false };
-        on = None;
-      })),
-      refl,
-      rw (v.0.1, x.0.1.1, y.0.1.1, terrain.0.1.1, height.0.1.1, kind.0.1, mobile.0.1, flags.0.1, on.0.1, decimal_digit 0 (omega arith)) refl,
-      (
-        record {
-          terrain_least = terrain.0.1.2.0;
-          terrain_most = terrain.0.1.2.1;
-          height_least = height.0.1.2.0;
-          height_most = height.0.1.2.1;
-          mobile_least = omega (arith, ints);
-          mobile_most = omega (arith, ints);
-        },
-        tt,
-      ),
-    )
+    let s = site_of v.1 in
+    (requests.Query (queries.Screen s.0), refl, rw v.0.1 (ap (λ t. codes "screen" ∷ t) s.1), s.2)
+request_of forms.Verdict v =
+    let s = site_of v.1 in
+    (requests.Query (queries.Verdict s.0), refl, rw v.0.1 (ap (λ t. codes "verdict" ∷ t) s.1), s.2)
+request_of forms.Airfield v = (requests.Query (queries.Airfield v.1.0.0), refl, rw v.0.1 refl, tt)
 
 field_at_take : (n m : ℕ) (xs : List (List ℕ)) → m < n → field_at (take n xs) m ≡ field_at xs m
 unfolding field_at
@@ -226,13 +253,21 @@ first_good r h = record {
 form_named : List ℕ → Option Form
 form_named word = if bytes_eq word (codes "airport") then Some forms.Airport
     else if bytes_eq word (codes "runway") then Some forms.Runway
-    else if bytes_eq word (codes "screen") then Some forms.Screen else None
+    else if bytes_eq word (codes "droprunway") then Some forms.DropRunway
+    else if bytes_eq word (codes "drop") then Some forms.Drop
+    else if bytes_eq word (codes "screen") then Some forms.Screen
+    else if bytes_eq word (codes "verdict") then Some forms.Verdict
+    else if bytes_eq word (codes "airfield") then Some forms.Airfield else None
 
 named_again : (form : Form) → form_named (form_word form) ≡ Some form
 unfolding form_named
 named_again forms.Airport = refl
 named_again forms.Runway = refl
+named_again forms.DropRunway = refl
+named_again forms.Drop = refl
 named_again forms.Screen = refl
+named_again forms.Verdict = refl
+named_again forms.Airfield = refl
 
 pub one_form : (f g : Form) → form_word f ≡ form_word g → f ≡ g
 one_form f g e = let same : Some f ≡ Some g = sym (named_again f) ∙ ap form_named e ∙ named_again g in cc

@@ -21,15 +21,16 @@ use Rattle.airport_register.specs.declared.structure.Flags.{Flags}
 use Rattle.airport_register.specs.declared.runway.RunwayEnd.{RunwayEnd}
 use Rattle.airport_register.specs.declared.runway.Runway.{Runway}
 use Rattle.airport_register.specs.declared.amendment.Amendment.{Amendment}
-use Rattle.airport_register.specs.declared.amendment.Amendment.TheVariants.{PutAirport, PutRunway}
+use Rattle.airport_register.specs.declared.amendment.Amendment.TheVariants.{PutAirport, PutRunway, DropRunway, Drop}
 use Rattle.csv.specs.Records.{field_at}
 use Rattle.oe_wire.specs.Words.{category_word, approach_word, weight_word, pavement_word, kind_word, flags_text, name_text}
 use Rattle.oe_wire.specs.Forms.{form_word}
-use Rattle.oe_wire.specs.Requests.{site_spelling, amendment_spelling, spelling, form_of, act_spelling, act_form, IsAirfieldName, IsValidAmendment, IsValidAct, IsGood}
+use Rattle.oe_wire.specs.Requests.{site_spelling, amendment_spelling, query_spelling, query_form, spelling, form_of, act_spelling, act_form, IsAirfieldName, IsValidAmendment, IsValidAct, IsGood}
 use Rattle.oe_wire.specs.declared.form.Form.{Form}
 use Rattle.oe_wire.specs.declared.form.Form.TheVariants as forms
 use Rattle.oe_wire.specs.declared.request.Request.{Request}
 use Rattle.oe_wire.specs.declared.request.Request.TheVariants as requests
+use Rattle.oe_wire.specs.declared.request.Query.{Query}
 use Rattle.oe_wire.specs.declared.request.Query.TheVariants as queries
 use Rattle.oe_wire.specs.declared.request.Act.{Act}
 use Rattle.oe_wire.specs.declared.request.Act.TheVariants as acts
@@ -238,13 +239,30 @@ one_amendment caller key name word (PutAirport id c p z) (PutAirport id' c' p' z
     let ps = one_point p p' (at 5 e) (at 6 e) in
     let zs = one_number z z' h k (at 7 e) in
     (at 1 e, at 2 e, let same : PutAirport id c p z ≡ PutAirport id' c' p' z' = cc in same)
-one_amendment caller key name word (PutAirport id c p z) (PutRunway id' r) h k e = two_forms forms.Airport forms.Runway (at 0 e) (λ q. cc)
-one_amendment caller key name word (PutRunway id r) (PutAirport id' c' p' z') h k e = two_forms forms.Runway forms.Airport (at 0 e) (λ q. cc)
 one_amendment caller key name word (PutRunway id r) (PutRunway id' s) h k e =
     let i : id ≡ id' = at 3 e in
     let rs : r ≡ s = same_runway r s (at 4 e) (one_weight r.utility s.utility (at 5 e)) (one_pavement r.hard s.hard (at 6 e))
     (one_end r.end1 s.end1 h.0 k.0 (at 7 e) (at 8 e) (at 9 e) (at 10 e)) (one_end r.end2 s.end2 h.1 k.1 (at 11 e) (at 12 e) (at 13 e) (at 14 e)) in
     (at 1 e, at 2 e, let same : PutRunway id r ≡ PutRunway id' s = cc in same)
+one_amendment caller key name word (DropRunway id n) (DropRunway id' m) h k e =
+    let i : id ≡ id' = at 3 e in
+    let ns : n ≡ m = at 4 e in
+    (at 1 e, at 2 e, let same : DropRunway id n ≡ DropRunway id' m = cc in same)
+one_amendment caller key name word (Drop id) (Drop id') h k e =
+    let i : id ≡ id' = at 3 e in
+    (at 1 e, at 2 e, let same : Drop id ≡ Drop id' = cc in same)
+one_amendment caller key name word (PutAirport id c p z) (PutRunway id' s) h k e = two_forms forms.Airport forms.Runway (at 0 e) (λ q. cc)
+one_amendment caller key name word (PutAirport id c p z) (DropRunway id' m) h k e = two_forms forms.Airport forms.DropRunway (at 0 e) (λ q. cc)
+one_amendment caller key name word (PutAirport id c p z) (Drop id') h k e = two_forms forms.Airport forms.Drop (at 0 e) (λ q. cc)
+one_amendment caller key name word (PutRunway id r) (PutAirport id' c' p' z') h k e = two_forms forms.Runway forms.Airport (at 0 e) (λ q. cc)
+one_amendment caller key name word (PutRunway id r) (DropRunway id' m) h k e = two_forms forms.Runway forms.DropRunway (at 0 e) (λ q. cc)
+one_amendment caller key name word (PutRunway id r) (Drop id') h k e = two_forms forms.Runway forms.Drop (at 0 e) (λ q. cc)
+one_amendment caller key name word (DropRunway id n) (PutAirport id' c' p' z') h k e = two_forms forms.DropRunway forms.Airport (at 0 e) (λ q. cc)
+one_amendment caller key name word (DropRunway id n) (PutRunway id' s) h k e = two_forms forms.DropRunway forms.Runway (at 0 e) (λ q. cc)
+one_amendment caller key name word (DropRunway id n) (Drop id') h k e = two_forms forms.DropRunway forms.Drop (at 0 e) (λ q. cc)
+one_amendment caller key name word (Drop id) (PutAirport id' c' p' z') h k e = two_forms forms.Drop forms.Airport (at 0 e) (λ q. cc)
+one_amendment caller key name word (Drop id) (PutRunway id' s) h k e = two_forms forms.Drop forms.Runway (at 0 e) (λ q. cc)
+one_amendment caller key name word (Drop id) (DropRunway id' m) h k e = two_forms forms.Drop forms.DropRunway (at 0 e) (λ q. cc)
 
 one_act : (caller key name word : List ℕ) (a b : Act) → IsValidAct a → IsValidAct b
     → act_spelling caller key a ≡ act_spelling name word b → (caller ≡ name) × (key ≡ word) × (a ≡ b)
@@ -259,22 +277,56 @@ one_change c d h k e =
     let s = one_act c.caller c.key d.caller d.key c.act d.act h k e in
     ap (λ x. made_change x c.key c.act) s.0 ∙ ap (λ x. made_change d.caller x c.act) s.1 ∙ ap (made_change d.caller d.key) s.2
 
--- a changing request is no screening
-no_screen : (a : Act) → forms.Screen ≡ act_form a → ⊥
-no_screen (acts.Amend (PutAirport id c p z)) e = cc
-no_screen (acts.Amend (PutRunway id r)) e = cc
+-- whether the requests of a form change what the desk holds
+changes : Form → Bool
+changes forms.Airport = true
+changes forms.Runway = true
+changes forms.DropRunway = true
+changes forms.Drop = true
+changes forms.Screen = false
+changes forms.Verdict = false
+changes forms.Airfield = false
+
+act_changes : (a : Act) → changes (act_form a) ≡ true
+unfolding changes
+act_changes (acts.Amend (PutAirport id c p z)) = refl
+act_changes (acts.Amend (PutRunway id r)) = refl
+act_changes (acts.Amend (DropRunway id n)) = refl
+act_changes (acts.Amend (Drop id)) = refl
+
+query_keeps : (q : Query) → changes (query_form q) ≡ false
+unfolding changes
+query_keeps (queries.Screen s) = refl
+query_keeps (queries.Verdict s) = refl
+query_keeps (queries.Airfield id) = refl
+
+-- a changing request is no query
+no_query : (q : Query) (a : Act) → query_form q ≡ act_form a → ⊥
+no_query q a e = let same : false ≡ true = sym (query_keeps q) ∙ ap changes e ∙ act_changes a in cc
 
 same_form : (r s : Request) → IsGood r → IsGood s → spelling r ≡ spelling s → form_of r ≡ form_of s
 same_form r s g h e =
     let w : Some (form_word (form_of r)) ≡ Some (form_word (form_of s)) = sym (first_good r g).there ∙ ap (λ l. field_at l 0) e ∙ (first_good s h).there in
     one_form (form_of r) (form_of s) (let x : form_word (form_of r) ≡ form_word (form_of s) = cc in x)
 
+one_query : (a b : Query) → IsGood (requests.Query a) → IsGood (requests.Query b) → query_spelling a ≡ query_spelling b → query_form a ≡ query_form b → a ≡ b
+unfolding field_at
+one_query (queries.Screen a) (queries.Screen b) g h e f =
+    ap (λ x. queries.Screen x) (one_site a b g.valid.0 h.valid.0 g.valid.1 h.valid.1 (g.shape.each 7) (h.shape.each 7) (ap (drop 1) e))
+one_query (queries.Verdict a) (queries.Verdict b) g h e f =
+    ap (λ x. queries.Verdict x) (one_site a b g.valid.0 h.valid.0 g.valid.1 h.valid.1 (g.shape.each 7) (h.shape.each 7) (ap (drop 1) e))
+one_query (queries.Airfield a) (queries.Airfield b) g h e f = ap (λ x. queries.Airfield x) (at 1 e)
+one_query (queries.Screen a) (queries.Verdict b) g h e f = absurd (let n : forms.Screen ≡ forms.Verdict = f in cc)
+one_query (queries.Screen a) (queries.Airfield b) g h e f = absurd (let n : forms.Screen ≡ forms.Airfield = f in cc)
+one_query (queries.Verdict a) (queries.Screen b) g h e f = absurd (let n : forms.Verdict ≡ forms.Screen = f in cc)
+one_query (queries.Verdict a) (queries.Airfield b) g h e f = absurd (let n : forms.Verdict ≡ forms.Airfield = f in cc)
+one_query (queries.Airfield a) (queries.Screen b) g h e f = absurd (let n : forms.Airfield ≡ forms.Screen = f in cc)
+one_query (queries.Airfield a) (queries.Verdict b) g h e f = absurd (let n : forms.Airfield ≡ forms.Verdict = f in cc)
+
 -- requests of one spelling are one
 pub one_request : (r s : Request) → IsGood r → IsGood s → spelling r ≡ spelling s → r ≡ s
-unfolding field_at
-one_request (requests.Query (queries.Screen a)) (requests.Query (queries.Screen b)) g h e =
-    ap (λ x. requests.Query (queries.Screen x))
-    (one_site a b g.valid.0 h.valid.0 g.valid.1 h.valid.1 (g.shape.each 7) (h.shape.each 7) (ap (drop 1) e))
-one_request (requests.Query (queries.Screen a)) (requests.Change d) g h e = absurd (no_screen d.act (same_form (requests.Query (queries.Screen a)) (requests.Change d) g h e))
-one_request (requests.Change c) (requests.Query (queries.Screen b)) g h e = absurd (no_screen c.act (sym (same_form (requests.Change c) (requests.Query (queries.Screen b)) g h e)))
+one_request (requests.Query a) (requests.Query b) g h e =
+    ap (λ x. requests.Query x) (one_query a b g h e (same_form (requests.Query a) (requests.Query b) g h e))
+one_request (requests.Query a) (requests.Change d) g h e = absurd (no_query a d.act (same_form (requests.Query a) (requests.Change d) g h e))
+one_request (requests.Change c) (requests.Query b) g h e = absurd (no_query b c.act (sym (same_form (requests.Change c) (requests.Query b) g h e)))
 one_request (requests.Change c) (requests.Change d) g h e = ap (λ x. requests.Change x) (one_change c d g.valid h.valid e)

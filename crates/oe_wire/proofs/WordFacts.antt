@@ -6,7 +6,7 @@ use Rattle.airport_register.specs.declared.category.Category.{Category}
 use Rattle.airport_register.specs.declared.category.Category.TheVariants.{PublicUse, PublicBuilding, MilitaryBuilding, Federal, Dod, Procedure, OtherPrivate}
 use Rattle.oe_wire.specs.Forms.{form_word}
 use Rattle.oe_wire.specs.declared.form.Form.{Form}
-use Rattle.oe_wire.specs.declared.form.Form.TheVariants.{Airport, Runway, Screen}
+use Rattle.oe_wire.specs.declared.form.Form.TheVariants.{Airport, Runway, DropRunway, Drop, Screen, Verdict, Airfield}
 use Rattle.oe_wire.specs.Words.{category_word, approach_word, weight_word, pavement_word}
 
 pub no_category : (word : List ℕ) → word ≢ codes "public" → word ≢ codes "building" → word ≢ codes "military" → word ≢ codes "federal"
@@ -33,7 +33,12 @@ pub no_pavement : (word : List ℕ) → word ≢ codes "hard" → word ≢ codes
 no_pavement word h s true = h
 no_pavement word h s false = s
 
-pub no_form_word : (word : List ℕ) → word ≢ codes "screen" → word ≢ codes "airport" → word ≢ codes "runway" → (form : Form) → word ≢ form_word form
-no_form_word word s a r Airport = a
-no_form_word word s a r Runway = r
-no_form_word word s a r Screen = s
+pub no_form_word : (word : List ℕ) → word ≢ codes "screen" → word ≢ codes "airport" → word ≢ codes "runway" → word ≢ codes "droprunway"
+    → word ≢ codes "drop" → word ≢ codes "verdict" → word ≢ codes "airfield" → (form : Form) → word ≢ form_word form
+no_form_word word s a r n d v f Airport = a
+no_form_word word s a r n d v f Runway = r
+no_form_word word s a r n d v f DropRunway = n
+no_form_word word s a r n d v f Drop = d
+no_form_word word s a r n d v f Screen = s
+no_form_word word s a r n d v f Verdict = v
+no_form_word word s a r n d v f Airfield = f

@@ -8,7 +8,11 @@ use Rattle.oe_wire.specs.declared.form.Form.TheVariants as forms
 abbrev pub form_word : Form → List ℕ
 form_word forms.Airport = codes "airport"
 form_word forms.Runway = codes "runway"
+form_word forms.DropRunway = codes "droprunway"
+form_word forms.Drop = codes "drop"
 form_word forms.Screen = codes "screen"
+form_word forms.Verdict = codes "verdict"
+form_word forms.Airfield = codes "airfield"
 
 -- a coordinate of the grid
 abbrev pub coordinate : Wanted
@@ -18,13 +22,21 @@ coordinate = Between (neg_ℤ (pos 20000000)) (pos 20000000)
 abbrev pub whole_number : Wanted
 whole_number = Between (neg_ℤ (pos 999999999)) (pos 999999999)
 
+-- the eight fields of a structure
+abbrev pub site_shape : List Wanted
+site_shape = coordinate ∷ coordinate ∷ Between (neg_ℤ (pos 20000)) (pos 200000) ∷ Between (pos 0) (pos 100000)
+    ∷ Spelled (codes "object") ∷ Spelled (codes "0") ∷ Spelled (codes "-") ∷ Spelled (codes "-") ∷ []
+
 -- the fields of each form
 abbrev pub shape_of : Form → List Wanted
 shape_of forms.Airport = Spelled (codes "airport") ∷ WordWanted ∷ WordWanted ∷ FieldIdWanted ∷ CategoryWanted ∷ coordinate ∷ coordinate ∷ whole_number ∷ []
 shape_of forms.Runway = Spelled (codes "runway") ∷ WordWanted ∷ WordWanted ∷ FieldIdWanted ∷ RunwayNameWanted ∷ WeightWanted ∷ PavementWanted
     ∷ coordinate ∷ coordinate ∷ whole_number ∷ ApproachWanted ∷ coordinate ∷ coordinate ∷ whole_number ∷ ApproachWanted ∷ []
-shape_of forms.Screen = Spelled (codes "screen") ∷ coordinate ∷ coordinate ∷ Between (neg_ℤ (pos 20000)) (pos 200000) ∷ Between (pos 0) (pos 100000)
-    ∷ Spelled (codes "object") ∷ Spelled (codes "0") ∷ Spelled (codes "-") ∷ Spelled (codes "-") ∷ []
+shape_of forms.DropRunway = Spelled (codes "droprunway") ∷ WordWanted ∷ WordWanted ∷ FieldIdWanted ∷ RunwayNameWanted ∷ []
+shape_of forms.Drop = Spelled (codes "drop") ∷ WordWanted ∷ WordWanted ∷ FieldIdWanted ∷ []
+shape_of forms.Screen = Spelled (codes "screen") ∷ site_shape
+shape_of forms.Verdict = Spelled (codes "verdict") ∷ site_shape
+shape_of forms.Airfield = Spelled (codes "airfield") ∷ FieldIdWanted ∷ []
 
 -- the fields begin with the word of no form
 pub record IsNoForm (fields : List (List ℕ)) : Type 0 where

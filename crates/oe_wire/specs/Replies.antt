@@ -8,6 +8,7 @@ use Rattle.oe_findings.specs.declared.finding.Rule.{Rule}
 use Rattle.oe_findings.specs.declared.finding.Rule.TheVariants as rules
 use Rattle.oe_findings.specs.declared.finding.SurfaceKey.{SurfaceKey}
 use Rattle.oe_findings.specs.declared.finding.Finding.{Finding}
+use Rattle.oe_findings.specs.declared.verdict.Verdict.{Verdict}
 use Rattle.oe_wire.specs.Words.{name_text}
 use Rattle.oe_wire.specs.declared.entry.KeyParts.{KeyParts}
 use Rattle.oe_wire.specs.declared.entry.KeyParts.TheVariants as parts
@@ -84,9 +85,23 @@ entries_text list = flat_map (λ f. codes "," ++ entry_text f) list
 abbrev pub found_text : ℕ → List Finding → List ℕ
 found_text last list = codes "found," ++ decimal last ++ codes "," ++ decimal (length list) ++ entries_text list ++ codes "\n"
 
+abbrev pub yes_word : Bool → List ℕ
+yes_word holds = if holds then codes "yes" else codes "no"
+
+-- what the findings over the register after its entry of number `last` come to: whether notice is required, whether a standard
+-- is exceeded, and how many findings there are
+abbrev pub verdict_text : ℕ → Verdict → List ℕ
+verdict_text last v = codes "verdict," ++ decimal last ++ codes "," ++ yes_word v.notice ++ codes "," ++ yes_word v.obstruction ++ codes "," ++ decimal v.entries ++ codes "\n"
+
+-- an airfield, told by its row
+abbrev pub row_text : List ℕ → List ℕ
+row_text row = codes "airfield," ++ row ++ codes "\n"
+
 abbrev pub plain_word : Plain → List ℕ
 plain_word plains.Airport = codes "airport"
 plain_word plains.Runway = codes "runway"
+plain_word plains.DropRunway = codes "droprunway"
+plain_word plains.Drop = codes "drop"
 
 abbrev pub outcome_text : Outcome → List ℕ
 outcome_text (outcomes.Plain plain) = plain_word plain
@@ -152,3 +167,5 @@ abbrev pub reply_text : Reply → List ℕ
 reply_text (replies.Accepted entry published outcome) = accepted_text entry published outcome
 reply_text (replies.Refused refusal) = refused_text refusal
 reply_text (replies.Found last list) = found_text last list
+reply_text (replies.Verdict last verdict) = verdict_text last verdict
+reply_text (replies.Airfield row) = row_text row

@@ -28,6 +28,8 @@ site_spelling s = signed_decimal s.at.x ∷ signed_decimal s.at.y ∷ signed_dec
 
 abbrev pub query_spelling : Query → List (List ℕ)
 query_spelling (queries.Screen site) = codes "screen" ∷ site_spelling site
+query_spelling (queries.Verdict site) = codes "verdict" ∷ site_spelling site
+query_spelling (queries.Airfield id) = codes "airfield" ∷ id ∷ []
 
 -- an amendment that a caller asks for under a key
 abbrev pub amendment_spelling : List ℕ → List ℕ → Amendment → List (List ℕ)
@@ -37,6 +39,8 @@ amendment_spelling caller key (amendments.PutRunway id r) =
     codes "runway" ∷ caller ∷ key ∷ id ∷ r.name ∷ weight_word r.utility ∷ pavement_word r.hard
     ∷ signed_decimal r.end1.at.x ∷ signed_decimal r.end1.at.y ∷ signed_decimal r.end1.z ∷ approach_word r.end1.kind
     ∷ signed_decimal r.end2.at.x ∷ signed_decimal r.end2.at.y ∷ signed_decimal r.end2.z ∷ approach_word r.end2.kind ∷ []
+amendment_spelling caller key (amendments.DropRunway id name) = codes "droprunway" ∷ caller ∷ key ∷ id ∷ name ∷ []
+amendment_spelling caller key (amendments.Drop id) = codes "drop" ∷ caller ∷ key ∷ id ∷ []
 
 abbrev pub act_spelling : List ℕ → List ℕ → Act → List (List ℕ)
 act_spelling caller key (acts.Amend amendment) = amendment_spelling caller key amendment
@@ -49,12 +53,16 @@ spelling (requests.Change change) = act_spelling change.caller change.key change
 abbrev pub amendment_form : Amendment → Form
 amendment_form (amendments.PutAirport id category arp elevation) = forms.Airport
 amendment_form (amendments.PutRunway id r) = forms.Runway
+amendment_form (amendments.DropRunway id name) = forms.DropRunway
+amendment_form (amendments.Drop id) = forms.Drop
 
 abbrev pub act_form : Act → Form
 act_form (acts.Amend amendment) = amendment_form amendment
 
 abbrev pub query_form : Query → Form
 query_form (queries.Screen site) = forms.Screen
+query_form (queries.Verdict site) = forms.Verdict
+query_form (queries.Airfield id) = forms.Airfield
 
 -- the form of a request
 abbrev pub form_of : Request → Form
@@ -66,12 +74,20 @@ abbrev pub IsAirfieldName : Option (List ℕ) → Type 0
 IsAirfieldName None = Unit {0}
 IsAirfieldName (Some name) = IsFieldId name
 
+-- a structure that a record can tell
+abbrev pub IsValidSite : Site → Type 0
+IsValidSite site = IsSite site × IsAirfieldName site.on
+
 abbrev pub IsValidQuery : Query → Type 0
-IsValidQuery (queries.Screen site) = IsSite site × IsAirfieldName site.on
+IsValidQuery (queries.Screen site) = IsValidSite site
+IsValidQuery (queries.Verdict site) = IsValidSite site
+IsValidQuery (queries.Airfield id) = Unit {0}
 
 abbrev pub IsValidAmendment : Amendment → Type 0
 IsValidAmendment (amendments.PutAirport id category arp elevation) = HasNineDigits elevation
 IsValidAmendment (amendments.PutRunway id r) = HasNineDigits r.end1.z × HasNineDigits r.end2.z
+IsValidAmendment (amendments.DropRunway id name) = Unit {0}
+IsValidAmendment (amendments.Drop id) = Unit {0}
 
 abbrev pub IsValidAct : Act → Type 0
 IsValidAct (acts.Amend amendment) = IsValidAmendment amendment

@@ -105,7 +105,7 @@ fn push_runway(text: &mut String, name: &Option<RunwayName>) -> Result<(), NoMem
 }
 
 // Puts the airfield of an entry behind a text.
-fn push_airfield(text: &mut String, rule: Rule, key: &SurfaceKey) -> Result<(), NoMemory>
+fn push_key_airfield(text: &mut String, rule: Rule, key: &SurfaceKey) -> Result<(), NoMemory>
     ensures { OnOk result (string_bytes text.new ≡ string_bytes text.old ++ spec.airfield_text rule key.now) }
 {
     if has_airfield(rule) {
@@ -141,7 +141,7 @@ fn push_entry(text: &mut String, finding: &Finding) -> Result<(), NoMemory>
     text.push_str(",")?;
     text.push_str(rule_word(finding.rule))?;
     text.push_str(" ")?;
-    push_airfield(text, finding.rule, &finding.key)?;
+    push_key_airfield(text, finding.rule, &finding.key)?;
     text.push_str(" ")?;
     push_key(text, key_parts(finding.rule), &finding.key)?;
     text.push_str(" ")?;

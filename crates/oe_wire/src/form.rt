@@ -5,7 +5,11 @@
 pub(crate) enum Form {
     Airport,
     Runway,
+    DropRunway,
+    Drop,
     Screen,
+    Verdict,
+    Airfield,
 }
 
 /// A field that is not as its form wants it, counted from 1.

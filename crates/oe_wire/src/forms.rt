@@ -5,9 +5,9 @@ ghost use Rattle.std.specs.Fmt.{signed_decimal};
 ghost use Rattle.csv.specs.Records.{fields_of};
 ghost use Rattle.whole_number.specs.Whole.{HasNineDigits};
 ghost use Rattle.oe_wire.specs.Words.{approach_word};
-ghost use Rattle.oe_wire.specs.Shape.{ApproachWanted, IsBetween, IsField, FitsBefore, HasShape, FirstBad};
-ghost use Rattle.oe_wire.specs.Forms.{form_word, shape_of, coordinate, whole_number, IsNoForm};
-ghost use Rattle.oe_wire.specs.Requests.{site_spelling, spelling, form_of, IsValidQuery, IsValid};
+ghost use Rattle.oe_wire.specs.Shape.{ApproachWanted, Spelled, IsBetween, IsField, FitsBefore, HasShape, FirstBad};
+ghost use Rattle.oe_wire.specs.Forms.{form_word, shape_of, site_shape, coordinate, whole_number, IsNoForm};
+ghost use Rattle.oe_wire.specs.Requests.{site_spelling, spelling, form_of, IsValidSite, IsValid};
 
 use crate::fields::{
     approach, category, end, field_id, number, pavement, runway_name, spelled, weight, word,
@@ -54,7 +54,7 @@ fn plain_filing(at: Point, terrain: i64, height: i64) -> Filing
     requires height { IsBetween (pos 0) (pos 100000) height }
     ensures spelled { site_spelling result ≡ signed_decimal at.x ∷ signed_decimal at.y ∷ signed_decimal terrain ∷ signed_decimal height
         ∷ codes "object" ∷ codes "0" ∷ codes "-" ∷ codes "-" ∷ [] }
-    ensures valid { IsValidQuery (Query.Screen result) }
+    ensures valid { IsValidSite result }
 {
     Filing {
         at,
@@ -96,6 +96,27 @@ fn runway_end(fields: &ByteRecord, at: usize) -> Result<RunwayEnd, BadField>
     Ok(RunwayEnd { at: place, z, kind })
 }
 
+// The fields of a structure, behind the first and to the end.
+fn structure(fields: &ByteRecord, form: Form) -> Result<Filing, BadField>
+    requires shape { shape_of form ≡ Spelled (form_word form) ∷ site_shape }
+    requires named { IsField (fields_of fields.now) 0 (form_word form) }
+    requires begun { FitsBefore (shape_of form) (fields_of fields.now) 1 }
+    ensures read { IfOk result (λ s. fields_of fields.now ≡ form_word form ∷ site_spelling s) }
+    ensures valid { IfOk result (λ s. IsValidSite s) }
+    ensures fits { OnOk result (HasShape (shape_of form) (fields_of fields.now)) }
+    ensures bad { IfErr result (λ b. FirstBad (shape_of form) (fields_of fields.now) b.number) }
+{
+    let at = point(fields, form, 1)?;
+    let terrain = number(fields, form, 3, -20_000, 200_000)?;
+    let height = number(fields, form, 4, 0, 100_000)?;
+    spelled(fields, form, 5, b"object")?;
+    spelled(fields, form, 6, b"0")?;
+    spelled(fields, form, 7, b"-")?;
+    spelled(fields, form, 8, b"-")?;
+    end(fields, form, 9)?;
+    Ok(plain_filing(at, terrain, height))
+}
+
 // The fields of a screening.
 pub(crate) fn screen(fields: &ByteRecord) -> Result<Request, BadField>
     requires named { IsField (fields_of fields.now) 0 (codes "screen") }
@@ -106,15 +127,37 @@ pub(crate) fn screen(fields: &ByteRecord) -> Result<Request, BadField>
     ensures fits { OnOk result (HasShape (shape_of Form.Screen) (fields_of fields.now)) }
     ensures bad { IfErr result (λ b. FirstBad (shape_of Form.Screen) (fields_of fields.now) b.number) }
 {
-    let at = point(fields, Form::Screen, 1)?;
-    let terrain = number(fields, Form::Screen, 3, -20_000, 200_000)?;
-    let height = number(fields, Form::Screen, 4, 0, 100_000)?;
-    spelled(fields, Form::Screen, 5, b"object")?;
-    spelled(fields, Form::Screen, 6, b"0")?;
-    spelled(fields, Form::Screen, 7, b"-")?;
-    spelled(fields, Form::Screen, 8, b"-")?;
-    end(fields, Form::Screen, 9)?;
-    Ok(Request::Query(Query::Screen(plain_filing(at, terrain, height))))
+    let filing = structure(fields, Form::Screen)?;
+    Ok(Request::Query(Query::Screen(filing)))
+}
+
+// The fields of a question for a verdict.
+pub(crate) fn verdict(fields: &ByteRecord) -> Result<Request, BadField>
+    requires named { IsField (fields_of fields.now) 0 (codes "verdict") }
+    requires begun { FitsBefore (shape_of Form.Verdict) (fields_of fields.now) 1 }
+    ensures read { IfOk result (λ r. fields_of fields.now ≡ spelling r) }
+    ensures form { IfOk result (λ r. form_of r ≡ Form.Verdict) }
+    ensures valid { IfOk result (λ r. IsValid r) }
+    ensures fits { OnOk result (HasShape (shape_of Form.Verdict) (fields_of fields.now)) }
+    ensures bad { IfErr result (λ b. FirstBad (shape_of Form.Verdict) (fields_of fields.now) b.number) }
+{
+    let filing = structure(fields, Form::Verdict)?;
+    Ok(Request::Query(Query::Verdict(filing)))
+}
+
+// The fields of a question for an airfield.
+pub(crate) fn airfield(fields: &ByteRecord) -> Result<Request, BadField>
+    requires named { IsField (fields_of fields.now) 0 (codes "airfield") }
+    requires begun { FitsBefore (shape_of Form.Airfield) (fields_of fields.now) 1 }
+    ensures read { IfOk result (λ r. fields_of fields.now ≡ spelling r) }
+    ensures form { IfOk result (λ r. form_of r ≡ Form.Airfield) }
+    ensures valid { IfOk result (λ r. IsValid r) }
+    ensures fits { OnOk result (HasShape (shape_of Form.Airfield) (fields_of fields.now)) }
+    ensures bad { IfErr result (λ b. FirstBad (shape_of Form.Airfield) (fields_of fields.now) b.number) }
+{
+    let id = field_id(fields, Form::Airfield, 1)?;
+    end(fields, Form::Airfield, 2)?;
+    Ok(Request::Query(Query::Airfield(id)))
 }
 
 // The fields of an airport.
@@ -170,5 +213,42 @@ pub(crate) fn runway(fields: &ByteRecord) -> Result<Request, BadField>
         end2,
     };
     let act = Act::Amend(Amendment::PutRunway { id, runway });
+    Ok(Request::Change(Change { caller, key, act }))
+}
+
+// The fields of a runway that is dropped.
+pub(crate) fn drop_runway(fields: &ByteRecord) -> Result<Request, BadField>
+    requires named { IsField (fields_of fields.now) 0 (codes "droprunway") }
+    requires begun { FitsBefore (shape_of Form.DropRunway) (fields_of fields.now) 1 }
+    ensures read { IfOk result (λ r. fields_of fields.now ≡ spelling r) }
+    ensures form { IfOk result (λ r. form_of r ≡ Form.DropRunway) }
+    ensures valid { IfOk result (λ r. IsValid r) }
+    ensures fits { OnOk result (HasShape (shape_of Form.DropRunway) (fields_of fields.now)) }
+    ensures bad { IfErr result (λ b. FirstBad (shape_of Form.DropRunway) (fields_of fields.now) b.number) }
+{
+    let caller = word(fields, Form::DropRunway, 1)?;
+    let key = word(fields, Form::DropRunway, 2)?;
+    let id = field_id(fields, Form::DropRunway, 3)?;
+    let name = runway_name(fields, Form::DropRunway, 4)?;
+    end(fields, Form::DropRunway, 5)?;
+    let act = Act::Amend(Amendment::DropRunway { id, name });
+    Ok(Request::Change(Change { caller, key, act }))
+}
+
+// The fields of an airfield that is taken out.
+pub(crate) fn drop_airfield(fields: &ByteRecord) -> Result<Request, BadField>
+    requires named { IsField (fields_of fields.now) 0 (codes "drop") }
+    requires begun { FitsBefore (shape_of Form.Drop) (fields_of fields.now) 1 }
+    ensures read { IfOk result (λ r. fields_of fields.now ≡ spelling r) }
+    ensures form { IfOk result (λ r. form_of r ≡ Form.Drop) }
+    ensures valid { IfOk result (λ r. IsValid r) }
+    ensures fits { OnOk result (HasShape (shape_of Form.Drop) (fields_of fields.now)) }
+    ensures bad { IfErr result (λ b. FirstBad (shape_of Form.Drop) (fields_of fields.now) b.number) }
+{
+    let caller = word(fields, Form::Drop, 1)?;
+    let key = word(fields, Form::Drop, 2)?;
+    let id = field_id(fields, Form::Drop, 3)?;
+    end(fields, Form::Drop, 4)?;
+    let act = Act::Amend(Amendment::Drop(id));
     Ok(Request::Change(Change { caller, key, act }))
 }

@@ -12,13 +12,14 @@ mod read;
 mod reply;
 mod reply_text;
 mod request;
+mod row;
 mod values;
 mod word;
 
 pub use laws::{first_bad_field, one_reading};
 pub use read::{RecordReader, read_record};
 pub use reply::{Outcome, Plain, Refusal, Reply};
-pub use reply_text::{push_found, push_reply, write_reply};
+pub use reply_text::{push_airfield, push_found, push_reply, write_reply};
 pub use request::{Act, Change, Query, ReadRefusal, Request};
 pub use word::Word;
 

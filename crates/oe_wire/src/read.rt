@@ -6,7 +6,7 @@ ghost use Rattle.oe_wire.specs.Forms.{FirstWrong};
 ghost use Rattle.oe_wire.specs.Requests.{spelling, IsGood, IsRecord, IsRefusal};
 
 use crate::form::{BadField, Form};
-use crate::forms::{airport, form, runway, screen};
+use crate::forms::{airfield, airport, drop_airfield, drop_runway, form, runway, screen, verdict};
 use crate::request::{ReadRefusal, Request};
 use csv::ByteRecord;
 use record_fields::find_fields;
@@ -23,6 +23,10 @@ fn request(fields: &ByteRecord) -> Result<Request, BadField>
         Some(Form::Screen) => screen(fields),
         Some(Form::Airport) => airport(fields),
         Some(Form::Runway) => runway(fields),
+        Some(Form::DropRunway) => drop_runway(fields),
+        Some(Form::Drop) => drop_airfield(fields),
+        Some(Form::Verdict) => verdict(fields),
+        Some(Form::Airfield) => airfield(fields),
         None => Err(BadField { number: 1 }),
     }
 }

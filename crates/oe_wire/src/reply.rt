@@ -1,7 +1,8 @@
 //! Replies.
 
 use airport_register::AmendRefusal;
-use oe_findings::Findings;
+use grid_exact::Text;
+use oe_findings::{Findings, Verdict};
 
 /// The form of an accepted request whose reply says no more.
 #[derive(Clone, Copy, Debug, PartialEq, Eq)]
@@ -10,6 +11,10 @@ pub enum Plain {
     Airport,
     /// A runway was put into the register.
     Runway,
+    /// A runway was dropped.
+    DropRunway,
+    /// An airfield was taken out of the register.
+    Drop,
 }
 
 /// What an accepted request led to.
@@ -87,4 +92,11 @@ pub enum Reply {
         last: u64,
         list: Findings,
     },
+    /// What the findings over the register after its entry of number `last` come to.
+    Verdict {
+        last: u64,
+        verdict: Verdict,
+    },
+    /// An airfield of the register, told by its row.
+    Airfield(Text),
 }

@@ -2,11 +2,14 @@
 
 ghost use Rattle.std.specs.Prelude.{◌≡◌, ◌++◌, IfOk, OnOk, string_bytes};
 ghost use Rattle.oe_wire.specs.Replies as spec;
+ghost use Rattle.oe_wire.specs.Rows.{airfield_row};
 
 use crate::entry::{push_entries, push_number};
 use crate::reply::{Outcome, Plain, Refusal, Reply};
+use crate::row::push_row;
+use airport_register::Airfield;
 use grid_exact::{NoMemory, Text};
-use oe_findings::Finding;
+use oe_findings::{Finding, Verdict};
 use std::alloc::Global;
 
 fn plain_word(plain: Plain) -> &'static str
@@ -15,6 +18,8 @@ fn plain_word(plain: Plain) -> &'static str
     match plain {
         Plain::Airport => "airport",
         Plain::Runway => "runway",
+        Plain::DropRunway => "droprunway",
+        Plain::Drop => "drop",
     }
 }
 
@@ -22,6 +27,12 @@ fn publication_word(published: bool) -> &'static str
     ensures { result.now ≡ spec.publication_word published }
 {
     if published { "published" } else { "waiting" }
+}
+
+fn yes_word(holds: bool) -> &'static str
+    ensures { result.now ≡ spec.yes_word holds }
+{
+    if holds { "yes" } else { "no" }
 }
 
 fn refusal_number(refusal: Refusal) -> u64
@@ -133,6 +144,45 @@ pub fn push_found(text: &mut String, last: u64, list: &[Finding]) -> Result<(), 
     Ok(())
 }
 
+fn push_verdict(text: &mut String, last: u64, verdict: Verdict) -> Result<(), NoMemory>
+    ensures { OnOk result (string_bytes text.new ≡ string_bytes text.old ++ spec.verdict_text last verdict) }
+{
+    text.push_str("verdict,")?;
+    push_number(text, last)?;
+    text.push_str(",")?;
+    text.push_str(yes_word(verdict.notice))?;
+    text.push_str(",")?;
+    text.push_str(yes_word(verdict.obstruction))?;
+    text.push_str(",")?;
+    push_number(text, u64::from(verdict.entries))?;
+    text.push_str("\n")?;
+    Ok(())
+}
+
+/// Puts the reply that tells an airfield by its row, with the line feed that ends it, behind a text.
+///
+/// # Errors
+///
+/// `NoMemory` where memory was refused; the text may then have a part of the reply.
+pub fn push_airfield(text: &mut String, airfield: &Airfield) -> Result<(), NoMemory>
+    ensures { OnOk result (string_bytes text.new ≡ string_bytes text.old ++ spec.row_text (airfield_row airfield.now)) }
+{
+    text.push_str("airfield,")?;
+    push_row(text, airfield)?;
+    text.push_str("\n")?;
+    Ok(())
+}
+
+// Puts the reply of a row behind a text.
+fn push_row_text(text: &mut String, row: &str) -> Result<(), NoMemory>
+    ensures { OnOk result (string_bytes text.new ≡ string_bytes text.old ++ spec.row_text row.now) }
+{
+    text.push_str("airfield,")?;
+    text.push_str(row)?;
+    text.push_str("\n")?;
+    Ok(())
+}
+
 /// Puts a reply, with the line feed that ends it, behind a text.
 ///
 /// # Errors
@@ -149,6 +199,8 @@ pub fn push_reply(text: &mut String, reply: &Reply) -> Result<(), NoMemory>
         } => push_accepted(text, *entry, *published, *outcome),
         Reply::Refused(refusal) => push_refused(text, *refusal),
         Reply::Found { last, list } => push_found(text, *last, list.as_slice()),
+        Reply::Verdict { last, verdict } => push_verdict(text, *last, *verdict),
+        Reply::Airfield(row) => push_row_text(text, row.as_str()),
     }
 }
 

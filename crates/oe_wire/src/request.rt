@@ -1,7 +1,7 @@
 //! Requests.
 
 use crate::word::Word;
-use airport_register::{Amendment, Filing};
+use airport_register::{Amendment, FieldId, Filing};
 
 /// What a changing request asks for.
 #[derive(Clone, Copy)]
@@ -26,6 +26,10 @@ pub struct Change {
 pub enum Query {
     /// The list of findings of a structure.
     Screen(Filing),
+    /// What the list of findings of a structure comes to.
+    Verdict(Filing),
+    /// The row of the airfield of this name.
+    Airfield(FieldId),
 }
 
 /// A request.

@@ -1,12 +1,15 @@
 //! Records and replies that no clause says.
 
 use crate::{
-    Act, Change, Outcome, Plain, Query, ReadRefusal, Refusal, Reply, Request, push_found,
-    read_record, write_reply,
+    Act, Change, Outcome, Plain, Query, ReadRefusal, Refusal, Reply, Request, push_airfield,
+    push_found, read_record, write_reply,
 };
-use airport_register::{AmendRefusal, Amendment, Category, FieldId, Runway, RunwayEnd, RunwayName};
-use grid_exact::{NoMemory, Point};
-use oe_findings::{Finding, Findings, Rule, SurfaceKey};
+use airport_register::{
+    Airfield, Airport, AmendRefusal, Amendment, Category, FieldId, Heliport, Runway, RunwayEnd,
+    RunwayName, Runways,
+};
+use grid_exact::{NoMemory, Point, Text};
+use oe_findings::{Finding, Findings, Rule, SurfaceKey, Verdict};
 use runway_classes::ApproachKind;
 use std::alloc::Global;
 
@@ -132,6 +135,63 @@ fn bad_runways(rt: HostRuntime) {
     }
 }
 
+#[test]
+fn bad_drops(rt: HostRuntime) {
+    let table: [(&[u8], u32); 14] = [
+        (b"droprunway", 2),
+        (b"droprunway,a-b,1,AAA,09/27", 2),
+        (b"droprunway,u,,AAA,09/27", 3),
+        (b"droprunway,u,1,aaa,09/27", 4),
+        (b"droprunway,u,1,AAA,09-27", 5),
+        (b"droprunway,u,1,AAA", 5),
+        (b"droprunway,u,1,AAA,09/27,", 6),
+        (b"drop", 2),
+        (b"drop,,1,AAA", 2),
+        (b"drop,u,a b,AAA", 3),
+        (b"drop,u,1,A/B", 4),
+        (b"drop,u,1", 4),
+        (b"drop,u,1,AAA,09/27", 5),
+        (b"drops,u,1,AAA", 1),
+    ];
+    for (line, field) in table {
+        assert_eq!(rt;
+            bad_field(rt.alloc(), line),
+            Some(field),
+            "at {}",
+            line.escape_ascii()
+        );
+    }
+}
+
+#[test]
+fn bad_questions(rt: HostRuntime) {
+    let table: [(&[u8], u32); 15] = [
+        (b"verdict", 2),
+        (b"verdict,20000001,0,0,0,object,0,-,-", 2),
+        (b"verdict,0,-20000001,0,0,object,0,-,-", 3),
+        (b"verdict,0,0,200001,0,object,0,-,-", 4),
+        (b"verdict,0,0,0,-1,object,0,-,-", 5),
+        (b"verdict,0,0,0,0,antenna,0,-,-", 6),
+        (b"verdict,0,0,0,0,object,1,-,-", 7),
+        (b"verdict,0,0,0,0,object,0,S,-", 8),
+        (b"verdict,0,0,0,0,object,0,-,AAA", 9),
+        (b"verdict,0,0,0,0,object,0,-,-,", 10),
+        (b"airfield", 2),
+        (b"airfield,", 2),
+        (b"airfield,aaa", 2),
+        (b"airfield,AAA,", 3),
+        (b"airfields,AAA", 1),
+    ];
+    for (line, field) in table {
+        assert_eq!(rt;
+            bad_field(rt.alloc(), line),
+            Some(field),
+            "at {}",
+            line.escape_ascii()
+        );
+    }
+}
+
 // The coordinates, the elevation of the ground and the height of the structure that a request asks to screen.
 fn numbers_of(request: &Request) -> Option<[i64; 4]> {
     match request {
@@ -141,7 +201,7 @@ fn numbers_of(request: &Request) -> Option<[i64; 4]> {
             filing.ground,
             filing.height,
         ]),
-        Request::Change(_) => None,
+        _ => None,
     }
 }
 
@@ -176,6 +236,33 @@ fn screenings(rt: HostRuntime) {
             line.escape_ascii()
         );
     }
+}
+
+// The query of a line.
+fn query_of(alloc: Global, line: &[u8]) -> Option<Query> {
+    match read_record(alloc, line) {
+        Ok(Request::Query(query)) => Some(query),
+        _ => None,
+    }
+}
+
+#[test]
+fn questions(rt: HostRuntime) {
+    let line = b"verdict,-1,2,3,4,object,0,-,-";
+    let Query::Verdict(filing) = query_of(rt.alloc(), line).expect(&rt, "it is a record") else {
+        assert!(rt; false, "it asks for a verdict");
+        return;
+    };
+    assert_eq!(rt;
+        [filing.at.x, filing.at.y, filing.ground, filing.height],
+        [-1, 2, 3, 4]
+    );
+    let line = b"airfield,A1";
+    let Query::Airfield(id) = query_of(rt.alloc(), line).expect(&rt, "it is a record") else {
+        assert!(rt; false, "it asks for an airfield");
+        return;
+    };
+    assert_eq!(rt; id.as_bytes(), b"A1".as_slice());
 }
 
 // The changing request of a line.
@@ -230,6 +317,27 @@ fn a_runway(rt: HostRuntime) {
 }
 
 #[test]
+fn drops(rt: HostRuntime) {
+    let id = FieldId::new(b"AAA").expect(&rt, "it is a name");
+    let name = RunwayName::new(b"09/27").expect(&rt, "it is a name");
+    let table: [(&[u8], Amendment); 2] = [
+        (
+            b"droprunway,u,k,AAA,09/27",
+            Amendment::DropRunway { id, name },
+        ),
+        (b"drop,u,k,AAA", Amendment::Drop(id)),
+    ];
+    for (line, want) in table {
+        let change = change_of(rt.alloc(), line).expect(&rt, "it is a record");
+        let Change { caller, key, act } = change;
+        let Act::Amend(amendment) = act;
+        assert_eq!(rt; caller.as_bytes(), b"u".as_slice());
+        assert_eq!(rt; key.as_bytes(), b"k".as_slice());
+        assert_eq!(rt; amendment, want);
+    }
+}
+
+#[test]
 fn categories(rt: HostRuntime) {
     let table: [(&[u8], Category); 7] = [
         (b"airport,u,1,A,public,0,0,0", Category::PublicUse),
@@ -270,12 +378,17 @@ fn short_replies(rt: HostRuntime) {
         published,
         outcome: Outcome::Plain(plain),
     };
-    let table: [(Reply, &[u8]); 8] = [
+    let table: [(Reply, &[u8]); 10] = [
         (plain(1, true, Plain::Airport), b"ok,1,published,airport\n"),
         (
             plain(1234567, false, Plain::Runway),
             b"ok,1234567,waiting,runway\n",
         ),
+        (
+            plain(3, true, Plain::DropRunway),
+            b"ok,3,published,droprunway\n",
+        ),
+        (plain(4, true, Plain::Drop), b"ok,4,published,drop\n"),
         (
             Reply::Refused(Refusal::PrecisionOnUtility),
             b"no,2,PrecisionOnUtility\n",
@@ -409,4 +522,93 @@ fn lists_of_findings(rt: HostRuntime) {
     let text = text_of(alloc, &Reply::Found { last: 2, list }).expect(&rt, "there is memory");
     let want = b"found,2,3,17a2 AAA - 1,19a AAA - 0,9a - - 2990\n";
     assert_eq!(rt; text.as_slice(), want.as_slice());
+}
+
+#[test]
+fn verdicts(rt: HostRuntime) {
+    let verdict = |last, notice, obstruction, entries| Reply::Verdict {
+        last,
+        verdict: Verdict {
+            notice,
+            obstruction,
+            entries,
+        },
+    };
+    let table: [(Reply, &[u8]); 3] = [
+        (verdict(0, false, false, 0), b"verdict,0,no,no,0\n"),
+        (verdict(12, true, false, 1), b"verdict,12,yes,no,1\n"),
+        (
+            verdict(7, false, true, 4294967295),
+            b"verdict,7,no,yes,4294967295\n",
+        ),
+    ];
+    for (reply, want) in &table {
+        let text = text_of(rt.alloc(), reply).expect(&rt, "there is memory");
+        assert_eq!(rt; text.as_slice(), *want);
+    }
+}
+
+// The reply of an airfield.
+fn row_of(alloc: Global, airfield: &Airfield) -> Option<Vec<u8>> {
+    let mut text = String::new(alloc);
+    push_airfield(&mut text, airfield).ok()?;
+    Vec::from_slice(alloc, text.as_bytes()).ok()
+}
+
+#[test]
+fn rows_of_airports(rt: HostRuntime) {
+    let table: [(Category, &[u8]); 7] = [
+        (
+            Category::PublicUse,
+            b"airfield,airport,public,-5,7,-20000\n",
+        ),
+        (
+            Category::PublicBuilding,
+            b"airfield,airport,building,-5,7,-20000\n",
+        ),
+        (
+            Category::MilitaryBuilding,
+            b"airfield,airport,military,-5,7,-20000\n",
+        ),
+        (Category::Federal, b"airfield,airport,federal,-5,7,-20000\n"),
+        (Category::Dod, b"airfield,airport,dod,-5,7,-20000\n"),
+        (
+            Category::Procedure,
+            b"airfield,airport,procedure,-5,7,-20000\n",
+        ),
+        (
+            Category::OtherPrivate,
+            b"airfield,airport,private,-5,7,-20000\n",
+        ),
+    ];
+    for (category, want) in table {
+        let airport = Airfield::Airport(Airport {
+            id: FieldId::new(b"AAA").expect(&rt, "it is a name"),
+            category,
+            arp: Point { x: -5, y: 7 },
+            elevation: -20_000,
+            runways: Runways::empty(rt.alloc()),
+        });
+        let text = row_of(rt.alloc(), &airport).expect(&rt, "there is memory");
+        assert_eq!(rt; text.as_slice(), want);
+    }
+}
+
+#[test]
+fn a_row_of_a_heliport(rt: HostRuntime) {
+    let alloc = rt.alloc();
+    let heliport = Airfield::Heliport(Heliport {
+        id: FieldId::new(b"H1").expect(&rt, "it is a name"),
+        category: Category::Federal,
+        a: Point { x: 1, y: -2 },
+        b: Point { x: 3, y: 4 },
+        width: 500,
+        elevation: 6,
+    });
+    let text = row_of(alloc, &heliport).expect(&rt, "there is memory");
+    let want = b"airfield,heliport,federal,1,-2,3,4,500,6\n";
+    assert_eq!(rt; text.as_slice(), want.as_slice());
+    let row = Text::from_str(alloc, "airport,dod,1,2,3").expect(&rt, "there is memory");
+    let text = text_of(alloc, &Reply::Airfield(row)).expect(&rt, "there is memory");
+    assert_eq!(rt; text.as_slice(), b"airfield,airport,dod,1,2,3\n".as_slice());
 }

@@ -104,6 +104,10 @@ pub(crate) fn form_of(word: &[u8]) -> Option<Form>
         b"screen" => Some(Form::Screen),
         b"airport" => Some(Form::Airport),
         b"runway" => Some(Form::Runway),
+        b"droprunway" => Some(Form::DropRunway),
+        b"drop" => Some(Form::Drop),
+        b"verdict" => Some(Form::Verdict),
+        b"airfield" => Some(Form::Airfield),
         _ => None,
     }
 }

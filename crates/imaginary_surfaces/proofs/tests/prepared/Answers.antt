@@ -1,6 +1,6 @@
 use Rattle.std.proofs.Common.{◌≡◌, inl, inr, ℤ, pos, negsuc, neg_ℤ, ◌≤ℤ◌, false, int_lt, FitsSigned, w64, to_z-of_z, arith}
 use Rattle.std.proofs.lemmas.Int.{ints}
-use Rattle.imaginary_surfaces.specs.Proper.{IsElevation}
+use Rattle.airport_register.specs.Runways.{IsElevation}
 use Rattle.imaginary_surfaces.proofs.tests.prepared.Goals as goal
 
 within : (z : ℤ) → int_lt z (negsuc 19999) ≡ false → int_lt (pos 200000) z ≡ false → IsElevation z

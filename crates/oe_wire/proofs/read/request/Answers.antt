@@ -16,3 +16,23 @@ pub returns-in-Some-Runway-clause-bad : goal.returns-in-Some-Runway-clause-bad
 returns-in-Some-Runway-clause-bad c =
     let named = rw c.in-Some-Runway.field-0-is at c.in-Some-Runway.ensures.named in
     in_form forms.Runway _ c.runway.result named c.runway.ensures.bad
+
+pub returns-in-Some-DropRunway-clause-bad : goal.returns-in-Some-DropRunway-clause-bad
+returns-in-Some-DropRunway-clause-bad c =
+    let named = rw c.in-Some-DropRunway.field-0-is at c.in-Some-DropRunway.ensures.named in
+    in_form forms.DropRunway _ c.drop_runway.result named c.drop_runway.ensures.bad
+
+pub returns-in-Some-Drop-clause-bad : goal.returns-in-Some-Drop-clause-bad
+returns-in-Some-Drop-clause-bad c =
+    let named = rw c.in-Some-Drop.field-0-is at c.in-Some-Drop.ensures.named in
+    in_form forms.Drop _ c.drop_airfield.result named c.drop_airfield.ensures.bad
+
+pub returns-in-Some-Verdict-clause-bad : goal.returns-in-Some-Verdict-clause-bad
+returns-in-Some-Verdict-clause-bad c =
+    let named = rw c.in-Some-Verdict.field-0-is at c.in-Some-Verdict.ensures.named in
+    in_form forms.Verdict _ c.verdict.result named c.verdict.ensures.bad
+
+pub returns-in-Some-Airfield-clause-bad : goal.returns-in-Some-Airfield-clause-bad
+returns-in-Some-Airfield-clause-bad c =
+    let named = rw c.in-Some-Airfield.field-0-is at c.in-Some-Airfield.ensures.named in
+    in_form forms.Airfield _ c.airfield.result named c.airfield.ensures.bad

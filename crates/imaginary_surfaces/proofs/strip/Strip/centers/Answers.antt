@@ -5,7 +5,7 @@ use Rattle.imaginary_surfaces.specs.declared.end.End.TheVariants.{One, Two}
 use Rattle.imaginary_surfaces.specs.declared.strip.Strip.TheInside.{Inside}
 use Rattle.imaginary_surfaces.specs.Approaches.{Approach}
 use Rattle.imaginary_surfaces.specs.Prepared.{IsPrepared}
-use Rattle.imaginary_surfaces.specs.Proper.{IsProper}
+use Rattle.airport_register.specs.Runways.{IsProper}
 use Rattle.imaginary_surfaces.specs.Shapes.{approach_shape}
 use Rattle.imaginary_surfaces.specs.Strips.{approach_of, center_x, center_y, centers}
 use Rattle.imaginary_surfaces.proofs.AxisFacts.{centers_are}

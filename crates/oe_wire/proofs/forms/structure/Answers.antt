@@ -1,6 +1,6 @@
 use Rattle.oe_wire.proofs.LimitFacts.{raw_short}
 use Rattle.oe_wire.proofs.FieldFacts.{all_read}
-use Rattle.oe_wire.proofs.forms.screen.Goals as goal
+use Rattle.oe_wire.proofs.forms.structure.Goals as goal
 
 pub returns-clause-read : goal.returns-clause-read
 returns-clause-read c =
