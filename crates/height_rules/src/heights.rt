@@ -6,8 +6,8 @@ ghost use Rattle.height_rules.specs.Heights.{allowance_of, notice_top, standards
 
 use airport_register::{Filing, StructureKind};
 
-/// How far a traverse way is raised for the traffic on it: 77.9(c).
-fn allowance(filing: &Filing) -> i64
+/// How far a traverse way is raised for the traffic on it, in tenths of a foot: 77.9(c).
+pub fn allowance(filing: &Filing) -> i64
     ensures value { result ≡ allowance_of filing.now }
     ensures low { pos 0 ≤ℤ result }
     ensures high { result ≤ℤ pos 1000 }
@@ -22,8 +22,8 @@ fn allowance(filing: &Filing) -> i64
     }
 }
 
-/// The top that the notice rules look at.
-pub(crate) fn top_for_notice(filing: &Filing) -> i64
+/// The top that the notice rules look at, in tenths of a foot.
+pub fn top_for_notice(filing: &Filing) -> i64
     ensures value { result ≡ notice_top filing.now }
     ensures level { IsLevel result }
     ensures low { filing.now.terrain ≤ℤ result }
@@ -34,7 +34,7 @@ pub(crate) fn top_for_notice(filing: &Filing) -> i64
 
 /// The top that the standards look at: a traverse way is not raised on or near an airport with an operative ground traffic
 /// control service, 77.17(b).
-pub(crate) fn top_for_standards(filing: &Filing) -> i64
+pub fn top_for_standards(filing: &Filing) -> i64
     ensures value { result ≡ standards_top filing.now }
     ensures level { IsLevel result }
     ensures low { filing.now.terrain ≤ℤ result }

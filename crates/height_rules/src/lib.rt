@@ -8,6 +8,7 @@ mod limit;
 mod near_airport;
 
 pub use above_ground::{excess_200, excess_499};
+pub use heights::{allowance, top_for_notice, top_for_standards};
 pub use near_airport::excess_near_airport;
 
 #[cfg(test)]

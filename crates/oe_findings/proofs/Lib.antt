@@ -1,2 +1,4 @@
 pub mod SameFindings
 pub mod ListFacts
+pub mod RunwayFacts
+pub mod Counts

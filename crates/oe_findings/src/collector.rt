@@ -37,7 +37,7 @@ impl Collector for Findings {
 
 /// A verdict takes entries by counting them; it needs no memory.
 impl Collector for Verdict {
-    ghost use Rattle.std.specs.Prelude.{◌≡◌, ⊥};
+    ghost use Rattle.std.specs.Prelude.{◌≡◌};
     ghost use Rattle.oe_findings.specs.Verdicts.{tally_of};
 
     ghost taken = { λ verdict list. verdict ≡ tally_of list };

@@ -4,7 +4,9 @@ ghost use Rattle.std.specs.Prelude.{◌≡◌, ◌++◌, [], List, OnOk, OnErr};
 ghost use Rattle.std.specs.List.{All, flat_map};
 ghost use Rattle.airport_register.specs.Airfields.{IsHeld};
 ghost use Rattle.airport_register.specs.Runways.{IsProper};
-ghost use Rattle.oe_findings.specs.List.{entries, findings_of, of_airfield, of_runway, of_runways};
+ghost use Rattle.oe_findings.specs.List.{entries, findings_of, of_airfield, of_runway, of_runways, runway_key};
+ghost use Rattle.height_rules.specs.Heights.{standards_top};
+ghost use Rattle.imaginary_surfaces.specs.Strips.{primary_excess, approach_excess};
 ghost use Rattle.oe_findings.specs.declared.finding.Finding.{Finding as AFinding};
 
 use crate::collector::Collector;
@@ -36,6 +38,31 @@ fn put_entry<C: Collector>(
     Ok(())
 }
 
+/// The key of a surface of a runway.
+fn key_of(field: FieldId, runway: &Runway, part: u8) -> SurfaceKey
+    ensures { result ≡ runway_key field runway.now part }
+{
+    SurfaceKey {
+        field: Some(field),
+        runway: Some(runway.name),
+        part,
+    }
+}
+
+/// How far a structure is above the primary surface.
+fn over_primary(strip: &Strip, filing: &Filing) -> Option<u32>
+    ensures { result ≡ primary_excess strip.now filing.now.at (standards_top filing.now) }
+{
+    strip.excess_primary(&filing.at, top_for_standards(filing))
+}
+
+/// How far a structure is above the approach surface of an end.
+fn over_approach(strip: &Strip, end: End, filing: &Filing) -> Option<u32>
+    ensures { result ≡ approach_excess strip.now end filing.now.at (standards_top filing.now) }
+{
+    strip.excess_approach(end, &filing.at, top_for_standards(filing))
+}
+
 /// Puts the entries of one runway behind the others.
 fn put_runway<C: Collector>(
     out: &mut C,
@@ -48,15 +75,13 @@ fn put_runway<C: Collector>(
     ensures fails { OnErr result C.fails }
 {
     let strip = Strip::of(runway);
-    let top = top_for_standards(filing);
-    let key = |part| SurfaceKey {
-        field: Some(field),
-        runway: Some(runway.name),
-        part,
-    };
-    put_entry(out, Rule::Primary, key(0), strip.excess_primary(&filing.at, top))?;
-    put_entry(out, Rule::Approach, key(1), strip.excess_approach(End::One, &filing.at, top))?;
-    put_entry(out, Rule::Approach, key(2), strip.excess_approach(End::Two, &filing.at, top))
+    let primary = over_primary(&strip, filing);
+    let first = over_approach(&strip, End::One, filing);
+    let second = over_approach(&strip, End::Two, filing);
+    put_entry(out, Rule::Primary, key_of(field, runway, 0), primary)?;
+    put_entry(out, Rule::Approach, key_of(field, runway, 1), first)?;
+    put_entry(out, Rule::Approach, key_of(field, runway, 2), second)?;
+    Ok(())
 }
 
 /// Puts the entries of the runways of an airport behind the others, in order of name.

@@ -106,6 +106,7 @@ impl Sky {
     pub fn verdict(&self, filing: &Filing) -> Verdict
         ensures { result ≡ verdict_of (findings_of self.now filing.now) }
     {
+        self.register.limits();
         let mut verdict = Verdict {
             notice: false,
             obstruction: false,

@@ -2,13 +2,16 @@
 use Rattle.std.specs.Prelude.{ℕ, ◌+◌, ◌-◌, ◌^◌, ◌≡◌, ◌≢◌, List, [], ◌++◌, Option, Some, None, true, min}
 use Rattle.std.specs.Io.KnownBytes.{Appends}
 use Rattle.std.specs.Str.Lines.{lines}
-use Rattle.airport_register.specs.Amendments.{first_broken, after_amendment}
+use Rattle.airport_register.specs.Amendments.{airfield_at, first_broken, after_amendment}
+use Rattle.airport_register.specs.declared.airfield.Airfield.{Airfield}
 use Rattle.airport_register.specs.declared.amendment.Amendment.{Amendment}
 use Rattle.airport_register.specs.declared.amendment.AmendRefusal.{AmendRefusal}
 use Rattle.oe_findings.specs.List.{findings_of}
+use Rattle.oe_findings.specs.Verdicts.{verdict_of}
 use Rattle.oe_session.specs.Session.{Answered, AnsweredRead}
 use Rattle.oe_wire.specs.Requests.{IsRecord, IsMalformed}
 use Rattle.oe_wire.specs.Replies.{reply_text, refused_amendment}
+use Rattle.oe_wire.specs.Rows.{airfield_row}
 use Rattle.oe_wire.specs.declared.request.Act.{Act}
 use Rattle.oe_wire.specs.declared.request.Act.TheVariants as acts
 use Rattle.oe_wire.specs.declared.request.Query.{Query}
@@ -24,7 +27,7 @@ use Rattle.oe_main.specs.Rulings.{plain_of}
 
 -- at first nothing is registered and nothing was changed
 abbrev pub opening : DeskState
-opening = record { register = []; accepted = 0 }
+opening = record { sky = []; accepted = 0 }
 
 -- the number of the next change; the count stands still at the end of its type
 abbrev pub next_number : ℕ → ℕ
@@ -36,18 +39,25 @@ ruling s a None = replies.Accepted (next_number s.accepted) true (outcomes.Plain
 ruling s a (Some refusal) = replies.Refused (refused_amendment refusal)
 
 abbrev pub after_ruling : DeskState → Amendment → Option AmendRefusal → DeskState
-after_ruling s a None = record { register = after_amendment s.register a; accepted = next_number s.accepted }
+after_ruling s a None = record { sky = after_amendment s.sky a; accepted = next_number s.accepted }
 after_ruling s a (Some refusal) = s
 
 abbrev pub act_reply : DeskState → Act → Reply
-act_reply s (acts.Amend a) = ruling s a (first_broken s.register a)
+act_reply s (acts.Amend a) = ruling s a (first_broken s.sky a)
 
 abbrev pub after_act : DeskState → Act → DeskState
-after_act s (acts.Amend a) = after_ruling s a (first_broken s.register a)
+after_act s (acts.Amend a) = after_ruling s a (first_broken s.sky a)
 
--- a screening is answered with the findings over the register as it is
+-- an airfield is told by its row
+abbrev pub airfield_reply : Option Airfield → Reply
+airfield_reply None = replies.Refused refusals.UnknownAirfield
+airfield_reply (Some field) = replies.Airfield (airfield_row field)
+
+-- a screening is answered with the findings over the airfields as they are, or with what they come to
 abbrev pub query_reply : DeskState → Query → Reply
-query_reply s (queries.Screen site) = replies.Found s.accepted (findings_of s.register site)
+query_reply s (queries.Screen site) = replies.Found s.accepted (findings_of s.sky site)
+query_reply s (queries.Verdict site) = replies.Verdict s.accepted (verdict_of (findings_of s.sky site))
+query_reply s (queries.Airfield id) = airfield_reply (airfield_at s.sky id)
 
 -- the reply to a request, and the state after it
 abbrev pub reply_to : DeskState → Request → Reply

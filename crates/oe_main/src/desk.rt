@@ -6,9 +6,8 @@ ghost use Rattle.oe_main.specs.declared.state.DeskState.{DeskState as DeskStateO
 ghost use Rattle.oe_main.specs.Desk.{Step, opening};
 
 use crate::state::{DeskState, tell};
-use airport_register::Register;
 use grid_exact::NoMemory;
-use oe_findings::Findings;
+use oe_findings::{Findings, Sky};
 use oe_session::Answering;
 use oe_wire::{ReadRefusal, RecordReader, Refusal, Reply, push_reply};
 use std::alloc::Global;
@@ -89,7 +88,7 @@ impl Desk {
         Desk {
             alloc,
             state: DeskState {
-                register: Register::empty(alloc),
+                sky: Sky::empty(alloc),
                 accepted: 0,
             },
             records: RecordReader::new(alloc),

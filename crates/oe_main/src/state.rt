@@ -6,19 +6,20 @@ ghost use Rattle.oe_main.specs.Desk.{Tells};
 ghost use Rattle.oe_wire.specs.declared.request.Request.TheVariants as requests;
 ghost use Rattle.oe_wire.specs.declared.request.Query.TheVariants as queries;
 
-use airport_register::{Amendment, Filing, Register};
+use airport_register::{Amendment, FieldId, Filing};
 use grid_exact::NoMemory;
-use oe_findings::{Findings, find};
+use oe_findings::{Findings, Sky};
 use oe_wire::{
-    Act, Change, Outcome, Plain, Query, Refusal, Reply, Request, push_found, push_reply,
+    Act, Change, Outcome, Plain, Query, Refusal, Reply, Request, push_airfield, push_found,
+    push_reply,
 };
 use std::alloc::Global;
 
 /// What the desk keeps from record to record.
 #[derive(Drop)]
 pub struct DeskState {
-    /// The airfields.
-    pub register: Register,
+    /// The airfields, with the surfaces over them.
+    pub sky: Sky,
     /// How many changes were accepted.
     pub accepted: u64,
 }
@@ -30,6 +31,8 @@ fn plain_form(amendment: &Amendment) -> Plain
     match amendment {
         Amendment::PutAirport { .. } => Plain::Airport,
         Amendment::PutRunway { .. } => Plain::Runway,
+        Amendment::DropRunway { .. } => Plain::DropRunway,
+        Amendment::Drop(_) => Plain::Drop,
     }
 }
 
@@ -42,10 +45,33 @@ fn tell_findings(
 ) -> Result<(), NoMemory>
     ensures { OnOk result (Tells state.now (requests.Query (queries.Screen filing.now)) (string_bytes text.old) (string_bytes text.new) state.now) }
 {
-    if find(list, &state.register, filing).is_err() {
+    if state.sky.find(list, filing).is_err() {
         return push_reply(text, &Reply::Refused(Refusal::NoMemory));
     }
     push_found(text, state.accepted, list.as_slice())
+}
+
+/// What the findings of a structure come to, as a reply behind a text.
+fn tell_verdict(state: &DeskState, filing: &Filing, text: &mut String) -> Result<(), NoMemory>
+    ensures { OnOk result (Tells state.now (requests.Query (queries.Verdict filing.now)) (string_bytes text.old) (string_bytes text.new) state.now) }
+{
+    push_reply(
+        text,
+        &Reply::Verdict {
+            last: state.accepted,
+            verdict: state.sky.verdict(filing),
+        },
+    )
+}
+
+/// The airfield of a name, as a reply behind a text.
+fn tell_airfield(state: &DeskState, id: &FieldId, text: &mut String) -> Result<(), NoMemory>
+    ensures { OnOk result (Tells state.now (requests.Query (queries.Airfield id.now)) (string_bytes text.old) (string_bytes text.new) state.now) }
+{
+    match state.sky.register().get(id) {
+        Some(airfield) => push_airfield(text, airfield),
+        None => push_reply(text, &Reply::Refused(Refusal::UnknownAirfield)),
+    }
 }
 
 /// Makes a change, or refuses it, with the reply behind a text.
@@ -58,8 +84,9 @@ fn tell_change(
     ensures { OnOk result (Tells state.old (requests.Change change.now) (string_bytes text.old) (string_bytes text.new) state.new) }
 {
     let Act::Amend(amendment) = &change.act;
-    match state.register.amend(alloc, amendment) {
-        Ok(_) => {
+    match state.sky.amended(alloc, amendment) {
+        Ok((sky, _)) => {
+            state.sky = sky;
             state.accepted = state.accepted.saturating_add(1);
             push_reply(
                 text,
@@ -86,6 +113,8 @@ pub(crate) fn tell(
 {
     match request {
         Request::Query(Query::Screen(filing)) => tell_findings(state, list, filing, text),
+        Request::Query(Query::Verdict(filing)) => tell_verdict(state, filing, text),
+        Request::Query(Query::Airfield(id)) => tell_airfield(state, id, text),
         Request::Change(change) => tell_change(alloc, state, change, text),
     }
 }

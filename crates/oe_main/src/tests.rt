@@ -96,6 +96,69 @@ fn records_over_one_airport(rt: HostRuntime) -> Result<(), Fail> {
 }
 
 #[test]
+fn surfaces_of_a_runway(rt: HostRuntime) -> Result<(), Fail> {
+    let table = [
+        (
+            "screen,-152000,0,1000,2001,object,0,-,-\n",
+            "found,2,3,17a2 AAA - 1,19d AAA 09/27.1 1,9a - - 1\n",
+        ),
+        (
+            "verdict,-152000,0,1000,2001,object,0,-,-\n",
+            "verdict,2,yes,yes,3\n",
+        ),
+        (
+            "screen,0,5000,1000,1,object,0,-,-\n",
+            "found,2,1,19c AAA 09/27 1\n",
+        ),
+        (
+            "verdict,0,5000,1000,1,object,0,-,-\n",
+            "verdict,2,no,yes,1\n",
+        ),
+    ];
+    for (record, reply) in table {
+        let text = format!(in rt.alloc(); "{AIRPORT}{RUNWAY}{record}")?;
+        let wanted = format!(in rt.alloc(); "{PUBLISHED}{reply}")?;
+        let (status, output) = desk(rt.alloc(), text.as_str(), 4096)?;
+        assert_eq!(rt; status, Status::Done);
+        assert_eq!(rt; output.bytes(), wanted.as_bytes());
+    }
+    Ok(())
+}
+
+#[test]
+fn airfields_put_and_taken_out(rt: HostRuntime) -> Result<(), Fail> {
+    let table = [
+        ("airfield,AAA\n", "airfield,airport,public,0,0,1000\n"),
+        (
+            "drop,u,3,AAA\nairfield,AAA\n",
+            "ok,3,published,drop\nno,3,UnknownAirfield\n",
+        ),
+        (
+            "droprunway,u,3,AAA,09/27\nscreen,0,5000,1000,1,object,0,-,-\n",
+            "ok,3,published,droprunway\nfound,3,0\n",
+        ),
+        ("droprunway,u,4,ZZZ,09/27\n", "no,3,UnknownAirfield\n"),
+        ("droprunway,u,4,AAA,01/19\n", "no,4,UnknownRunway\n"),
+        (
+            "airport,u,4,BBB,public,0,0,200001\n",
+            "no,9,ElevationRange\n",
+        ),
+        (
+            "runway,u,3,AAA,01/19,utility,hard,-50000,0,1000,P,50000,0,1000,V\n",
+            "no,2,PrecisionOnUtility\n",
+        ),
+    ];
+    for (records, replies) in table {
+        let text = format!(in rt.alloc(); "{AIRPORT}{RUNWAY}{records}")?;
+        let wanted = format!(in rt.alloc(); "{PUBLISHED}{replies}")?;
+        let (status, output) = desk(rt.alloc(), text.as_str(), 4096)?;
+        assert_eq!(rt; status, Status::Done);
+        assert_eq!(rt; output.bytes(), wanted.as_bytes());
+    }
+    Ok(())
+}
+
+#[test]
 fn a_second_read_that_fails_ends_the_run(rt: HostRuntime) -> Result<(), Fail> {
     let alloc = rt.alloc();
     let text = "screen,0,0,1000,2001,object,0,-,-\nscreen,0,0,1000,2001,object,0,-,-\n";

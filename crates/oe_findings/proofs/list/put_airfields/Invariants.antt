@@ -1,8 +1,9 @@
-use Rattle.std.proofs.Common.{◌≡◌, ◌++◌, take}
+use Rattle.std.proofs.Common.{List, ◌++◌, take}
 use Rattle.std.specs.List.{flat_map}
 use Rattle.oe_findings.specs.List.{of_airfield}
-use Rattle.oe_findings.proofs.list.push_airfields.Given as goal
+use Rattle.oe_findings.specs.declared.finding.Finding.{Finding}
+use Rattle.oe_findings.proofs.list.put_airfields.Given as goal
 
 -- the entries of the airfields so far
 abbrev pub invariant-loop-i : goal.invariant-loop-i
-invariant-loop-i l = l.list ≡ l.fn.list ++ flat_map (of_airfield l.filing) (take l.i l.register)
+invariant-loop-i g l = (list : List Finding) → g.C.Collector.taken l.fn.out list → g.C.Collector.taken l.out (list ++ flat_map (of_airfield l.filing) (take l.i l.register))
