@@ -24,10 +24,12 @@ abbrev pub amended_id : Amendment → List ℕ
 amended_id (PutAirport id category arp elevation) = id
 amended_id (PutRunway id runway) = id
 
+-- no airfield of this name is registered
 abbrev pub is_none : Option Airfield → Bool
 is_none None = true
 is_none (Some f) = false
 
+-- the airfield of this name is a heliport, and no airport
 abbrev pub is_heliport : Option Airfield → Bool
 is_heliport None = false
 is_heliport (Some (AnAirport a)) = false
@@ -66,6 +68,7 @@ abbrev pub with_runway : Runway → Airport → Airport
 with_runway runway a =
     record { id = a.id; category = a.category; arp = a.arp; elevation = a.elevation; runways = put_by name_cmp name_of runway a.runways }
 
+-- the airfields with the runway at the airport that was found; as they are where none was found
 abbrev pub put_runway : List Airfield → Option Airfield → Runway → List Airfield
 put_runway airfields None runway = airfields
 put_runway airfields (Some (AnAirport a)) runway = put_by name_cmp id_of (AnAirport (with_runway runway a)) airfields

@@ -1,10 +1,10 @@
 -- The derived test of two findings says whether they are one.
-use Rattle.std.proofs.Common.{◌≡◌, ◌==◌, ℕ, List, Bool, true, false, ◌&&◌, Option, Some, None, refl, ap, ◌∙◌}
+use Rattle.std.proofs.Common.{◌≡◌, ℕ, List, Bool, Option, Some, None, refl, ap, ◌∙◌}
 use Rattle.std.specs.Bool.{Decides}
 use Rattle.std.specs.Option.{option_eq}
 use Rattle.std.specs.Cmp.Lexicographic.{bytes_decides}
 use Rattle.std.proofs.lemmas.Bool.Decides.{Decides-and, Decides-eqb}
-use denote.Enum.Bare.{sameb, same_true, true_same}
+use denote.Enum.Bare.{same_true, true_same}
 use Rattle.airport_register.specs.contracts.names.FieldIdPartialEq.TheImpl.{eq-value as field_eq}
 use Rattle.airport_register.specs.contracts.names.RunwayNamePartialEq.TheImpl.{eq-value as runway_eq}
 use Rattle.oe_findings.specs.contracts.finding.FindingPartialEq.TheImpl.{eq-value as finding_eq}

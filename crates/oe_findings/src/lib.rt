@@ -31,16 +31,15 @@ mod tests {
     #[test]
     fn lists_of_findings(rt: HostRuntime) {
         let alloc = rt.alloc();
-        let id = FieldId::new(b"AAA").ok();
+        let high = finding(Rule::H499, None, 1);
+        let near = finding(Rule::Near, FieldId::new(b"AAA").ok(), 2);
         let mut list = Findings::new(alloc);
         assert!(rt; list.is_empty());
-        list.push(finding(Rule::H499, None, 1))
-            .expect(&rt, "there is memory");
+        list.push(high).expect(&rt, "there is memory");
         let one = list.copy(alloc).expect(&rt, "there is memory");
-        list.push(finding(Rule::Near, id, 2))
-            .expect(&rt, "there is memory");
+        list.push(near).expect(&rt, "there is memory");
         assert_eq!(rt; list.len(), 2);
-        assert_eq!(rt; list.get(1), Some(&finding(Rule::Near, id, 2)));
+        assert_eq!(rt; list.get(1).map(|f| f.excess), Some(2));
         assert!(rt; list.get(2).is_none());
         assert_eq!(rt; list.as_slice().len(), 2);
         assert!(rt; list.equal(&list));

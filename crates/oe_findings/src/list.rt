@@ -32,11 +32,7 @@ fn push_entry(
 }
 
 /// Puts the entries of one airfield behind the others.
-fn push_airfield(
-    list: &mut Findings,
-    filing: &Filing,
-    airfield: &Airfield,
-) -> Result<(), NoMemory>
+fn push_airfield(list: &mut Findings, filing: &Filing, airfield: &Airfield) -> Result<(), NoMemory>
     ensures { OnOk result (list.new ≡ list.old ++ of_airfield filing.now airfield.now) }
 {
     match airfield {
@@ -54,11 +50,7 @@ fn push_airfield(
 
 #[tactic(auto, using(crate::proofs::ListFacts::one_more, crate::proofs::ListFacts::not_past))]
 /// Puts the entries of all airfields behind the others, in order of name.
-fn push_airfields(
-    list: &mut Findings,
-    filing: &Filing,
-    register: &Register,
-) -> Result<(), NoMemory>
+fn push_airfields(list: &mut Findings, filing: &Filing, register: &Register) -> Result<(), NoMemory>
     ensures { OnOk result (list.new ≡ list.old ++ flat_map (of_airfield filing.now) register.now) }
 {
     for i in 0..register.len() {

@@ -3,9 +3,9 @@ use Rattle.std.proofs.Common.{ℕ, List, [], ◌++◌, Option, Some, None, refl,
 use Rattle.std.specs.Io.KnownBytes.{Appends}
 use Rattle.std.specs.Str.Lines.{lines}
 use Rattle.oe_session.specs.Machine.{Starts}
-use Rattle.oe_session.specs.Session.{Begun, Answered}
+use Rattle.oe_session.specs.Session.{Begun, Answered, AnsweredRead}
 use Rattle.oe_main.specs.declared.state.DeskState.{DeskState}
-use Rattle.oe_main.specs.Desk.{Step, opening, AllAnswered}
+use Rattle.oe_main.specs.Desk.{Step, opening, AllAnswered, ReadAnswered}
 
 appends_nothing : (h : Option (List ℕ)) → Appends h h []
 appends_nothing None = tt
@@ -21,3 +21,6 @@ begun_nothing (Some xs) h = ([], appends_nothing h, starts_nothing opening (line
 
 pub all_answered : (after : DeskState) (x h k : Option (List ℕ)) → Answered Step opening after x h k → AllAnswered x h k
 all_answered after x h k a = (after, a)
+
+pub read_answered : (after : DeskState) (x y h k : Option (List ℕ)) → AnsweredRead Step opening after x y h k → ReadAnswered x y h k
+read_answered after x y h k a = (after, a)

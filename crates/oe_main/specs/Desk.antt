@@ -6,7 +6,7 @@ use Rattle.airport_register.specs.Amendments.{first_broken, after_amendment}
 use Rattle.airport_register.specs.declared.amendment.Amendment.{Amendment}
 use Rattle.airport_register.specs.declared.amendment.AmendRefusal.{AmendRefusal}
 use Rattle.oe_findings.specs.List.{findings_of}
-use Rattle.oe_session.specs.Session.{Answered}
+use Rattle.oe_session.specs.Session.{Answered, AnsweredRead}
 use Rattle.oe_wire.specs.Requests.{IsRecord, IsMalformed}
 use Rattle.oe_wire.specs.Replies.{reply_text, refused_amendment}
 use Rattle.oe_wire.specs.declared.request.Act.{Act}
@@ -81,3 +81,7 @@ pub data Step (before : DeskState) (line text : List ℕ) (after : DeskState) : 
 -- the replies to all lines of an input were written, from the opening state on, where both streams tell
 abbrev pub AllAnswered : Option (List ℕ) → Option (List ℕ) → Option (List ℕ) → Type 0
 AllAnswered input held_old held_new = (after : DeskState) × Answered Step opening after input held_old held_new
+
+-- the replies to all lines that were read whole were written
+abbrev pub ReadAnswered : Option (List ℕ) → Option (List ℕ) → Option (List ℕ) → Option (List ℕ) → Type 0
+ReadAnswered input left held_old held_new = (after : DeskState) × AnsweredRead Step opening after input left held_old held_new

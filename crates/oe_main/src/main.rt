@@ -10,14 +10,13 @@ mod status;
 mod words;
 
 pub use desk::Desk;
+use oe_http::{ReadSource, WriteSink};
 pub use run::run;
 pub use state::DeskState;
 pub use status::Status;
-pub use words::Words;
-
-use oe_http::{ReadSource, WriteSink};
 use std::env;
 use std::process::ExitCode;
+pub use words::Words;
 
 #[cfg(test)]
 mod tests;

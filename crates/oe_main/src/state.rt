@@ -9,7 +9,9 @@ ghost use Rattle.oe_wire.specs.declared.request.Query.TheVariants as queries;
 use airport_register::{Amendment, Filing, Register};
 use grid_exact::NoMemory;
 use oe_findings::{Findings, find};
-use oe_wire::{Act, Change, Outcome, Plain, Query, Refusal, Reply, Request, push_found, push_reply};
+use oe_wire::{
+    Act, Change, Outcome, Plain, Query, Refusal, Reply, Request, push_found, push_reply,
+};
 use std::alloc::Global;
 
 /// What the desk keeps from record to record.

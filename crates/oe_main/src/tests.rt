@@ -6,8 +6,7 @@ use std::test::Fail;
 
 const AIRPORT: &str = "airport,u,1,AAA,public,0,0,1000\n";
 
-const RUNWAY: &str =
-    "runway,u,2,AAA,09/27,other,hard,-50000,0,1000,P,50000,0,1000,NA\n";
+const RUNWAY: &str = "runway,u,2,AAA,09/27,other,hard,-50000,0,1000,P,50000,0,1000,NA\n";
 
 const PUBLISHED: &str = "ok,1,published,airport\nok,2,published,runway\n";
 
@@ -33,15 +32,24 @@ fn desk(alloc: Global, text: &str, most: usize) -> Result<(Status, FakeSink), Fa
 fn records_without_a_register(rt: HostRuntime) -> Result<(), Fail> {
     let table = [
         ("screen,0,0,1000,2000,object,0,-,-\n", "found,0,0\n"),
-        ("screen,0,0,1000,2001,object,0,-,-\n", "found,0,1,9a - - 1\n"),
-        ("screen,0,0,1000,4990,object,0,-,-\n", "found,0,1,9a - - 2990\n"),
+        (
+            "screen,0,0,1000,2001,object,0,-,-\n",
+            "found,0,1,9a - - 1\n",
+        ),
+        (
+            "screen,0,0,1000,4990,object,0,-,-\n",
+            "found,0,1,9a - - 2990\n",
+        ),
         (
             "screen,0,0,1000,4991,object,0,-,-\r\n",
             "found,0,2,17a1 - - 1,9a - - 2991\n",
         ),
         ("\n\r\n", ""),
         ("day,u,3,2026-01-15", "no,13,Malformed,1\n"),
-        ("screen,20000001,0,0,0,object,0,-,-\n", "no,13,Malformed,2\n"),
+        (
+            "screen,20000001,0,0,0,object,0,-,-\n",
+            "no,13,Malformed,2\n",
+        ),
         (
             "runway,u,3,ZZZ,09/27,other,soft,0,0,0,V,1000,0,0,V\n",
             "no,3,UnknownAirfield\n",
@@ -112,14 +120,19 @@ fn a_first_write_that_fails_ends_the_run(rt: HostRuntime) -> Result<(), Fail> {
     Ok(())
 }
 
+// How a run with these words over an empty input ends.
+fn status_of(alloc: Global, list: &[&str]) -> Result<Status, Fail> {
+    let mut input = FakeSource::new(Bytes::from_slice(alloc, b"")?, 1, Vec::new(alloc));
+    let mut output = FakeSink::new(alloc, 10, Vec::new(alloc))?;
+    let words = words(alloc, list)?;
+    Ok(run(alloc, &words, &mut input, &mut output))
+}
+
 #[test]
 fn other_words_are_no_command(rt: HostRuntime) -> Result<(), Fail> {
-    let alloc = rt.alloc();
-    for list in [[].as_slice(), ["desks"].as_slice(), ["desk", "desk"].as_slice()] {
-        let mut input = FakeSource::new(Bytes::from_slice(alloc, b"")?, 1, Vec::new(alloc));
-        let mut output = FakeSink::new(alloc, 10, Vec::new(alloc))?;
-        let status = run(alloc, &words(alloc, list)?, &mut input, &mut output);
-        assert_eq!(rt; status, Status::Usage);
-    }
+    assert_eq!(rt; status_of(rt.alloc(), &["desk"])?, Status::Done);
+    assert_eq!(rt; status_of(rt.alloc(), &[])?, Status::Usage);
+    assert_eq!(rt; status_of(rt.alloc(), &["desks"])?, Status::Usage);
+    assert_eq!(rt; status_of(rt.alloc(), &["desk", "desk"])?, Status::Usage);
     Ok(())
 }

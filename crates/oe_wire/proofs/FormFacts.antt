@@ -1,9 +1,9 @@
 -- The first field of a record names its form.
-use Rattle.std.proofs.Common.{arith, ℕ, zero, suc, ◌+◌, ◌<◌, ◌≡◌, ◌≢◌, List, [], ◌∷◌, Option, Some, None, slice_get, refl, ap, codes, ◌∙◌, sym, subst, Result, Ok, Err, IfErr}
+use Rattle.std.proofs.Common.{arith, ℕ, ◌≡◌, ◌≢◌, List, Some, None, slice_get, refl, ◌∙◌, sym, subst, Result, Ok, Err, IfErr}
 use Rattle.csv.specs.Records.{field_at}
-use Rattle.oe_wire.specs.Shape.{Wanted, Spelled, FitsAt, FitsBefore, HasShape, FirstBad, IsField}
+use Rattle.oe_wire.specs.Shape.{Spelled, FitsBefore, HasShape, FirstBad, IsField}
 use Rattle.oe_wire.specs.Forms.{form_word, shape_of, IsNoForm, FirstWrong, NoForm, InForm}
-use Rattle.oe_wire.specs.Requests.{spelling, form_of, IsGood}
+use Rattle.oe_wire.specs.Requests.{spelling, form_of, IsValid, IsGood}
 use Rattle.oe_wire.specs.declared.request.Request.{Request}
 use Rattle.oe_wire.specs.declared.form.Form.{Form}
 use Rattle.oe_wire.specs.declared.form.BadField.{BadField}
@@ -27,8 +27,11 @@ no_form fields text f h = record { other = λ form q. h form (same_first fields 
 pub no_first : (fields : List (List ℕ)) → field_at fields 0 ≡ None → IsNoForm fields
 no_first fields e = record { other = λ form q. absurd (let n : None ≡ Some (form_word form) = sym e ∙ q.there in cc) }
 
-pub is_good : (fields : List (List ℕ)) (r : Request) (form : Form) → fields ≡ spelling r → form_of r ≡ form → HasShape (shape_of form) fields → IsGood r
-is_good fields r form e f h = subst (HasShape (shape_of (form_of r))) e (subst (λ g. HasShape (shape_of g) fields) (sym f) h)
+pub is_good : (fields : List (List ℕ)) (r : Request) (form : Form) → fields ≡ spelling r → form_of r ≡ form → IsValid r → HasShape (shape_of form) fields → IsGood r
+is_good fields r form e f v h = record {
+  valid = v;
+  shape = subst (HasShape (shape_of (form_of r))) e (subst (λ g. HasShape (shape_of g) fields) (sym f) h);
+}
 
 pub wrong_form : (fields : List (List ℕ)) → IsNoForm fields → FirstWrong fields 1
 wrong_form fields h = NoForm h refl

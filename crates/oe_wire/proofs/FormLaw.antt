@@ -1,23 +1,22 @@
 -- The first field that leaves the forms is the first that no request with the same earlier fields has.
-use Rattle.std.proofs.Common.{arith, ℕ, zero, suc, ◌+◌, ◌-◌, ◌<◌, ◌≤◌, ◌≡◌, ◌≢◌, ◌≤ℤ◌, List, [], ◌∷◌, Option, Some, None, Bool, true, false, take, drop, length, slice_get, refl, ap, sym, subst, ◌∙◌, inl, inr, codes, ℤ, neg_ℤ, pos, if◌then◌else◌}
+use Rattle.std.proofs.Common.{arith, ℕ, zero, suc, ◌-◌, ◌<◌, ◌≡◌, ◌≢◌, ◌≤ℤ◌, List, [], ◌∷◌, Option, Some, None, true, false, take, slice_get, refl, ap, sym, subst, ◌∙◌, inl, codes, ℤ, neg_ℤ, pos, if◌then◌else◌}
 use Rattle.std.specs.Str.{bytes_eq}
 use Rattle.std.proofs.lemmas.Fmt.{decimal_digit}
+use Rattle.whole_number.specs.Whole.{HasNineDigits}
 use Rattle.grid_exact.specs.Grid.{OnGrid}
 use Rattle.std.proofs.lemmas.Int.{ints}
-use Rattle.std.proofs.lemmas.List.{take-take}
 use Rattle.std.proofs.lemmas.List.Elements.{All-cons, All-nil}
-use Rattle.std.proofs.lemmas.Bool.{cases_lt}
 use Rattle.std.specs.Fmt.{signed_decimal}
 use Rattle.csv.specs.Records.{field_at}
 use Rattle.runway_classes.specs.declared.ApproachKind.TheVariants.{Visual}
-use Rattle.airport_register.specs.Names.{IsFieldId, IsRunwayName, IsLetterOrDigit, IsRunwayByte}
+use Rattle.airport_register.specs.Names.{IsLetterOrDigit, IsRunwayByte}
 use Rattle.airport_register.specs.declared.category.Category.TheVariants.{PublicUse}
 use Rattle.airport_register.specs.declared.structure.StructureKind.TheVariants.{Object}
 use Rattle.airport_register.specs.declared.amendment.Amendment.TheVariants.{PutAirport, PutRunway}
-use Rattle.oe_wire.specs.Words.{IsWord, IsWordByte, category_word, approach_word, weight_word, pavement_word}
-use Rattle.oe_wire.specs.Shape.{Wanted, Spelled, Between, FieldIdWanted, RunwayNameWanted, WordWanted, CategoryWanted, WeightWanted, PavementWanted, ApproachWanted, IsBetween, Fits, Matches, FitsAt, FitsBefore, HasShape, FirstBad, IsField}
-use Rattle.oe_wire.specs.Forms.{form_word, shape_of, IsNoForm, FirstWrong, NoForm, InForm}
-use Rattle.oe_wire.specs.Requests.{spelling, form_of, IsGood, IsFirstWithout}
+use Rattle.oe_wire.specs.Words.{IsWordByte, category_word, approach_word, weight_word, pavement_word}
+use Rattle.oe_wire.specs.Shape.{Wanted, Spelled, Between, FieldIdWanted, RunwayNameWanted, WordWanted, CategoryWanted, WeightWanted, PavementWanted, ApproachWanted, IsBetween, Fits, Matches, FitsAt, FirstBad, IsField}
+use Rattle.oe_wire.specs.Forms.{form_word, shape_of, FirstWrong, NoForm, InForm}
+use Rattle.oe_wire.specs.Requests.{spelling, form_of, IsValid, IsGood, IsFirstWithout}
 use Rattle.oe_wire.specs.declared.form.Form.{Form}
 use Rattle.oe_wire.specs.declared.form.Form.TheVariants as forms
 use Rattle.oe_wire.specs.declared.request.Request.{Request}
@@ -117,8 +116,11 @@ form_example forms.Screen = examples (shape_of forms.Screen) (tt, (omega (arith,
 on_grid : {x y : ℤ} → IsBetween (neg_ℤ (pos 20000000)) (pos 20000000) x → IsBetween (neg_ℤ (pos 20000000)) (pos 20000000) y → OnGrid x y
 on_grid h k = record { west = h.0; east = h.1; south = k.0; north = k.1 }
 
+nine_digits : {z : ℤ} → IsBetween (neg_ℤ (pos 999999999)) (pos 999999999) z → HasNineDigits z
+nine_digits h = omega (arith, ints)
+
 -- fields of a form are those of a request
-request_of : (form : Form) (v : Values (shape_of form)) → (r : Request) × (form_of r ≡ form) × (texts (shape_of form) v ≡ spelling r)
+request_of : (form : Form) (v : Values (shape_of form)) → (r : Request) × (form_of r ≡ form) × (texts (shape_of form) v ≡ spelling r) × IsValid r
 request_of forms.Airport v =
     let caller = v.1 in
     let key = caller.1 in
@@ -134,6 +136,7 @@ request_of forms.Airport v =
       }),
       refl,
       rw (v.0.1, category.0.1.1, x.0.1.1, y.0.1.1, z.0.1.1) refl,
+      nine_digits z.0.1.2,
     )
 request_of forms.Runway v =
     let caller = v.1 in
@@ -163,6 +166,7 @@ request_of forms.Runway v =
       }),
       refl,
       rw (v.0.1, weight.0.1.1, pavement.0.1.1, x1.0.1.1, y1.0.1.1, z1.0.1.1, kind1.0.1.1, x2.0.1.1, y2.0.1.1, z2.0.1.1, kind2.0.1.1) refl,
+      (nine_digits z1.0.1.2, nine_digits z2.0.1.2),
     )
 request_of forms.Screen v =
     let x = v.1 in
@@ -184,6 +188,17 @@ request_of forms.Screen v =
       })),
       refl,
       rw (v.0.1, x.0.1.1, y.0.1.1, terrain.0.1.1, height.0.1.1, kind.0.1, mobile.0.1, flags.0.1, on.0.1, decimal_digit 0 (omega arith)) refl,
+      (
+        record {
+          terrain_least = terrain.0.1.2.0;
+          terrain_most = terrain.0.1.2.1;
+          height_least = height.0.1.2.0;
+          height_most = height.0.1.2.1;
+          mobile_least = omega (arith, ints);
+          mobile_most = omega (arith, ints);
+        },
+        tt,
+      ),
     )
 
 field_at_take : (n m : ℕ) (xs : List (List ℕ)) → m < n → field_at (take n xs) m ≡ field_at xs m
@@ -202,9 +217,9 @@ spelled_first word None m = absurd m
 spelled_first word (Some f) m = ap Some m
 
 -- a good request begins with the word of its form
-first_good : (r : Request) → IsGood r → IsField (spelling r) 0 (form_word (form_of r))
+pub first_good : (r : Request) → IsGood r → IsField (spelling r) 0 (form_word (form_of r))
 first_good r h = record {
-  there = spelled_first (form_word (form_of r)) (field_at (spelling r) 0) (subst (λ w. Matches w (field_at (spelling r) 0)) (first_wanted (form_of r)) (h.each 0));
+  there = spelled_first (form_word (form_of r)) (field_at (spelling r) 0) (subst (λ w. Matches w (field_at (spelling r) 0)) (first_wanted (form_of r)) (h.shape.each 0));
 }
 
 -- the form of a word
@@ -219,11 +234,11 @@ named_again forms.Airport = refl
 named_again forms.Runway = refl
 named_again forms.Screen = refl
 
-one_form : (f g : Form) → form_word f ≡ form_word g → f ≡ g
+pub one_form : (f g : Form) → form_word f ≡ form_word g → f ≡ g
 one_form f g e = let same : Some f ≡ Some g = sym (named_again f) ∙ ap form_named e ∙ named_again g in cc
 
 good_of : (form : Form) (v : Values (shape_of form)) → IsGood (request_of form v).0
-good_of form v = let r = request_of form v in is_good (texts (shape_of form) v) r.0 form r.2 r.1 (record { each = texts_fit (shape_of form) v })
+good_of form v = let r = request_of form v in is_good (texts (shape_of form) v) r.0 form r.2 r.1 r.3 (record { each = texts_fit (shape_of form) v })
 
 none_in_form : (form : Form) (fields : List (List ℕ)) (n : ℕ) → IsField fields 0 (form_word form) → FirstBad (shape_of form) fields n
     → (r : Request) → IsGood r → take n (spelling r) ≢ take n fields
@@ -232,7 +247,7 @@ none_in_form form fields n f b r good e =
     let word : form_word (form_of r) ≡ form_word form = cc in
     let form_is = one_form (form_of r) form word in
     let here = same_at n (n - 1) (spelling r) fields e (omega (arith, b.counted)) in
-    b.bad (subst (Matches (slice_get (shape_of form) (n - 1))) here (subst (λ g. FitsAt (shape_of g) (spelling r) (n - 1)) form_is (good.each (n - 1))))
+    b.bad (subst (Matches (slice_get (shape_of form) (n - 1))) here (subst (λ g. FitsAt (shape_of g) (spelling r) (n - 1)) form_is (good.shape.each (n - 1))))
 
 pub first_without : (fields : List (List ℕ)) (n : ℕ) → FirstWrong fields n → IsFirstWithout fields n
 first_without fields n (InForm form f b) =

@@ -3,4 +3,5 @@ pub mod LimitFacts
 pub mod FieldFacts
 pub mod FormFacts
 pub mod FormLaw
+pub mod OneRequest
 pub mod OneReading

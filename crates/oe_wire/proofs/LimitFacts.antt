@@ -7,7 +7,7 @@ use Rattle.whole_number.specs.Whole.{HasNineDigits}
 use Rattle.oe_wire.specs.Shape.{IsBetween}
 use lib.Signed.{mag}
 
-short_mag : (z : ℤ) → HasNineDigits z → mag z < 2 ^ 63
+pub short_mag : (z : ℤ) → HasNineDigits z → mag z < 2 ^ 63
 short_mag (pos n) h = omega (arith, ints)
 short_mag (negsuc n) h = omega (arith, ints)
 

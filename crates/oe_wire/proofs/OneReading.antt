@@ -1,13 +1,14 @@
 -- A line is the record of a request or leaves the forms at one field.
-use Rattle.std.proofs.Common.{arith, ℕ, ◌+◌, ◌-◌, ◌<◌, ◌≤◌, ◌≡◌, ◌≢◌, List, [], Option, Some, None, length, take, refl, ap, sym, subst, ◌∙◌, ◌⊎◌, inl, inr}
+use Rattle.std.proofs.Common.{arith, ℕ, ◌-◌, ◌<◌, ◌≤◌, ◌≡◌, ◌≢◌, List, [], Some, None, length, take, ap, sym, subst, ◌∙◌, inl, inr}
 use Rattle.std.proofs.lemmas.Bool.{cases_lt}
 use Rattle.std.proofs.lemmas.List.{take-take}
 use Rattle.record_fields.specs.Fields.{one_record}
 use Rattle.record_fields.proofs.PlainFacts.{no_record}
 use Rattle.oe_wire.specs.Forms.{FirstWrong, NoForm, InForm}
-use Rattle.oe_wire.specs.Requests.{spelling, IsGood, IsFirstWithout, IsRecord, IsMalformed, Long, Empty, NotOne, Wrong}
+use Rattle.oe_wire.specs.Requests.{spelling, IsRecord, IsMalformed, Long, Empty, NotOne, Wrong}
 use Rattle.oe_wire.specs.declared.request.Request.{Request}
 use Rattle.oe_wire.proofs.FormLaw.{first_without}
+use Rattle.oe_wire.proofs.OneRequest.{one_request}
 
 -- the fields of a line that is one record
 one_list : (line : List ℕ) (f g : List (List ℕ)) → one_record line ≡ Some f → one_record line ≡ Some g → f ≡ g
@@ -75,3 +76,6 @@ once line a b (Long l e) h = e ∙ sym (long_field line b l h)
 once line a b (Empty e f) h = f ∙ sym (empty_field line b e h)
 once line a b (NotOne le some none e) h = e ∙ sym (no_record_field line b le some none h)
 once line a b (Wrong le fields e w) h = wrong_field line fields a b le e w h
+
+pub same : (line : List ℕ) (r s : Request) → IsRecord line r → IsRecord line s → r ≡ s
+same line r s p q = one_request r s p.good q.good (one_list line (spelling r) (spelling s) p.fields q.fields)

@@ -1,5 +1,5 @@
 -- A text that is none of the words of a value.
-use Rattle.std.proofs.Common.{◌≡◌, ◌≢◌, List, ℕ, Bool, true, false, codes}
+use Rattle.std.proofs.Common.{◌≢◌, List, ℕ, Bool, true, false, codes}
 use Rattle.runway_classes.specs.declared.ApproachKind.{ApproachKind}
 use Rattle.runway_classes.specs.declared.ApproachKind.TheVariants.{Visual, NonprecisionAbove, NonprecisionLow, Precision}
 use Rattle.airport_register.specs.declared.category.Category.{Category}

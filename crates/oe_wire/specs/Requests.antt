@@ -2,7 +2,9 @@
 use Rattle.std.specs.Prelude.{ℕ, ◌-◌, ◌≤◌, ◌<◌, take, ◌≡◌, ◌≢◌, List, [], ◌∷◌, length, Option, Some, None, codes}
 use Rattle.std.specs.Fmt.{signed_decimal}
 use Rattle.record_fields.specs.Fields.{one_record}
-use Rattle.airport_register.specs.Sites.{Site}
+use Rattle.whole_number.specs.Whole.{HasNineDigits}
+use Rattle.airport_register.specs.Names.{IsFieldId}
+use Rattle.airport_register.specs.Sites.{Site, IsSite}
 use Rattle.airport_register.specs.declared.amendment.Amendment.{Amendment}
 use Rattle.airport_register.specs.declared.amendment.Amendment.TheVariants as amendments
 use Rattle.oe_wire.specs.Words.{category_word, approach_word, weight_word, pavement_word, kind_word, flags_text, name_text}
@@ -59,9 +61,30 @@ abbrev pub form_of : Request → Form
 form_of (requests.Query query) = query_form query
 form_of (requests.Change change) = act_form change.act
 
--- each field of the request is what its form wants there
-abbrev pub IsGood : Request → Type 0
-IsGood r = HasShape (shape_of (form_of r)) (spelling r)
+-- no name, or the name of an airfield
+abbrev pub IsAirfieldName : Option (List ℕ) → Type 0
+IsAirfieldName None = Unit {0}
+IsAirfieldName (Some name) = IsFieldId name
+
+abbrev pub IsValidQuery : Query → Type 0
+IsValidQuery (queries.Screen site) = IsSite site × IsAirfieldName site.on
+
+abbrev pub IsValidAmendment : Amendment → Type 0
+IsValidAmendment (amendments.PutAirport id category arp elevation) = HasNineDigits elevation
+IsValidAmendment (amendments.PutRunway id r) = HasNineDigits r.end1.z × HasNineDigits r.end2.z
+
+abbrev pub IsValidAct : Act → Type 0
+IsValidAct (acts.Amend amendment) = IsValidAmendment amendment
+
+-- the values of the request are within the limits of records
+abbrev pub IsValid : Request → Type 0
+IsValid (requests.Query query) = IsValidQuery query
+IsValid (requests.Change change) = IsValidAct change.act
+
+-- a request that has a record: its values are within their limits, and each field is what its form wants there
+pub record IsGood (r : Request) : Type 0 where
+  pub valid : IsValid r
+  pub shape : HasShape (shape_of (form_of r)) (spelling r)
 
 -- the line is the record of this request
 pub record IsRecord (line : List ℕ) (r : Request) : Type 0 where

@@ -1,5 +1,5 @@
 -- The shape of a record: what each of its fields may be.
-use Rattle.std.specs.Prelude.{ℕ, ◌+◌, ◌-◌, ◌<◌, ◌≤◌, ◌≡◌, ℤ, ◌≤ℤ◌, List, [], ◌∷◌, Bool, Option, Some, None, slice_get}
+use Rattle.std.specs.Prelude.{ℕ, ◌-◌, ◌<◌, ◌≤◌, ◌≡◌, ℤ, ◌≤ℤ◌, List, Bool, Option, Some, None, slice_get}
 use Rattle.std.specs.Fmt.{signed_decimal}
 use Rattle.csv.specs.Records.{field_at}
 use Rattle.runway_classes.specs.declared.ApproachKind.{ApproachKind}

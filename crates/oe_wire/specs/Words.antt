@@ -1,5 +1,5 @@
 -- The words by which records spell values.
-use Rattle.std.specs.Prelude.{ℕ, List, [], ◌∷◌, ◌++◌, ◌≤◌, ◌≡◌, ◌⊎◌, length, Bool, true, false, Option, Some, None, codes, if◌then◌else◌}
+use Rattle.std.specs.Prelude.{ℕ, List, [], ◌∷◌, ◌++◌, ◌≤◌, ◌≡◌, ◌⊎◌, length, Bool, Option, Some, None, codes, if◌then◌else◌}
 use Rattle.std.specs.List.{All}
 use Rattle.runway_classes.specs.declared.ApproachKind.{ApproachKind}
 use Rattle.runway_classes.specs.declared.ApproachKind.TheVariants as approaches

@@ -99,7 +99,7 @@ pub(crate) fn field_id(fields: &ByteRecord, form: Form, at: usize) -> Result<Fie
     let text = field(fields, form, at)?;
     match FieldId::new(text) {
         Ok(name) => {
-            let _bytes = name.as_bytes();
+            let _bytes = name.as_bytes(); // tells what the name is made of
             Ok(name)
         }
         Err(_) => Err(bad_field(at)),
@@ -123,7 +123,7 @@ pub(crate) fn runway_name(
     let text = field(fields, form, at)?;
     match RunwayName::new(text) {
         Ok(name) => {
-            let _bytes = name.as_bytes();
+            let _bytes = name.as_bytes(); // tells what the name is made of
             Ok(name)
         }
         Err(_) => Err(bad_field(at)),

@@ -1,7 +1,7 @@
 //! The forms of records.
 
 /// A form of records, chosen by the first field.
-#[derive(Clone, Copy, Debug, PartialEq, Eq)]
+#[derive(Clone, Copy)]
 pub(crate) enum Form {
     Airport,
     Runway,
@@ -9,7 +9,7 @@ pub(crate) enum Form {
 }
 
 /// A field that is not as its form wants it, counted from 1.
-#[derive(Clone, Copy, Debug, PartialEq, Eq)]
+#[derive(Clone, Copy)]
 pub(crate) struct BadField {
     pub(crate) number: u32,
 }

@@ -3,10 +3,11 @@
 ghost use Rattle.std.specs.Prelude.{◌≡◌, ◌+◌, ◌<◌, ◌∷◌, [], Some, IfOk, IfErr, IfSome, IfNone, OnOk, slice_get, codes, pos, neg_ℤ};
 ghost use Rattle.std.specs.Fmt.{signed_decimal};
 ghost use Rattle.csv.specs.Records.{fields_of};
+ghost use Rattle.whole_number.specs.Whole.{HasNineDigits};
 ghost use Rattle.oe_wire.specs.Words.{approach_word};
 ghost use Rattle.oe_wire.specs.Shape.{ApproachWanted, IsBetween, IsField, FitsBefore, HasShape, FirstBad};
 ghost use Rattle.oe_wire.specs.Forms.{form_word, shape_of, coordinate, whole_number, IsNoForm};
-ghost use Rattle.oe_wire.specs.Requests.{site_spelling, spelling, form_of};
+ghost use Rattle.oe_wire.specs.Requests.{site_spelling, spelling, form_of, IsValidQuery, IsValid};
 
 use crate::fields::{
     approach, category, end, field_id, number, pavement, runway_name, spelled, weight, word,
@@ -51,7 +52,9 @@ pub(crate) fn point(fields: &ByteRecord, form: Form, at: usize) -> Result<Point,
 fn plain_filing(at: Point, terrain: i64, height: i64) -> Filing
     requires terrain { IsBetween (neg_ℤ (pos 20000)) (pos 200000) terrain }
     requires height { IsBetween (pos 0) (pos 100000) height }
-    ensures { site_spelling result ≡ signed_decimal at.x ∷ signed_decimal at.y ∷ signed_decimal terrain ∷ signed_decimal height ∷ codes "object" ∷ codes "0" ∷ codes "-" ∷ codes "-" ∷ [] }
+    ensures spelled { site_spelling result ≡ signed_decimal at.x ∷ signed_decimal at.y ∷ signed_decimal terrain ∷ signed_decimal height
+        ∷ codes "object" ∷ codes "0" ∷ codes "-" ∷ codes "-" ∷ [] }
+    ensures valid { IsValidQuery (Query.Screen result) }
 {
     Filing {
         at,
@@ -82,6 +85,7 @@ fn runway_end(fields: &ByteRecord, at: usize) -> Result<RunwayEnd, BadField>
     ensures read_x { IfOk result (λ e. IsField (fields_of fields.now) at (signed_decimal e.at.x)) }
     ensures read_y { IfOk result (λ e. IsField (fields_of fields.now) (at + 1) (signed_decimal e.at.y)) }
     ensures read_z { IfOk result (λ e. IsField (fields_of fields.now) (at + 2) (signed_decimal e.z)) }
+    ensures short { IfOk result (λ e. HasNineDigits e.z) }
     ensures read_kind { IfOk result (λ e. IsField (fields_of fields.now) (at + 3) (approach_word e.kind)) }
     ensures fits { OnOk result (FitsBefore (shape_of Form.Runway) (fields_of fields.now) (at + 4)) }
     ensures bad { IfErr result (λ b. FirstBad (shape_of Form.Runway) (fields_of fields.now) b.number) }
@@ -98,6 +102,7 @@ pub(crate) fn screen(fields: &ByteRecord) -> Result<Request, BadField>
     requires begun { FitsBefore (shape_of Form.Screen) (fields_of fields.now) 1 }
     ensures read { IfOk result (λ r. fields_of fields.now ≡ spelling r) }
     ensures form { IfOk result (λ r. form_of r ≡ Form.Screen) }
+    ensures valid { IfOk result (λ r. IsValid r) }
     ensures fits { OnOk result (HasShape (shape_of Form.Screen) (fields_of fields.now)) }
     ensures bad { IfErr result (λ b. FirstBad (shape_of Form.Screen) (fields_of fields.now) b.number) }
 {
@@ -118,6 +123,7 @@ pub(crate) fn airport(fields: &ByteRecord) -> Result<Request, BadField>
     requires begun { FitsBefore (shape_of Form.Airport) (fields_of fields.now) 1 }
     ensures read { IfOk result (λ r. fields_of fields.now ≡ spelling r) }
     ensures form { IfOk result (λ r. form_of r ≡ Form.Airport) }
+    ensures valid { IfOk result (λ r. IsValid r) }
     ensures fits { OnOk result (HasShape (shape_of Form.Airport) (fields_of fields.now)) }
     ensures bad { IfErr result (λ b. FirstBad (shape_of Form.Airport) (fields_of fields.now) b.number) }
 {
@@ -143,6 +149,7 @@ pub(crate) fn runway(fields: &ByteRecord) -> Result<Request, BadField>
     requires begun { FitsBefore (shape_of Form.Runway) (fields_of fields.now) 1 }
     ensures read { IfOk result (λ r. fields_of fields.now ≡ spelling r) }
     ensures form { IfOk result (λ r. form_of r ≡ Form.Runway) }
+    ensures valid { IfOk result (λ r. IsValid r) }
     ensures fits { OnOk result (HasShape (shape_of Form.Runway) (fields_of fields.now)) }
     ensures bad { IfErr result (λ b. FirstBad (shape_of Form.Runway) (fields_of fields.now) b.number) }
 {

@@ -10,8 +10,9 @@ pub fn first_bad_field()
     ensures { (fields : List (List ℕ)) (n : ℕ) → FirstWrong fields n → IsFirstWithout fields n }
 {}
 
-/// No line is both the record of a request and malformed, and none is malformed at two fields.
+/// A line is the record of one request, or malformed at one field, and never both.
 pub fn one_reading()
-    ensures apart { (line : List ℕ) (r : Request) (field : ℕ) → IsRecord line r → IsMalformed line field → ⊥ }
+    ensures same { (line : List ℕ) (r s : Request) → IsRecord line r → IsRecord line s → r ≡ s }
     ensures once { (line : List ℕ) (a b : ℕ) → IsMalformed line a → IsMalformed line b → a ≡ b }
+    ensures apart { (line : List ℕ) (r : Request) (field : ℕ) → IsRecord line r → IsMalformed line field → ⊥ }
 {}

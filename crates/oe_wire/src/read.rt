@@ -50,7 +50,7 @@ impl RecordReader {
     /// `Malformed` where the line is the record of no request, and `NoMemory` where memory was refused.
     pub fn read(&mut self, line: &[u8]) -> Result<Request, ReadRefusal>
         ensures found { IfOk result (λ r. IsRecord line.now r) }
-        ensures refused { IfErr result (λ e. IsRefusal line.now e) }
+        ensures malformed { IfErr result (λ e. IsRefusal line.now e) }
     {
         if line.len() > 8192 {
             return Err(ReadRefusal::Malformed { field: 0 });
@@ -76,7 +76,7 @@ impl RecordReader {
 /// `Malformed` where the line is the record of no request, and `NoMemory` where memory was refused.
 pub fn read_record(alloc: Global, line: &[u8]) -> Result<Request, ReadRefusal>
     ensures found { IfOk result (λ r. IsRecord line.now r) }
-    ensures refused { IfErr result (λ e. IsRefusal line.now e) }
+    ensures malformed { IfErr result (λ e. IsRefusal line.now e) }
 {
     RecordReader::new(alloc).read(line)
 }

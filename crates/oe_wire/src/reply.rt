@@ -6,13 +6,16 @@ use oe_findings::Findings;
 /// The form of an accepted request whose reply says no more.
 #[derive(Clone, Copy, Debug, PartialEq, Eq)]
 pub enum Plain {
+    /// An airport was put into the register.
     Airport,
+    /// A runway was put into the register.
     Runway,
 }
 
 /// What an accepted request led to.
 #[derive(Clone, Copy, Debug, PartialEq, Eq)]
 pub enum Outcome {
+    /// No more than that it was accepted.
     Plain(Plain),
 }
 

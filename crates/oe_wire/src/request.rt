@@ -13,8 +13,11 @@ pub enum Act {
 /// A request that changes what the desk holds; a key names each request of a caller.
 #[derive(Clone, Copy)]
 pub struct Change {
+    /// Who asks.
     pub caller: Word,
+    /// What the caller names the request by.
     pub key: Word,
+    /// What is asked for.
     pub act: Act,
 }
 
@@ -28,7 +31,9 @@ pub enum Query {
 /// A request.
 #[derive(Clone, Copy)]
 pub enum Request {
+    /// One that changes nothing.
     Query(Query),
+    /// One that changes what the desk holds.
     Change(Change),
 }
 

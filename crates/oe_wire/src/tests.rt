@@ -1,18 +1,26 @@
 //! Records and replies that no clause says.
 
 use crate::{
-    Act, Outcome, Plain, ReadRefusal, RecordReader, Refusal, Reply, Request, push_found,
+    Act, Change, Outcome, Plain, Query, ReadRefusal, Refusal, Reply, Request, push_found,
     read_record, write_reply,
 };
-use airport_register::{AmendRefusal, Amendment, Category, FieldId, RunwayName};
-use grid_exact::Point;
+use airport_register::{AmendRefusal, Amendment, Category, FieldId, Runway, RunwayEnd, RunwayName};
+use grid_exact::{NoMemory, Point};
 use oe_findings::{Finding, Findings, Rule, SurfaceKey};
 use runway_classes::ApproachKind;
 use std::alloc::Global;
 
+// The field at which a line is malformed.
+fn bad_field(alloc: Global, line: &[u8]) -> Option<u32> {
+    match read_record(alloc, line) {
+        Err(ReadRefusal::Malformed { field }) => Some(field),
+        _ => None,
+    }
+}
+
 #[test]
-fn lines_and_the_fields_where_they_leave_the_forms(rt: HostRuntime) {
-    let table: [(&[u8], u32); 58] = [
+fn lines_of_no_form(rt: HostRuntime) {
+    let table: [(&[u8], u32); 12] = [
         (b"", 1),
         (b"a\rb", 0),
         (b"\r", 0),
@@ -25,6 +33,20 @@ fn lines_and_the_fields_where_they_leave_the_forms(rt: HostRuntime) {
         (b"screens,0,0,0,0,object,0,-,-", 1),
         (b"\"screen,0,0", 1),
         (b"screen", 2),
+    ];
+    for (line, field) in table {
+        assert_eq!(rt;
+            bad_field(rt.alloc(), line),
+            Some(field),
+            "at {}",
+            line.escape_ascii()
+        );
+    }
+}
+
+#[test]
+fn bad_screenings(rt: HostRuntime) {
+    let table: [(&[u8], u32); 23] = [
         (b"screen,", 2),
         (b"screen,0", 3),
         (b"screen,0,0,0,0,object,0,-", 9),
@@ -48,6 +70,20 @@ fn lines_and_the_fields_where_they_leave_the_forms(rt: HostRuntime) {
         (b"screen,0,0,0,0,object,00,-,-", 7),
         (b"screen,0,0,0,0,object,0,S,-", 8),
         (b"screen,0,0,0,0,object,0,-,AAA", 9),
+    ];
+    for (line, field) in table {
+        assert_eq!(rt;
+            bad_field(rt.alloc(), line),
+            Some(field),
+            "at {}",
+            line.escape_ascii()
+        );
+    }
+}
+
+#[test]
+fn bad_airports(rt: HostRuntime) {
+    let table: [(&[u8], u32); 15] = [
         (b"airport", 2),
         (b"airport,,1,AAA,public,0,0,0", 2),
         (b"airport,a b,1,AAA,public,0,0,0", 2),
@@ -63,6 +99,20 @@ fn lines_and_the_fields_where_they_leave_the_forms(rt: HostRuntime) {
         (b"airport,u,1,AAA,public,0,0,1000000000", 8),
         (b"airport,u,1,AAA,public,0,0", 8),
         (b"airport,u,1,AAA,public,0,0,0,", 9),
+    ];
+    for (line, field) in table {
+        assert_eq!(rt;
+            bad_field(rt.alloc(), line),
+            Some(field),
+            "at {}",
+            line.escape_ascii()
+        );
+    }
+}
+
+#[test]
+fn bad_runways(rt: HostRuntime) {
+    let table: [(&[u8], u32); 8] = [
         (b"runway,u,1,AAA,09-27,other,hard,0,0,0,V,1,1,1,V", 5),
         (b"runway,u,1,AAA,09/27,Other,hard,0,0,0,V,1,1,1,V", 6),
         (b"runway,u,1,AAA,09/27,other,paved,0,0,0,V,1,1,1,V", 7),
@@ -72,90 +122,111 @@ fn lines_and_the_fields_where_they_leave_the_forms(rt: HostRuntime) {
         (b"runway,u,1,AAA,09/27,other,hard,0,0,0,V,1,1,1", 15),
         (b"runway,u,1,AAA,09/27,other,hard,0,0,0,V,1,1,1,V,V", 16),
     ];
-    let mut reader = RecordReader::new(rt.alloc());
     for (line, field) in table {
-        let want = Some(ReadRefusal::Malformed { field });
-        assert_eq!(rt; reader.read(line).err(), want, "at {}", line.escape_ascii());
+        assert_eq!(rt;
+            bad_field(rt.alloc(), line),
+            Some(field),
+            "at {}",
+            line.escape_ascii()
+        );
+    }
+}
+
+// The coordinates, the elevation of the ground and the height of the structure that a request asks to screen.
+fn numbers_of(request: &Request) -> Option<[i64; 4]> {
+    match request {
+        Request::Query(Query::Screen(filing)) => Some([
+            filing.at.x,
+            filing.at.y,
+            filing.ground,
+            filing.height,
+        ]),
+        Request::Change(_) => None,
+    }
+}
+
+fn screened(alloc: Global, line: &[u8]) -> Option<[i64; 4]> {
+    match read_record(alloc, line) {
+        Ok(request) => numbers_of(&request),
+        Err(_) => None,
     }
 }
 
 #[test]
 fn screenings(rt: HostRuntime) {
-    let lines: [(&[u8], i64, i64, i64, i64); 6] = [
-        (b"screen,0,0,1000,2000,object,0,-,-", 0, 0, 1000, 2000),
+    let table: [(&[u8], [i64; 4]); 6] = [
+        (b"screen,0,0,1000,2000,object,0,-,-", [0, 0, 1000, 2000]),
         (
             b"screen,-20000000,20000000,-20000,100000,object,0,-,-",
-            -20_000_000,
-            20_000_000,
-            -20_000,
-            100_000,
+            [-20_000_000, 20_000_000, -20_000, 100_000],
         ),
         (
             b"screen,20000000,-20000000,200000,0,object,0,-,-",
-            20_000_000,
-            -20_000_000,
-            200_000,
-            0,
+            [20_000_000, -20_000_000, 200_000, 0],
         ),
-        (b"\"screen\",\"1\",2,3,4,\"object\",0,-,\"-\"", 1, 2, 3, 4),
-        (b"\xEF\xBB\xBFscreen,1,2,3,4,object,0,-,-", 1, 2, 3, 4),
-        (b"screen,1,2,3,4,object,0,-,-\r", 1, 2, 3, 4),
+        (b"\"screen\",\"1\",2,3,4,\"object\",0,-,\"-\"", [1, 2, 3, 4]),
+        (b"\xEF\xBB\xBFscreen,1,2,3,4,object,0,-,-", [1, 2, 3, 4]),
+        (b"screen,1,2,3,4,object,0,-,-\r", [1, 2, 3, 4]),
     ];
-    for (line, x, y, ground, height) in lines {
-        let request = read_record(rt.alloc(), line).ok();
-        let Some(Request::Query(crate::Query::Screen(filing))) = request else {
-            assert!(rt; false, "at {}", line.escape_ascii());
-            return;
-        };
-        assert_eq!(rt; filing.at, Point { x, y });
-        assert_eq!(rt; filing.ground, ground);
-        assert_eq!(rt; filing.height, height);
-        assert_eq!(rt; filing.mobile, 0);
+    for (line, want) in table {
+        assert_eq!(rt;
+            screened(rt.alloc(), line),
+            Some(want),
+            "at {}",
+            line.escape_ascii()
+        );
+    }
+}
+
+// The changing request of a line.
+fn change_of(alloc: Global, line: &[u8]) -> Option<Change> {
+    match read_record(alloc, line) {
+        Ok(Request::Change(change)) => Some(change),
+        _ => None,
     }
 }
 
 #[test]
-fn amendments(rt: HostRuntime) {
-    let alloc = rt.alloc();
-    let id = FieldId::new(b"AAA").expect(&rt, "it is a name");
+fn an_airport(rt: HostRuntime) {
     let line = b"airport,u,1,AAA,public,-5,7,-999999999";
-    let Ok(Request::Change(change)) = read_record(alloc, line) else {
-        assert!(rt; false, "it is a record");
-        return;
-    };
-    let Act::Amend(airport) = change.act;
-    let arp = Point { x: -5, y: 7 };
-    let category = Category::PublicUse;
-    let elevation = -999_999_999;
+    let change = change_of(rt.alloc(), line).expect(&rt, "it is a record");
+    let Change { caller, key, act } = change;
+    let Act::Amend(airport) = act;
     let want = Amendment::PutAirport {
-        id,
-        category,
-        arp,
-        elevation,
+        id: FieldId::new(b"AAA").expect(&rt, "it is a name"),
+        category: Category::PublicUse,
+        arp: Point { x: -5, y: 7 },
+        elevation: -999_999_999,
     };
-    assert_eq!(rt; change.caller.as_bytes(), b"u".as_slice());
-    assert_eq!(rt; change.key.as_bytes(), b"1".as_slice());
+    assert_eq!(rt; caller.as_bytes(), b"u".as_slice());
+    assert_eq!(rt; key.as_bytes(), b"1".as_slice());
     assert_eq!(rt; airport, want);
+}
+
+#[test]
+fn a_runway(rt: HostRuntime) {
     let line = b"runway,abcdefgh.90_ABCD,k,AAA,09/27,utility,soft,-50000,1,1000,NL,50000,2,999,NA";
-    let Ok(Request::Change(change)) = read_record(alloc, line) else {
-        assert!(rt; false, "it is a record");
-        return;
+    let change = change_of(rt.alloc(), line).expect(&rt, "it is a record");
+    let Change { caller, act, .. } = change;
+    let Act::Amend(amendment) = act;
+    let runway = Runway {
+        name: RunwayName::new(b"09/27").expect(&rt, "it is a name"),
+        utility: true,
+        hard: false,
+        end1: RunwayEnd {
+            at: Point { x: -50000, y: 1 },
+            z: 1000,
+            kind: ApproachKind::NonprecisionLow,
+        },
+        end2: RunwayEnd {
+            at: Point { x: 50000, y: 2 },
+            z: 999,
+            kind: ApproachKind::NonprecisionAbove,
+        },
     };
-    assert_eq!(rt; change.caller.as_bytes(), b"abcdefgh.90_ABCD".as_slice());
-    let Act::Amend(Amendment::PutRunway { id: of, runway }) = change.act else {
-        assert!(rt; false, "it is a runway");
-        return;
-    };
-    assert_eq!(rt; of, id);
-    assert_eq!(rt; runway.name.as_bytes(), b"09/27".as_slice());
-    assert_eq!(rt; runway.utility, true);
-    assert_eq!(rt; runway.hard, false);
-    assert_eq!(rt; runway.end1.at, Point { x: -50000, y: 1 });
-    assert_eq!(rt; runway.end1.z, 1000);
-    assert_eq!(rt; runway.end1.kind, ApproachKind::NonprecisionLow);
-    assert_eq!(rt; runway.end2.at, Point { x: 50000, y: 2 });
-    assert_eq!(rt; runway.end2.z, 999);
-    assert_eq!(rt; runway.end2.kind, ApproachKind::NonprecisionAbove);
+    let id = FieldId::new(b"AAA").expect(&rt, "it is a name");
+    assert_eq!(rt; caller.as_bytes(), b"abcdefgh.90_ABCD".as_slice());
+    assert_eq!(rt; amendment, Amendment::PutRunway { id, runway });
 }
 
 #[test]
@@ -170,10 +241,7 @@ fn categories(rt: HostRuntime) {
         (b"airport,u,1,A,private,0,0,0", Category::OtherPrivate),
     ];
     for (line, want) in table {
-        let Ok(Request::Change(change)) = read_record(rt.alloc(), line) else {
-            assert!(rt; false, "it is a record");
-            return;
-        };
+        let change = change_of(rt.alloc(), line).expect(&rt, "it is a record");
         let Act::Amend(Amendment::PutAirport { category, .. }) = change.act else {
             assert!(rt; false, "it is an airport");
             return;
@@ -184,13 +252,9 @@ fn categories(rt: HostRuntime) {
 
 #[test]
 fn long_lines(rt: HostRuntime) {
-    let alloc = rt.alloc();
     let line = [b'a'; 8193];
-    let mut reader = RecordReader::new(alloc);
-    let long = Some(ReadRefusal::Malformed { field: 0 });
-    let unknown = Some(ReadRefusal::Malformed { field: 1 });
-    assert_eq!(rt; reader.read(&line).err(), long);
-    assert_eq!(rt; reader.read(&line[1..]).err(), unknown);
+    assert_eq!(rt; bad_field(rt.alloc(), &line), Some(0));
+    assert_eq!(rt; bad_field(rt.alloc(), &line[1..]), Some(1));
 }
 
 // The text of a reply, as bytes.
@@ -240,85 +304,108 @@ fn short_replies(rt: HostRuntime) {
     }
 }
 
+// The reply of a list of one finding.
+fn entry_of(alloc: Global, rule: Rule, key: &SurfaceKey) -> Option<Vec<u8>> {
+    let excess = 4000000000;
+    let key = *key;
+    let mut text = String::new(alloc);
+    push_found(&mut text, 7, &[Finding { rule, key, excess }]).ok()?;
+    Vec::from_slice(alloc, text.as_bytes()).ok()
+}
+
 #[test]
 fn entries(rt: HostRuntime) {
-    let alloc = rt.alloc();
-    let field = FieldId::new(b"AAA").ok();
-    let runway = RunwayName::new(b"09/27").ok();
-    let full = SurfaceKey {
-        field,
-        runway,
+    let key = SurfaceKey {
+        field: FieldId::new(b"AAA").ok(),
+        runway: RunwayName::new(b"09/27").ok(),
         part: 2,
     };
-    let empty = SurfaceKey {
-        field: None,
-        runway: None,
-        part: 1,
-    };
-    let table: [(Rule, &[u8], &[u8]); 19] = [
-        (Rule::H499, b"17a1 - -", b"17a1 - -"),
-        (Rule::Near, b"17a2 AAA -", b"17a2 - -"),
-        (Rule::Horizontal, b"19a AAA -", b"19a - -"),
-        (Rule::Conical, b"19b AAA -", b"19b - -"),
-        (Rule::Primary, b"19c AAA 09/27", b"19c - -"),
-        (Rule::Approach, b"19d AAA 09/27.2", b"19d - -.1"),
-        (Rule::Transition, b"19e AAA 09/27.2", b"19e - -.1"),
-        (Rule::PadPrimary, b"23p AAA -", b"23p - -"),
-        (Rule::PadApproach, b"23a AAA 2", b"23a - 1"),
-        (Rule::PadTransition, b"23t AAA 2", b"23t - 1"),
-        (Rule::NoticeA, b"9a - -", b"9a - -"),
-        (Rule::NoticeB1, b"9b1 AAA 09/27", b"9b1 - -"),
-        (Rule::NoticeB2, b"9b2 AAA 09/27", b"9b2 - -"),
-        (Rule::NoticeB3, b"9b3 AAA -", b"9b3 - -"),
-        (Rule::NoticeD, b"9d AAA -", b"9d - -"),
-        (Rule::WayA, b"9c-a - -", b"9c-a - -"),
-        (Rule::WayB1, b"9c-b1 AAA 09/27", b"9c-b1 - -"),
-        (Rule::WayB2, b"9c-b2 AAA 09/27", b"9c-b2 - -"),
-        (Rule::WayB3, b"9c-b3 AAA -", b"9c-b3 - -"),
+    let table: [(Rule, &[u8]); 19] = [
+        (Rule::H499, b"found,7,1,17a1 - - 4000000000\n"),
+        (Rule::Near, b"found,7,1,17a2 AAA - 4000000000\n"),
+        (Rule::Horizontal, b"found,7,1,19a AAA - 4000000000\n"),
+        (Rule::Conical, b"found,7,1,19b AAA - 4000000000\n"),
+        (Rule::Primary, b"found,7,1,19c AAA 09/27 4000000000\n"),
+        (Rule::Approach, b"found,7,1,19d AAA 09/27.2 4000000000\n"),
+        (Rule::Transition, b"found,7,1,19e AAA 09/27.2 4000000000\n"),
+        (Rule::PadPrimary, b"found,7,1,23p AAA - 4000000000\n"),
+        (Rule::PadApproach, b"found,7,1,23a AAA 2 4000000000\n"),
+        (Rule::PadTransition, b"found,7,1,23t AAA 2 4000000000\n"),
+        (Rule::NoticeA, b"found,7,1,9a - - 4000000000\n"),
+        (Rule::NoticeB1, b"found,7,1,9b1 AAA 09/27 4000000000\n"),
+        (Rule::NoticeB2, b"found,7,1,9b2 AAA 09/27 4000000000\n"),
+        (Rule::NoticeB3, b"found,7,1,9b3 AAA - 4000000000\n"),
+        (Rule::NoticeD, b"found,7,1,9d AAA - 4000000000\n"),
+        (Rule::WayA, b"found,7,1,9c-a - - 4000000000\n"),
+        (Rule::WayB1, b"found,7,1,9c-b1 AAA 09/27 4000000000\n"),
+        (Rule::WayB2, b"found,7,1,9c-b2 AAA 09/27 4000000000\n"),
+        (Rule::WayB3, b"found,7,1,9c-b3 AAA - 4000000000\n"),
     ];
-    for (rule, with_names, without) in table {
-        for (key, words) in [(full, with_names), (empty, without)] {
-            let mut text = String::new(alloc);
-            let finding = Finding {
-                rule,
-                key,
-                excess: 4000000000,
-            };
-            push_found(&mut text, 7, &[finding]).expect(&rt, "there is memory");
-            let mut want = Vec::new(alloc);
-            want.extend_from_slice(b"found,7,1,")
-                .expect(&rt, "there is memory");
-            want.extend_from_slice(words).expect(&rt, "there is memory");
-            want.extend_from_slice(b" 4000000000\n")
-                .expect(&rt, "there is memory");
-            assert_eq!(rt; text.as_bytes(), want.as_slice());
-        }
+    for (rule, want) in table {
+        let text = entry_of(rt.alloc(), rule, &key).expect(&rt, "there is memory");
+        assert_eq!(rt; text.as_slice(), want);
     }
 }
 
 #[test]
-fn lists_of_findings(rt: HostRuntime) {
-    let alloc = rt.alloc();
+fn entries_without_names(rt: HostRuntime) {
+    let key = SurfaceKey {
+        field: None,
+        runway: None,
+        part: 1,
+    };
+    let table: [(Rule, &[u8]); 19] = [
+        (Rule::H499, b"found,7,1,17a1 - - 4000000000\n"),
+        (Rule::Near, b"found,7,1,17a2 - - 4000000000\n"),
+        (Rule::Horizontal, b"found,7,1,19a - - 4000000000\n"),
+        (Rule::Conical, b"found,7,1,19b - - 4000000000\n"),
+        (Rule::Primary, b"found,7,1,19c - - 4000000000\n"),
+        (Rule::Approach, b"found,7,1,19d - -.1 4000000000\n"),
+        (Rule::Transition, b"found,7,1,19e - -.1 4000000000\n"),
+        (Rule::PadPrimary, b"found,7,1,23p - - 4000000000\n"),
+        (Rule::PadApproach, b"found,7,1,23a - 1 4000000000\n"),
+        (Rule::PadTransition, b"found,7,1,23t - 1 4000000000\n"),
+        (Rule::NoticeA, b"found,7,1,9a - - 4000000000\n"),
+        (Rule::NoticeB1, b"found,7,1,9b1 - - 4000000000\n"),
+        (Rule::NoticeB2, b"found,7,1,9b2 - - 4000000000\n"),
+        (Rule::NoticeB3, b"found,7,1,9b3 - - 4000000000\n"),
+        (Rule::NoticeD, b"found,7,1,9d - - 4000000000\n"),
+        (Rule::WayA, b"found,7,1,9c-a - - 4000000000\n"),
+        (Rule::WayB1, b"found,7,1,9c-b1 - - 4000000000\n"),
+        (Rule::WayB2, b"found,7,1,9c-b2 - - 4000000000\n"),
+        (Rule::WayB3, b"found,7,1,9c-b3 - - 4000000000\n"),
+    ];
+    for (rule, want) in table {
+        let text = entry_of(rt.alloc(), rule, &key).expect(&rt, "there is memory");
+        assert_eq!(rt; text.as_slice(), want);
+    }
+}
+
+// A finding at an airfield.
+fn finding(rule: Rule, excess: u32) -> Finding {
     let key = SurfaceKey {
         field: FieldId::new(b"AAA").ok(),
         runway: None,
         part: 0,
     };
+    Finding { rule, key, excess }
+}
+
+fn three_findings(alloc: Global) -> Result<Findings, NoMemory> {
     let mut list = Findings::new(alloc);
-    for (rule, excess) in [
-        (Rule::Near, 1),
-        (Rule::Horizontal, 0),
-        (Rule::NoticeA, 2990),
-    ] {
-        list.push(Finding { rule, key, excess })
-            .expect(&rt, "there is memory");
-    }
-    let empty = Reply::Found {
-        last: 0,
-        list: Findings::new(alloc),
-    };
-    let text = text_of(alloc, &empty).expect(&rt, "there is memory");
+    list.push(finding(Rule::Near, 1))?;
+    list.push(finding(Rule::Horizontal, 0))?;
+    list.push(finding(Rule::NoticeA, 2990))?;
+    Ok(list)
+}
+
+#[test]
+fn lists_of_findings(rt: HostRuntime) {
+    let alloc = rt.alloc();
+    let list = Findings::new(alloc);
+    let text = text_of(alloc, &Reply::Found { last: 0, list }).expect(&rt, "there is memory");
     assert_eq!(rt; text.as_slice(), b"found,0,0\n".as_slice());
+    let list = three_findings(alloc).expect(&rt, "there is memory");
     let text = text_of(alloc, &Reply::Found { last: 2, list }).expect(&rt, "there is memory");
     let want = b"found,2,3,17a2 AAA - 1,19a AAA - 0,9a - - 2990\n";
     assert_eq!(rt; text.as_slice(), want.as_slice());

@@ -1,13 +1,12 @@
 -- A plain line is the record of its parts.
-use Rattle.std.proofs.Common.{arith, ℕ, zero, suc, ◌+◌, ◌<◌, ◌≤◌, ◌≡◌, ◌==◌, Bool, true, false, List, [], ◌∷◌, ◌++◌, take, drop, length, get_or, Option, Some, None, All, refl, sym, ◌∙◌, cond, ap, append-nil, append_assoc, slice_index, subst}
-use Rattle.std.specs.List.{slice_split, onto_first, position_or_len}
+use Rattle.std.proofs.Common.{arith, ℕ, ◌+◌, ◌<◌, ◌≤◌, ◌≡◌, ◌==◌, true, false, List, [], ◌∷◌, ◌++◌, take, drop, length, get_or, Some, None, All, refl, sym, ◌∙◌, cond, ap, append-nil, append_assoc, subst}
+use Rattle.std.specs.List.{slice_split, onto_first}
 use Rattle.std.proofs.lemmas.List.Splits.{slice_split_at, slice_split_none}
 use Rattle.std.proofs.lemmas.List.Elements.{All-head, All-tail, All-append, All-cons, All-more, All-same}
 use Rattle.std.proofs.lemmas.List.{take-append-drop, drop_more, take_all}
-use Rattle.csv.specs.Machine.{next_record, step}
+use Rattle.csv.specs.Machine.{next_record}
 use Rattle.csv.specs.Reading.{default_config, strip_bom}
 use Rattle.csv.specs.declared.parser.State.TheVariants as st
-use Rattle.csv.specs.declared.parser.Action.TheVariants as act
 use Rattle.record_fields.specs.Fields.{IsPlain, IsOrdinary, one_record}
 
 -- the parts, with some bytes before the first

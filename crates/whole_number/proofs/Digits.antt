@@ -1,7 +1,6 @@
 -- Digits and the number that they spell.
-use Rattle.std.proofs.Common.{arith, ℕ, zero, suc, subst, drop, ℤ, pos, negsuc, ◌+◌, ◌-◌, ◌*◌, ◌^◌, ◌<◌, ◌≤◌, ◌≡◌, ◌≢◌, List, [], ◌∷◌, take, length, get_or, refl, sym, ◌∙◌, ap, length-take, Option, Some, None, IfSome, IfNone}
+use Rattle.std.proofs.Common.{arith, ℕ, zero, suc, subst, drop, ℤ, pos, negsuc, ◌+◌, ◌-◌, ◌*◌, ◌<◌, ◌≤◌, ◌≡◌, ◌≢◌, List, [], ◌∷◌, take, length, get_or, refl, sym, ◌∙◌, ap, length-take}
 use Rattle.std.specs.Str.Parse.{AllDigits, digits_value}
-use Rattle.std.specs.Int.{IsInRange}
 use Rattle.std.specs.Char.{digit_value}
 use Rattle.std.specs.Fmt.{decimal}
 use Rattle.std.proofs.lemmas.Int.{ints}
@@ -10,7 +9,7 @@ use Rattle.std.proofs.lemmas.List.{take_all}
 use Rattle.whole_number.specs.Whole.{Spells}
 use Rattle.std.proofs.lemmas.Str.{digit_value_digit}
 use Rattle.std.proofs.lemmas.Str.Parse.{IsNumeralModel, numerals_by_value, tells_digits, digits_value_short, digit_from_value}
-use Rattle.std.proofs.lemmas.Fmt.{decimal-digits_value, digits_decimal, digits_value-decimal, length-decimal-le, first_decimal, decimal_digit, decimal_nonempty, decimal_injective}
+use Rattle.std.proofs.lemmas.Fmt.{decimal-digits_value, digits_decimal, length-decimal-le, first_decimal, decimal_digit, decimal_nonempty, decimal_injective}
 
 own : IsNumeralModel (AllDigits 10) (digits_value 10)
 own = numerals_by_value (AllDigits 10) tells_digits

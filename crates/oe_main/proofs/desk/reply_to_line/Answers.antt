@@ -13,6 +13,6 @@ returns-in_ok-tell-in-Ok c =
 pub returns-in_ok-push_reply-in-Err-Malformed : goal.returns-in_ok-push_reply-in-Err-Malformed
 returns-in_ok-push_reply-in-Err-Malformed c =
     let some : 0 < length c.args.line.now = grind (arith, c.is_empty.ensures, c.if-is_empty.false) in
-    let is = rw c.in-Err-Malformed.field-0-is at c.in-Err-Malformed.ensures.refused in
+    let is = rw c.in-Err-Malformed.field-0-is at c.in-Err-Malformed.ensures.malformed in
     let text = rw c.in-Err-Malformed.field-0-is at (c.in_ok-push_reply-in-Err-Malformed).ensures in
     refused _ _ _ _ c.in-Err-Malformed.field some is c.requires text

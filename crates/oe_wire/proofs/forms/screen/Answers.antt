@@ -4,7 +4,7 @@ use Rattle.oe_wire.proofs.forms.screen.Goals as goal
 
 pub returns-clause-read : goal.returns-clause-read
 returns-clause-read c =
-    rw (c.plain_filing.ensures, raw_short c.in_ok-terrain.terrain c.in_ok-terrain.ensures.short, raw_short c.in_ok-height.height c.in_ok-height.ensures.short)
+    rw (c.plain_filing.ensures.spelled, raw_short c.in_ok-terrain.terrain c.in_ok-terrain.ensures.short, raw_short c.in_ok-height.height c.in_ok-height.ensures.short)
     (all_read _ _ (
       c.requires.named,
       (

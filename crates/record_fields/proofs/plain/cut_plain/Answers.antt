@@ -1,6 +1,5 @@
-use Rattle.std.proofs.Common.{arith, refl, ◌≡◌, drop, ◌+◌}
-use Rattle.csv.specs.Records.{fields_of, partial_of}
-use Rattle.record_fields.proofs.PlainFacts.{Cut, cut_more, cut_done}
+use Rattle.std.proofs.Common.{arith}
+use Rattle.record_fields.proofs.PlainFacts.{cut_more, cut_done}
 use Rattle.record_fields.proofs.plain.cut_plain.Goals as goal
 
 pub fields-preserved : goal.fields-preserved
