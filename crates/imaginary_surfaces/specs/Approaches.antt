@@ -26,8 +26,8 @@ pub record ApproachCovers (a : Approach) (x : Point) : Type 0 where
   pub not_past : AtMostRoot (along a.line x) a.class.length (square a.line)
   pub not_beside : AtMostRoot (outside a x) (pos 20 *ℤ a.width) (square a.line)
 
--- the point is where a precision approach has its second slope: past the first 10,000 feet; of the other approaches it is past
--- the whole surface
+-- m > split * sqrt(n): past the first 10,000 feet of a precision approach, where its second slope begins; a surface without one
+-- ends where it would begin
 abbrev pub is_past_split : Approach → Point → Bool
 is_past_split a x = int_lt (signed_square a.class.split *ℤ pos (square a.line)) (signed_square (along a.line x))
 
