@@ -29,5 +29,5 @@ runway_taken Old Mid1 Mid2 New id site r k0 k1 k2 x0 x1 x2 ek0 ek1 ek2 ex0 ex1 e
     let e2 = entries rules.Approach (runway_key id r 2) (approach_excess r ends.Two site.at top) in
     both Old Mid2 New (e0 ++ e1) e2
     (both Old Mid1 Mid2 e0 e1 (with_entries Old Mid1 rules.Primary k0 (runway_key id r 0) x0 (primary_excess r site.at top) ek0 ex0 h0)
-     (with_entries Mid1 Mid2 rules.Approach k1 (runway_key id r 1) x1 (approach_excess r ends.One site.at top) ek1 ex1 h1))
+    (with_entries Mid1 Mid2 rules.Approach k1 (runway_key id r 1) x1 (approach_excess r ends.One site.at top) ek1 ex1 h1))
     (with_entries Mid2 New rules.Approach k2 (runway_key id r 2) x2 (approach_excess r ends.Two site.at top) ek2 ex2 h2)

@@ -17,8 +17,19 @@ pub use verdict::Verdict;
 
 #[cfg(test)]
 mod tests {
-    use crate::{Finding, Findings, Rule, SurfaceKey};
-    use airport_register::FieldId;
+    use crate::{Finding, Findings, Rule, Sky, SurfaceKey};
+    use airport_register::{Amendment, Category, FieldId, Filing, Flags, Register, StructureKind};
+    use grid_exact::Point;
+    use std::test::Fail;
+
+    const NO_FLAGS: Flags = Flags {
+        shielded: false,
+        device: false,
+        other_rule: false,
+        increases: false,
+        controlled: false,
+        temporary: false,
+    };
 
     fn finding(rule: Rule, field: Option<FieldId>, excess: u32) -> Finding {
         Finding {
@@ -50,5 +61,27 @@ mod tests {
         assert!(rt; !list.equal(&one));
         list.clear();
         assert!(rt; list.equal(&Findings::new(alloc)));
+    }
+
+    #[test]
+    fn a_sky_over_one_airport(rt: HostRuntime) -> Result<(), Fail> {
+        let alloc = rt.alloc();
+        let amendment = Amendment::PutAirport {
+            id: FieldId::new(b"AAA")?,
+            category: Category::PublicUse,
+            arp: Point::new(0, 0)?,
+            elevation: 1000,
+        };
+        let (sky, _) = Sky::of(alloc, &Register::empty(alloc))?.amended(alloc, &amendment)?;
+        let at = Point::new(0, 0)?;
+        let filing = Filing::new(at, 1000, 4991, StructureKind::Object, 0, NO_FLAGS, None)?;
+        let mut list = Findings::new(alloc);
+        sky.find(&mut list, &filing)?;
+        assert_eq!(rt; sky.register().len(), 1);
+        assert_eq!(rt; list.len(), 2);
+        assert!(rt; list.equal(&sky.findings(alloc, &filing)?));
+        assert_eq!(rt; sky.verdict(&filing).entries, 2);
+        assert!(rt; Sky::empty(alloc).verdict(&filing).notice);
+        Ok(())
     }
 }

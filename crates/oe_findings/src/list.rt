@@ -85,7 +85,11 @@ fn put_runway<C: Collector>(
 }
 
 /// Puts the entries of the runways of an airport behind the others, in order of name.
-fn put_runways<C: Collector>(out: &mut C, filing: &Filing, airport: &Airport) -> Result<(), NoMemory>
+fn put_runways<C: Collector>(
+    out: &mut C,
+    filing: &Filing,
+    airport: &Airport,
+) -> Result<(), NoMemory>
     requires proper { All IsProper airport.now.runways }
     ensures taken { OnOk result ((list : List AFinding) → C.taken out.old list → C.taken out.new (list ++ of_runways filing.now airport.now)) }
     ensures fails { OnErr result C.fails }
@@ -100,7 +104,11 @@ fn put_runways<C: Collector>(out: &mut C, filing: &Filing, airport: &Airport) ->
 }
 
 /// Puts the entries of one airfield behind the others.
-fn put_airfield<C: Collector>(out: &mut C, filing: &Filing, airfield: &Airfield) -> Result<(), NoMemory>
+fn put_airfield<C: Collector>(
+    out: &mut C,
+    filing: &Filing,
+    airfield: &Airfield,
+) -> Result<(), NoMemory>
     requires held { IsHeld airfield.now }
     ensures taken { OnOk result ((list : List AFinding) → C.taken out.old list → C.taken out.new (list ++ of_airfield filing.now airfield.now)) }
     ensures fails { OnErr result C.fails }
@@ -120,7 +128,11 @@ fn put_airfield<C: Collector>(out: &mut C, filing: &Filing, airfield: &Airfield)
 }
 
 /// Puts the entries of all airfields behind the others, in order of name.
-fn put_airfields<C: Collector>(out: &mut C, filing: &Filing, register: &Register) -> Result<(), NoMemory>
+fn put_airfields<C: Collector>(
+    out: &mut C,
+    filing: &Filing,
+    register: &Register,
+) -> Result<(), NoMemory>
     ensures taken { OnOk result ((list : List AFinding) → C.taken out.old list → C.taken out.new (list ++ flat_map (of_airfield filing.now) register.now)) }
     ensures fails { OnErr result C.fails }
 {
@@ -134,7 +146,11 @@ fn put_airfields<C: Collector>(out: &mut C, filing: &Filing, register: &Register
 }
 
 /// Gives `out`, which has taken nothing, the findings of a structure over all airfields of the register, in their order.
-pub(crate) fn put_findings<C: Collector>(out: &mut C, register: &Register, filing: &Filing) -> Result<(), NoMemory>
+pub(crate) fn put_findings<C: Collector>(
+    out: &mut C,
+    register: &Register,
+    filing: &Filing,
+) -> Result<(), NoMemory>
     requires nothing { C.taken out.old [] }
     ensures taken { OnOk result (C.taken out.new (findings_of register.now filing.now)) }
     ensures fails { OnErr result C.fails }
