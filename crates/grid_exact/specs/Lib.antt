@@ -5,4 +5,6 @@ pub mod Level
 pub mod Excess
 pub mod Vector
 pub mod Products
+pub mod Lines
+pub mod Axes
 pub mod Laws

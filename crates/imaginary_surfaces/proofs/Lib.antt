@@ -1,5 +1,1 @@
-pub mod TestFacts
-pub mod CenterFacts
-pub mod AxisFacts
-pub mod ElevationFacts
 pub mod SurfaceFacts

@@ -6,13 +6,13 @@ use Rattle.grid_exact.specs.declared.point.Point.{Point}
 use Rattle.grid_exact.proofs.ExcessLemmas.{flat_excess_of-is, root_excess_of-is}
 use Rattle.airport_register.specs.declared.runway.Runway.{Runway}
 use Rattle.runway_classes.specs.declared.class.EndClass.{EndClass}
-use Rattle.imaginary_surfaces.specs.declared.end.End.{End}
-use Rattle.imaginary_surfaces.specs.Lines.{Line, along, aside, square}
-use Rattle.imaginary_surfaces.specs.Centerlines.{Profile, elevation}
+use Rattle.runway_lines.specs.declared.end.End.{End}
+use Rattle.grid_exact.specs.Lines.{Line, along, aside, square}
+use Rattle.runway_lines.specs.Centerlines.{Profile, elevation}
 use Rattle.imaginary_surfaces.specs.Primaries.{Primary, PrimaryCovers, primary_covers}
 use Rattle.imaginary_surfaces.specs.Approaches.{Approach, ApproachCovers, approach_covers, outside, slope_at, base_at}
 use Rattle.imaginary_surfaces.specs.Strips.{primary_of, approach_of, primary_surface, approach_surface, primary_excess, approach_excess}
-use Rattle.imaginary_surfaces.proofs.TestFacts.{all_true, at_most_in, at_most_out, first_true, le_in, le_out, lt_in, lt_out, second_true, third_true}
+use Rattle.grid_exact.proofs.TestFacts.{all_true, at_most_in, at_most_out, first_true, le_in, le_out, lt_in, lt_out, second_true, third_true}
 
 primary_out : (p : Primary) (x : Point) → PrimaryCovers p x → primary_covers p x ≡ true
 unfolding primary_covers

@@ -5,7 +5,7 @@ use Rattle.grid_exact.specs.Excess.{Surface, root_surface, root_excess_of, is_at
 use Rattle.grid_exact.specs.declared.point.Point.{Point}
 use Rattle.runway_classes.specs.declared.class.EndClass.{EndClass}
 use Rattle.runway_classes.specs.Class.{HasSizes}
-use Rattle.imaginary_surfaces.specs.Lines.{Line, along, aside, square}
+use Rattle.grid_exact.specs.Lines.{Line, along, aside, square}
 use Rattle.imaginary_surfaces.specs.Primaries.{IsWidth}
 
 -- the line outward from the end of the primary surface, the width there, which is that of the primary surface, the class of the

@@ -1,7 +1,3 @@
-pub mod Lines
-pub mod Axes
-pub mod Centers
-pub mod Centerlines
 pub mod Primaries
 pub mod Approaches
 pub mod Shapes

@@ -6,7 +6,7 @@ use Rattle.imaginary_surfaces.specs.Shapes.{primary_shape, approach_shape}
 use Rattle.imaginary_surfaces.specs.Strips.{primary_of, approach_of}
 use Rattle.imaginary_surfaces.specs.declared.primary.PrimarySurface.{PrimarySurface}
 use Rattle.imaginary_surfaces.specs.declared.approach.ApproachSurface.{ApproachSurface}
-use Rattle.imaginary_surfaces.specs.declared.end.End.TheVariants.{One, Two}
+use Rattle.runway_lines.specs.declared.end.End.TheVariants.{One, Two}
 
 -- the runway keeps its limits, and the surfaces are its own
 pub record IsPrepared (r : Runway) (primary : PrimarySurface) (approach1 approach2 : ApproachSurface) : Type 0 where

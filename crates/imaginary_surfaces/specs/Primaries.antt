@@ -3,8 +3,8 @@ use Rattle.std.specs.Prelude.{ℕ, ℤ, pos, ◌*◌, ◌≤ℤ◌, ◌<ℤ◌, 
 use Rattle.grid_exact.specs.Root.{AtMostRoot}
 use Rattle.grid_exact.specs.Excess.{Surface, flat_surface, flat_excess_of, is_at_most_root}
 use Rattle.grid_exact.specs.declared.point.Point.{Point}
-use Rattle.imaginary_surfaces.specs.Lines.{Line, along, aside, square}
-use Rattle.imaginary_surfaces.specs.Centerlines.{Profile, elevation}
+use Rattle.grid_exact.specs.Lines.{Line, along, aside, square}
+use Rattle.runway_lines.specs.Centerlines.{Profile, elevation}
 
 -- the line from its one end to its other, its width, and the profile of the runway
 pub record Primary : Type 0 where

@@ -1,14 +1,10 @@
 -- What the prepared parts of a runway are.
-use Rattle.imaginary_surfaces.specs.Axes.{line_of}
-use Rattle.imaginary_surfaces.specs.Centerlines.{Profile}
+use Rattle.grid_exact.specs.Axes.{line_of}
 use Rattle.imaginary_surfaces.specs.Primaries.{Primary}
 use Rattle.imaginary_surfaces.specs.Approaches.{Approach}
-use Rattle.imaginary_surfaces.specs.declared.centerline.Centerline.{Centerline}
+use Rattle.runway_lines.specs.Profiles.{profile}
 use Rattle.imaginary_surfaces.specs.declared.primary.PrimarySurface.{PrimarySurface}
 use Rattle.imaginary_surfaces.specs.declared.approach.ApproachSurface.{ApproachSurface}
-
-abbrev pub profile : Centerline → Profile
-profile c = record { line = line_of c.axis; z = c.z; rise = c.rise }
 
 abbrev pub primary_shape : PrimarySurface → Primary
 primary_shape p = record { line = line_of p.axis; width = p.width; profile = profile p.centerline }

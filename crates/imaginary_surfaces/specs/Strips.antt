@@ -1,74 +1,14 @@
 -- The primary surface and the approach surfaces of a runway: 77.19(c), (d).
-use Rattle.std.specs.Prelude.{ℕ, ℤ, ◌-ℤ◌, Option}
+use Rattle.std.specs.Prelude.{ℕ, ℤ, Option}
 use Rattle.grid_exact.specs.Excess.{Surface}
 use Rattle.grid_exact.specs.declared.point.Point.{Point}
-use Rattle.runway_classes.specs.declared.class.EndClass.{EndClass}
-use Rattle.runway_classes.specs.declared.class.RunwayClass.{RunwayClass}
-use Rattle.runway_classes.specs.Class.{runway_class}
 use Rattle.airport_register.specs.declared.runway.Runway.{Runway}
-use Rattle.airport_register.specs.declared.runway.RunwayEnd.{RunwayEnd}
-use Rattle.airport_register.specs.Runways.{length_square}
-use Rattle.imaginary_surfaces.specs.declared.end.End.{End}
-use Rattle.imaginary_surfaces.specs.declared.end.End.TheVariants.{One, Two}
-use Rattle.imaginary_surfaces.specs.Lines.{Line}
-use Rattle.imaginary_surfaces.specs.Centers.{IsCenter, center}
-use Rattle.imaginary_surfaces.specs.Centerlines.{Profile}
+use Rattle.runway_lines.specs.declared.end.End.{End}
+use Rattle.runway_lines.specs.declared.end.End.TheVariants.{One, Two}
+use Rattle.runway_lines.specs.Ends.{other, end_of, line_between, class_of, end_class_of}
+use Rattle.runway_lines.specs.Profiles.{profile_of}
 use Rattle.imaginary_surfaces.specs.Primaries.{Primary, primary, excess_over_primary}
 use Rattle.imaginary_surfaces.specs.Approaches.{Approach, approach, excess_over_approach}
-
-abbrev pub other : End → End
-other One = Two
-other Two = One
-
-abbrev pub end_of : Runway → End → RunwayEnd
-end_of r One = r.end1
-end_of r Two = r.end2
-
--- the center of the primary surface's end, at this end of the runway
-abbrev pub center_x : Runway → End → ℤ
-center_x r end = center r.hard (end_of r end).at.x (end_of r (other end)).at.x (length_square r)
-
-abbrev pub center_y : Runway → End → ℤ
-center_y r end = center r.hard (end_of r end).at.y (end_of r (other end)).at.y (length_square r)
-
--- the two centers are where 77.19(c) has them
-pub record AreCenters (r : Runway) (ends : (ℤ × ℤ) × (ℤ × ℤ)) : Type 0 where
-  pub x1 : IsCenter r.hard r.end1.at.x r.end2.at.x (length_square r) ends.0.0
-  pub y1 : IsCenter r.hard r.end1.at.y r.end2.at.y (length_square r) ends.0.1
-  pub x2 : IsCenter r.hard r.end2.at.x r.end1.at.x (length_square r) ends.1.0
-  pub y2 : IsCenter r.hard r.end2.at.y r.end1.at.y (length_square r) ends.1.1
-
-abbrev pub centers : Runway → (ℤ × ℤ) × (ℤ × ℤ)
-centers r = ((center_x r One, center_y r One), (center_x r Two, center_y r Two))
-
--- from the center at one end to the center at the other, starting at `start`
-abbrev pub line_between : Runway → (start from to : End) → Line
-line_between r start from to = record {
-  x = center_x r start;
-  y = center_y r start;
-  dx = center_x r to -ℤ center_x r from;
-  dy = center_y r to -ℤ center_y r from;
-}
-
--- from end to end of the runway
-unfoldable pub profile_of : Runway → Profile
-profile_of r = record {
-  line = record {
-    x = r.end1.at.x;
-    y = r.end1.at.y;
-    dx = r.end2.at.x -ℤ r.end1.at.x;
-    dy = r.end2.at.y -ℤ r.end1.at.y;
-  };
-  z = r.end1.z;
-  rise = r.end2.z -ℤ r.end1.z;
-}
-
-abbrev pub class_of : Runway → RunwayClass
-class_of r = runway_class r.utility r.end1.kind r.end2.kind
-
-abbrev pub end_class_of : Runway → End → EndClass
-end_class_of r One = (class_of r).end1
-end_class_of r Two = (class_of r).end2
 
 unfoldable pub primary_of : Runway → Primary
 primary_of r = record { line = line_between r One One Two; width = (class_of r).width; profile = profile_of r }

@@ -6,8 +6,7 @@ ghost use Rattle.grid_exact.specs.Level.{IsLevel};
 ghost use Rattle.grid_exact.specs.Root.{AtMostRoot};
 ghost use Rattle.imaginary_surfaces.specs.Approaches.{IsApproach, IsRise};
 
-use crate::axis::Axis;
-use grid_exact::{Point, Slope, is_above_root, is_at_most_root, minus, product, scale};
+use grid_exact::{Axis, Point, Slope, is_above_root, is_at_most_root, minus, product, scale};
 use runway_classes::EndClass;
 
 /// The approach surface of an end, 77.19(d): it begins at the end of the primary surface with that one's width, and goes outward
@@ -31,7 +30,7 @@ struct Rise {
 }
 
 impl ApproachSurface {
-    ghost use Rattle.imaginary_surfaces.specs.Axes.{axis_along, axis_square};
+    ghost use Rattle.grid_exact.specs.Axes.{axis_along, axis_square};
     ghost use Rattle.imaginary_surfaces.specs.Approaches.{ApproachCovers, approach, outside as outside_of, is_past_split as is_past_split_of, slope_at, base_at};
     ghost use Rattle.imaginary_surfaces.specs.Shapes.{approach_shape};
 
@@ -56,7 +55,7 @@ impl ApproachSurface {
     /// How far a point is to a side less what the half width has grown, in fortieths, times the vector's length.
     fn outside(&self, point: &Point) -> i128
         ensures value { result ≡ outside_of (approach_shape self.now) point.now }
-        ensures size { unsigned_abs result ≤ 2 ^ 62 }
+        ensures size { unsigned_abs result ≤ 2 ^ 52 }
     {
         minus(
             scale(40, self.axis.aside(point)),

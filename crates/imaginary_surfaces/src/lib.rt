@@ -3,15 +3,11 @@
 #![tactic(auto)]
 
 mod approach;
-mod axis;
-mod center;
-mod centerline;
-mod end;
 mod prepare;
 mod primary;
 mod strip;
 
-pub use end::End;
+pub use runway_lines::End;
 pub use strip::Strip;
 
 #[cfg(test)]

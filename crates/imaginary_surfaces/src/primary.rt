@@ -6,9 +6,8 @@ ghost use Rattle.grid_exact.specs.Level.{IsLevel};
 ghost use Rattle.grid_exact.specs.Root.{AtMostRoot};
 ghost use Rattle.imaginary_surfaces.specs.Primaries.{IsWidth};
 
-use crate::axis::Axis;
-use crate::centerline::Centerline;
-use grid_exact::{Point, flat_excess, is_at_most_root, scale};
+use grid_exact::{Axis, Point, flat_excess, is_at_most_root, scale};
+use runway_lines::Centerline;
 
 /// The primary surface of a runway, 77.19(c): a strip about the line between its two ends, at the elevation of the nearest point
 /// of the runway's centerline.
@@ -21,7 +20,7 @@ pub(crate) struct PrimarySurface {
 }
 
 impl PrimarySurface {
-    ghost use Rattle.imaginary_surfaces.specs.Axes.{axis_along, axis_aside, axis_square};
+    ghost use Rattle.grid_exact.specs.Axes.{axis_along, axis_aside, axis_square};
     ghost use Rattle.imaginary_surfaces.specs.Primaries.{PrimaryCovers, primary};
     ghost use Rattle.imaginary_surfaces.specs.Shapes.{primary_shape};
 

@@ -5,14 +5,15 @@ ghost use Rattle.grid_exact.specs.Excess.{IsExcess};
 ghost use Rattle.grid_exact.specs.Level.{IsLevel};
 ghost use Rattle.airport_register.specs.Runways.{IsProper};
 ghost use Rattle.imaginary_surfaces.specs.Shapes.{approach_shape};
-ghost use Rattle.imaginary_surfaces.specs.Strips.{AreCenters, centers as centers_of, approach_of, primary_surface, approach_surface, primary_excess, approach_excess};
+ghost use Rattle.runway_lines.specs.Ends.{AreCenters, centers as centers_of};
+ghost use Rattle.imaginary_surfaces.specs.Strips.{approach_of, primary_surface, approach_surface, primary_excess, approach_excess};
 
 use crate::approach::ApproachSurface;
-use crate::end::End;
 use crate::prepare::{approach, primary};
 use crate::primary::PrimarySurface;
 use airport_register::Runway;
 use grid_exact::Point;
+use runway_lines::End;
 use std::marker::Model;
 
 /// The imaginary surfaces of a runway, prepared for many points; seen as the runway.

@@ -14,7 +14,7 @@ use Rattle.height_rules.specs.AboveGround.{notice_excess, height_excess}
 use Rattle.height_rules.specs.Heights.{standards_top}
 use Rattle.height_rules.specs.NearAirport.{near_excess}
 use Rattle.imaginary_surfaces.specs.Strips.{primary_excess, approach_excess}
-use Rattle.imaginary_surfaces.specs.declared.end.End.TheVariants as ends
+use Rattle.runway_lines.specs.declared.end.End.TheVariants as ends
 use Rattle.oe_findings.specs.List.{entries, no_key, field_key, runway_key, of_runway, of_runways, of_airfield, findings_of}
 use Rattle.oe_findings.specs.Verdicts.{tally_of, verdict_of, asks_notice, is_obstruction}
 use Rattle.oe_findings.specs.declared.finding.Finding.{Finding}

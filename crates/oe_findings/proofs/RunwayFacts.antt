@@ -4,7 +4,7 @@ use Rattle.airport_register.specs.Sites.{Site}
 use Rattle.airport_register.specs.declared.runway.Runway.{Runway}
 use Rattle.height_rules.specs.Heights.{standards_top}
 use Rattle.imaginary_surfaces.specs.Strips.{primary_excess, approach_excess}
-use Rattle.imaginary_surfaces.specs.declared.end.End.TheVariants as ends
+use Rattle.runway_lines.specs.declared.end.End.TheVariants as ends
 use Rattle.oe_findings.specs.List.{entries, runway_key, of_runway}
 use Rattle.oe_findings.specs.declared.finding.Finding.{Finding}
 use Rattle.oe_findings.specs.declared.finding.SurfaceKey.{SurfaceKey}

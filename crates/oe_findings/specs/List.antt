@@ -12,7 +12,7 @@ use Rattle.height_rules.specs.AboveGround.{notice_excess, height_excess}
 use Rattle.height_rules.specs.Heights.{standards_top}
 use Rattle.height_rules.specs.NearAirport.{near_excess}
 use Rattle.imaginary_surfaces.specs.Strips.{primary_excess, approach_excess}
-use Rattle.imaginary_surfaces.specs.declared.end.End.TheVariants as ends
+use Rattle.runway_lines.specs.declared.end.End.TheVariants as ends
 use Rattle.oe_findings.specs.declared.finding.Finding.{Finding}
 use Rattle.oe_findings.specs.declared.finding.SurfaceKey.{SurfaceKey}
 use Rattle.oe_findings.specs.declared.finding.Rule.{Rule}

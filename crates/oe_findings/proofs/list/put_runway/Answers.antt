@@ -2,7 +2,7 @@ use Rattle.std.proofs.Common.{◌≡◌, ◌∙◌, ap, List}
 use Rattle.airport_register.specs.declared.runway.Runway.{Runway}
 use Rattle.height_rules.specs.Heights.{standards_top}
 use Rattle.imaginary_surfaces.specs.Strips.{primary_excess, approach_excess}
-use Rattle.imaginary_surfaces.specs.declared.end.End.TheVariants as ends
+use Rattle.runway_lines.specs.declared.end.End.TheVariants as ends
 use Rattle.oe_findings.proofs.RunwayFacts.{runway_taken}
 use Rattle.oe_findings.proofs.list.put_runway.Goals as goal
 

@@ -5,7 +5,7 @@ use Rattle.std.proofs.Math.Nat.{mul-le-mul_left}
 use Rattle.std.proofs.lemmas.Int.{ints}
 use Rattle.grid_exact.specs.Excess.{IsExcess, root_surface}
 use Rattle.grid_exact.proofs.ExcessLemmas.{IsExcess-covered}
-use Rattle.imaginary_surfaces.specs.Lines.{along}
+use Rattle.grid_exact.specs.Lines.{along}
 use Rattle.imaginary_surfaces.specs.Approaches.{approach, slope_at, base_at}
 use Rattle.imaginary_surfaces.specs.Shapes.{approach_shape}
 use Rattle.imaginary_surfaces.proofs.approach.ApproachSurface.excess.Goals as goal

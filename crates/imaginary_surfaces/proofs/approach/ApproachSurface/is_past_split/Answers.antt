@@ -3,11 +3,11 @@ use Rattle.std.specs.Int.{w128}
 use Rattle.std.proofs.lemmas.Int.{ints}
 use Rattle.grid_exact.specs.Root.{AboveRoot}
 use Rattle.grid_exact.proofs.Sizes.{ProductFits-small, widen}
-use Rattle.imaginary_surfaces.specs.Lines.{along, square}
+use Rattle.grid_exact.specs.Lines.{along, square}
 use Rattle.imaginary_surfaces.specs.Approaches.{is_past_split}
-use Rattle.imaginary_surfaces.specs.Axes.{line_of}
+use Rattle.grid_exact.specs.Axes.{line_of}
 use Rattle.imaginary_surfaces.specs.Shapes.{approach_shape}
-use Rattle.imaginary_surfaces.proofs.TestFacts.{above_in, above_out, same_test}
+use Rattle.grid_exact.proofs.TestFacts.{above_in, above_out, same_test}
 use Rattle.imaginary_surfaces.proofs.approach.ApproachSurface.is_past_split.Goals as goal
 
 pub is_above_root-requires-clause-right : goal.is_above_root-requires-clause-right

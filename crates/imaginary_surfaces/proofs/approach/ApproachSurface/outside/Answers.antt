@@ -12,8 +12,8 @@ k_size e h = omega (arith, ints, h.k_least, h.k_most)
 k_fits : (e : EndClass) → HasSizes e → FitsSigned w64 e.k
 k_fits e h = omega (arith, ints, h.k_least, h.k_most)
 
-grown : (k m : ℤ) → unsigned_abs k ≤ 6 → unsigned_abs m ≤ 2 ^ 55 → unsigned_abs k * unsigned_abs m ≤ 6 * 2 ^ 55
-grown k m h s = mul-le (unsigned_abs k) (unsigned_abs m) 6 (2 ^ 55) h s
+grown : (k m : ℤ) → unsigned_abs k ≤ 6 → unsigned_abs m ≤ 2 ^ 45 → unsigned_abs k * unsigned_abs m ≤ 6 * 2 ^ 45
+grown k m h s = mul-le (unsigned_abs k) (unsigned_abs m) 6 (2 ^ 45) h s
 
 pub minus-requires-clause-right : goal.minus-requires-clause-right
 minus-requires-clause-right c =
@@ -34,6 +34,6 @@ returns-clause-size c =
     let fs : FitsSigned w128 c.scale.result = omega (arith, ints) in
     let ft : FitsSigned w128 c.scale-2.result = omega (arith, ints) in
     let fr : FitsSigned w128 c.minus.result = omega (arith, ints) in
-    let near : unsigned_abs c.scale.result ≤ 40 * 2 ^ 55 = omega (arith, simp to_z-of_z at c.scale.ensures.size, c.aside.ensures.size) in
-    let far : unsigned_abs c.scale-2.result ≤ 6 * 2 ^ 55 = omega (arith, simp to_z-of_z at c.scale-2.ensures.size, grown e.k c.along.result (k_size e sized) c.along.ensures.size) in
+    let near : unsigned_abs c.scale.result ≤ 40 * 2 ^ 45 = omega (arith, simp to_z-of_z at c.scale.ensures.size, c.aside.ensures.size) in
+    let far : unsigned_abs c.scale-2.result ≤ 6 * 2 ^ 45 = omega (arith, simp to_z-of_z at c.scale-2.ensures.size, grown e.k c.along.result (k_size e sized) c.along.ensures.size) in
     simp to_z-of_z (omega (arith, simp to_z-of_z at c.minus.ensures.size, near, far))

@@ -1,14 +1,15 @@
 use Rattle.std.proofs.Common.{◌≡◌, ◌≤◌, ℤ, unsigned_abs, FitsSigned, w64, to_z, of_z, to_z-of_z, arith, ap, subst, refl}
 use Rattle.std.proofs.lemmas.Int.{ints}
 use Rattle.airport_register.specs.declared.runway.Runway.{Runway}
-use Rattle.imaginary_surfaces.specs.declared.end.End.TheVariants.{One, Two}
+use Rattle.runway_lines.specs.declared.end.End.TheVariants.{One, Two}
 use Rattle.imaginary_surfaces.specs.declared.strip.Strip.TheInside.{Inside}
 use Rattle.imaginary_surfaces.specs.Approaches.{Approach}
 use Rattle.imaginary_surfaces.specs.Prepared.{IsPrepared}
 use Rattle.airport_register.specs.Runways.{IsProper}
 use Rattle.imaginary_surfaces.specs.Shapes.{approach_shape}
-use Rattle.imaginary_surfaces.specs.Strips.{approach_of, center_x, center_y, centers}
-use Rattle.imaginary_surfaces.proofs.AxisFacts.{centers_are}
+use Rattle.runway_lines.specs.Ends.{center_x, center_y, centers}
+use Rattle.imaginary_surfaces.specs.Strips.{approach_of}
+use Rattle.runway_lines.proofs.AxisFacts.{centers_are}
 use Rattle.imaginary_surfaces.proofs.strip.Strip.centers.Goals as goal
 
 first : (r : Runway) (a : Approach) → a ≡ approach_of r One → (a.line.x ≡ center_x r One) × (a.line.y ≡ center_y r One)

@@ -1,0 +1,3 @@
+pub mod CenterFacts
+pub mod AxisFacts
+pub mod ElevationFacts

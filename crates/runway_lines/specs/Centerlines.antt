@@ -1,0 +1,28 @@
+-- The elevation of the runway's centerline: 77.19(c).
+use Rattle.std.specs.Prelude.{ℕ, ℤ, pos, ◌+ℤ◌, ◌*ℤ◌, ◌≤◌, ◌^◌, unsigned_abs, int_lt, if◌then◌else◌}
+use Rattle.std.specs.Int.{int_div_euclid}
+use Rattle.grid_exact.specs.declared.point.Point.{Point}
+use Rattle.grid_exact.specs.Lines.{Line, along, square}
+
+-- a runway's line, the elevation of its first end, and how much higher its second end is
+pub record Profile : Type 0 where
+  pub line : Line
+  pub z : ℤ
+  pub rise : ℤ
+
+-- m brought into 0 to n
+abbrev pub clamped : ℤ → ℕ → ℤ
+clamped m n = if int_lt m (pos 0) then pos 0 else if int_lt (pos n) m then pos n else m
+
+-- how much higher than the first end the centerline is where it is nearest to the point, rounded down
+abbrev pub climb : Profile → Point → ℤ
+climb p x = int_div_euclid (p.rise *ℤ clamped (along p.line x) (square p.line)) (pos (square p.line))
+
+-- the elevation of the nearest point of the centerline, rounded down
+abbrev pub elevation : Profile → Point → ℤ
+elevation p x = p.z +ℤ climb p x
+
+-- sizes that the elevations of a runway give
+pub record IsSloped (z rise : ℤ) : Type 0 where
+  pub z_size : unsigned_abs z ≤ 2 ^ 18
+  pub rise_size : unsigned_abs rise ≤ 2 ^ 18

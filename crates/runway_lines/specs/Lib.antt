@@ -1,0 +1,4 @@
+pub mod Centers
+pub mod Centerlines
+pub mod Ends
+pub mod Profiles

@@ -1,0 +1,77 @@
+//! The lines of a runway and its class.
+
+ghost use Rattle.std.specs.Prelude.{◌≡◌};
+ghost use Rattle.grid_exact.specs.Axes.{line_of};
+ghost use Rattle.runway_classes.specs.Class.{IsSized, HasSizes};
+ghost use Rattle.airport_register.specs.Runways.{IsProper};
+ghost use Rattle.runway_lines.specs.Ends.{other as other_of, center_x, center_y, line_between, class_of, end_class_of};
+
+use crate::end::End;
+use crate::setbacks::extended;
+use airport_register::Runway;
+use grid_exact::{Axis, Start};
+use runway_classes::{EndClass, RunwayClass, classify};
+
+/// The center of the primary surface's end, at this end of a runway.
+pub fn center(runway: &Runway, end: End) -> Start
+    requires proper { IsProper runway.now }
+    ensures x { result.x ≡ center_x runway.now end }
+    ensures y { result.y ≡ center_y runway.now end }
+{
+    let here = end.of(runway).at;
+    if !runway.hard {
+        return Start::at(&here);
+    }
+    let there = end.other().of(runway).at;
+    extended(&here, &there, runway.square_length() as u128)
+}
+
+/// From the center at the first end of a runway to the one at its second end.
+pub fn between(runway: &Runway) -> Axis
+    requires proper { IsProper runway.now }
+    ensures line { line_of result ≡ line_between runway.now End.One End.One End.Two }
+{
+    let from = center(runway, End::One);
+    let to = center(runway, End::Two);
+    Axis {
+        from,
+        way: from.to_start(&to),
+    }
+}
+
+/// From the center at this end of a runway, outward by as much as the other center is away.
+pub fn outward(runway: &Runway, end: End) -> Axis
+    requires proper { IsProper runway.now }
+    ensures line { line_of result ≡ line_between runway.now end (other_of end) end }
+{
+    let from = center(runway, end);
+    let far = center(runway, end.other());
+    Axis {
+        from,
+        way: far.to_start(&from),
+    }
+}
+
+/// The class of a runway.
+pub fn class(runway: &Runway) -> RunwayClass
+    requires proper { IsProper runway.now }
+    ensures value { result ≡ class_of runway.now }
+    ensures sized { IsSized result }
+{
+    match classify(runway.utility, runway.end1.kind, runway.end2.kind) {
+        Ok(class) => class,
+        Err(_) => unreachable!(),
+    }
+}
+
+/// The class of this end of a runway.
+pub fn end_class(runway: &Runway, end: End) -> EndClass
+    requires proper { IsProper runway.now }
+    ensures value { result ≡ end_class_of runway.now end }
+    ensures sized { HasSizes result }
+{
+    match end {
+        End::One => class(runway).end1,
+        End::Two => class(runway).end2,
+    }
+}
