@@ -1,0 +1,83 @@
+-- Discs about centers of arcs, and what lies between the tangents of two arcs: 77.19(a), (b).
+use Rattle.std.specs.Prelude.{ℕ, ℤ, pos, neg_ℤ, ◌+◌, ◌-◌, ◌*◌, ◌≤◌, ◌<◌, ◌+ℤ◌, ◌-ℤ◌, ◌*ℤ◌, unsigned_abs, ◌⊎◌, nat_le, nat_lt, int_le, int_lt, Bool, ◌&&◌, ◌||◌, if◌then◌else◌}
+use Rattle.std.specs.Bool.{MatchBool}
+use Rattle.grid_exact.specs.declared.point.Point.{Point}
+use Rattle.grid_exact.specs.Root.{AtMostRoot, AtLeastRoot, AboveRoot, signed_square}
+use Rattle.grid_exact.specs.Excess.{is_at_most_root}
+use Rattle.grid_exact.specs.Vector.{along_of, across_of, length_of}
+use Rattle.horizontal_hull.specs.declared.edge.Edge.{Edge}
+use Rattle.horizontal_hull.specs.declared.edge.Edge.TheVariants.{Closed, Open}
+use Rattle.horizontal_hull.specs.Arcs.{ArcShape}
+
+-- the square of the distance from a center to a point
+abbrev pub away : ArcShape → Point → ℕ
+away a x = length_of (x.x -ℤ a.x) (x.y -ℤ a.y)
+
+-- a point is at most c beyond the arc about its center: its disc, with its edge or without
+abbrev pub InDisc : Edge → ArcShape → Point → ℕ → Type 0
+InDisc Closed a x c = away a x ≤ (a.radius + c) * (a.radius + c)
+InDisc Open a x c = away a x < (a.radius + c) * (a.radius + c)
+
+-- ---- two arcs, the first with a radius that is not the greater
+
+-- the square of the distance between the centers
+abbrev pub span : ArcShape → ArcShape → ℕ
+span a b = length_of (b.x -ℤ a.x) (b.y -ℤ a.y)
+
+-- how much greater the second radius is
+abbrev pub flare : ArcShape → ArcShape → ℕ
+flare a b = b.radius - a.radius
+
+-- the square of the length of a tangent of both
+abbrev pub tangent : ArcShape → ArcShape → ℕ
+tangent a b = span a b - flare a b * flare a b
+
+-- how far a point lies along and beside the line from the first center to the second, both times their distance
+abbrev pub ahead : ArcShape → ArcShape → Point → ℤ
+ahead a b x = along_of (b.x -ℤ a.x) (b.y -ℤ a.y) (x.x -ℤ a.x) (x.y -ℤ a.y)
+
+abbrev pub aside : ArcShape → ArcShape → Point → ℕ
+aside a b x = unsigned_abs (across_of (b.x -ℤ a.x) (b.y -ℤ a.y) (x.x -ℤ a.x) (x.y -ℤ a.y))
+
+-- not beyond the tangent of the arcs with radii raised by c
+abbrev pub IsUnderTangent : Edge → ArcShape → ArcShape → Point → ℕ → Type 0
+IsUnderTangent Closed a b x c = AtLeastRoot (pos ((a.radius + c) * span a b) +ℤ pos (flare a b) *ℤ ahead a b x) (pos (aside a b x)) (tangent a b)
+IsUnderTangent Open a b x c = AboveRoot (pos ((a.radius + c) * span a b) +ℤ pos (flare a b) *ℤ ahead a b x) (pos (aside a b x)) (tangent a b)
+
+-- between the two tangents and the points where they touch the arcs
+pub record InBand (edge : Edge) (a b : ArcShape) (x : Point) (c : ℕ) : Type 0 where
+  pub after : AtMostRoot (neg_ℤ (pos (flare a b * aside a b x))) (ahead a b x) (tangent a b)
+  pub before : AtMostRoot (pos (flare a b * aside a b x)) (pos (span a b) -ℤ ahead a b x) (tangent a b)
+  pub under : IsUnderTangent edge a b x c
+
+-- the tapered capsule: the larger disc, and where it does not hold the smaller one, that disc and the band between the tangents
+abbrev pub InTapered : Edge → ArcShape → ArcShape → Point → ℕ → Type 0
+InTapered edge a b x c = InDisc edge b x c ⊎ ((flare a b * flare a b < span a b) × (InDisc edge a x c ⊎ InBand edge a b x c))
+
+-- the tapered capsule of two arcs, whichever is the smaller
+abbrev pub InCapsule : Edge → ArcShape → ArcShape → Point → ℕ → Type 0
+InCapsule edge a b x c = MatchBool (nat_le a.radius b.radius) (InTapered edge a b x c) (InTapered edge b a x c)
+
+-- ---- the same as tests that compute
+
+abbrev pub in_disc : Edge → ArcShape → Point → ℕ → Bool
+in_disc Closed a x c = nat_le (away a x) ((a.radius + c) * (a.radius + c))
+in_disc Open a x c = nat_lt (away a x) ((a.radius + c) * (a.radius + c))
+
+abbrev pub is_under_tangent : Edge → ArcShape → ArcShape → Point → ℕ → Bool
+is_under_tangent Closed a b x c =
+    int_le (signed_square (pos (aside a b x)) *ℤ pos (tangent a b)) (signed_square (pos ((a.radius + c) * span a b) +ℤ pos (flare a b) *ℤ ahead a b x))
+is_under_tangent Open a b x c =
+    int_lt (signed_square (pos (aside a b x)) *ℤ pos (tangent a b)) (signed_square (pos ((a.radius + c) * span a b) +ℤ pos (flare a b) *ℤ ahead a b x))
+
+abbrev pub in_band : Edge → ArcShape → ArcShape → Point → ℕ → Bool
+in_band edge a b x c =
+    is_at_most_root (neg_ℤ (pos (flare a b * aside a b x))) (ahead a b x) (tangent a b)
+    && is_at_most_root (pos (flare a b * aside a b x)) (pos (span a b) -ℤ ahead a b x) (tangent a b)
+    && is_under_tangent edge a b x c
+
+abbrev pub in_tapered : Edge → ArcShape → ArcShape → Point → ℕ → Bool
+in_tapered edge a b x c = in_disc edge b x c || (nat_lt (flare a b * flare a b) (span a b) && (in_disc edge a x c || in_band edge a b x c))
+
+unfoldable pub in_capsule : Edge → ArcShape → ArcShape → Point → ℕ → Bool
+in_capsule edge a b x c = if nat_le a.radius b.radius then in_tapered edge a b x c else in_tapered edge b a x c

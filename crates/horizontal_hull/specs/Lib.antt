@@ -1,0 +1,5 @@
+pub mod Arcs
+pub mod Pairs
+pub mod Capsules
+pub mod Triangles
+pub mod Within

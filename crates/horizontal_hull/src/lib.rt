@@ -1,0 +1,5 @@
+//! The horizontal and conical surfaces of an airport, 77.19(a) and (b): arcs about both ends of each runway's primary surface, joined by
+//! their common tangents, and what lies around them. Lengths, coordinates and levels are whole tenths of a foot.
+#![tactic(auto)]
+
+mod edge;
