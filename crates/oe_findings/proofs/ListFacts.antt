@@ -1,8 +1,8 @@
 -- What is taken of a list, part by part.
-use Rattle.std.proofs.Common.{arith, ℕ, zero, suc, ◌≡◌, ◌<◌, ◌+◌, List, [], ◌∷◌, ◌++◌, take, length, get_or, Option, Some, None, refl, sym, ◌∙◌, ap, append_assoc, subst}
+use Rattle.std.proofs.Common.{arith, ℕ, zero, suc, ◌≡◌, ◌<◌, ◌+◌, List, [], ◌∷◌, ◌++◌, take, length, get_or, map, Option, Some, None, refl, sym, ◌∙◌, ap, append_assoc, subst}
 use Rattle.std.specs.Prelude.{slice_get}
 use Rattle.std.specs.List.{flat_map}
-use Rattle.std.proofs.lemmas.List.{flat_map_more, take_more, append-nil}
+use Rattle.std.proofs.lemmas.List.{map-append, flat_map_more, take_more, append-nil}
 
 at_place : {X : Type 0} (xs : List X) (i : ℕ) (x : X) → slice_get xs i ≡ Some x → (i < length xs) × (get_or xs i x ≡ x)
 at_place [] i x e = absurd (cc)
@@ -13,6 +13,14 @@ pub not_past : {X : Type 0} (xs : List X) (i : ℕ) → i < length xs → slice_
 not_past [] i l e = omega arith
 not_past (y ∷ xs) zero l e = cc
 not_past (y ∷ xs) (suc i) l e = not_past xs i (omega arith) e
+
+-- one item more
+pub taken_more : {X : Type 0} (xs : List X) (i : ℕ) (x : X) → slice_get xs i ≡ Some x → take (i + 1) xs ≡ take i xs ++ x ∷ []
+taken_more xs i x e = let r = at_place xs i x e in take_more xs i x r.0 ∙ ap (λ y. take i xs ++ y ∷ []) r.1
+
+-- one image more
+pub image_more : {X A : Type 0} (f : X → A) (xs ys : List X) (x : X) (images : List A) (image : A) → ys ≡ xs ++ x ∷ [] → map f xs ≡ images → f x ≡ image → map f ys ≡ images ++ image ∷ []
+image_more f xs ys x images image grown before made = rw (grown, map-append f xs (x ∷ []), before, made) refl
 
 module _ {A : Type 0} (Old Mid New : List A → Type 0) where
   -- two parts, one after the other

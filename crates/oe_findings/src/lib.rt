@@ -4,9 +4,12 @@
 #![tactic(auto)]
 
 mod collector;
+mod fields;
 mod finding;
 mod findings;
 mod list;
+mod prepared;
+mod prepared_airport;
 mod sky;
 mod verdict;
 

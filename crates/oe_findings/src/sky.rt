@@ -6,6 +6,7 @@ ghost use Rattle.airport_register.specs.Changes.{IsChange};
 ghost use Rattle.oe_findings.specs.List.{findings_of};
 ghost use Rattle.oe_findings.specs.Verdicts.{verdict_of};
 
+use crate::fields::PreparedFields;
 use crate::findings::Findings;
 use crate::list::put_findings;
 use crate::verdict::Verdict;
@@ -18,15 +19,18 @@ use std::marker::Model;
 #[derive(Drop)]
 pub struct Sky {
     register: Register,
+    fields: PreparedFields,
 }
 
 impl Model for Sky {
-    ghost use Rattle.std.specs.Prelude.{List};
+    ghost use Rattle.std.specs.Prelude.{◌≡◌, List};
     ghost use Rattle.airport_register.specs.declared.airfield.Airfield.{Airfield};
 
     ghost Value = { List Airfield };
 
     ghost view = { λ s. s.register };
+
+    ghost invariant = { λ s. s.fields ≡ s.register };
 }
 
 impl Sky {
@@ -36,6 +40,7 @@ impl Sky {
     {
         Sky {
             register: Register::empty(alloc),
+            fields: PreparedFields::empty(alloc),
         }
     }
 
@@ -49,6 +54,7 @@ impl Sky {
     {
         Ok(Sky {
             register: register.share(alloc)?,
+            fields: PreparedFields::of(alloc, register)?,
         })
     }
 
@@ -72,7 +78,10 @@ impl Sky {
     {
         let mut register = self.register.share(alloc)?;
         let changed = register.amend(alloc, a)?;
-        Ok((Sky { register }, changed))
+        register.limits();
+        let airfield = register.get(&changed.id);
+        let fields = self.fields.replaced(alloc, &changed.id, airfield)?;
+        Ok((Sky { register, fields }, changed))
     }
 
     /// Makes `list` the findings of a structure over all airfields: each standard and notice rule that it exceeds, in order, with
