@@ -4,15 +4,16 @@ ghost use Rattle.std.specs.Prelude.{◌≡◌, IfOk};
 ghost use Rattle.airport_register.specs.Airfields.{id_of, IsHeld};
 
 use crate::prepared_airport::PreparedAirport;
-use airport_register::{Airfield, FieldId, Heliport};
+use airport_register::{Airfield, FieldId};
 use grid_exact::NoMemory;
+use heliport_surfaces::Pad;
 use std::alloc::Global;
 
 /// An airfield with its surfaces.
 #[derive(Drop)]
 pub(crate) enum Prepared {
     Airport(PreparedAirport),
-    Heliport(Heliport),
+    Heliport(Pad),
 }
 
 impl Prepared {
@@ -27,7 +28,7 @@ impl Prepared {
             Airfield::Airport(airport) => {
                 Ok(Prepared::Airport(PreparedAirport::of(alloc, airport)?))
             }
-            Airfield::Heliport(heliport) => Ok(Prepared::Heliport(*heliport)),
+            Airfield::Heliport(heliport) => Ok(Prepared::Heliport(Pad::of(heliport))),
         }
     }
 
@@ -37,7 +38,7 @@ impl Prepared {
     {
         match self {
             Prepared::Airport(prepared) => &prepared.airport().id,
-            Prepared::Heliport(heliport) => &heliport.id,
+            Prepared::Heliport(pad) => &pad.heliport().id,
         }
     }
 }

@@ -4,9 +4,11 @@ ghost use Rattle.std.specs.Prelude.{◌≡◌, List, IfOk, take};
 ghost use Rattle.std.specs.List.{All};
 ghost use Rattle.airport_register.specs.Airfields.{IsHeldAirport};
 ghost use Rattle.airport_register.specs.Runways.{IsProper};
+ghost use Rattle.horizontal_hull.specs.Arcs.{dome_of};
 
 use airport_register::{Airport, Runway};
 use grid_exact::NoMemory;
+use horizontal_hull::Hull;
 use imaginary_surfaces::Strip;
 use std::alloc::Global;
 use std::marker::Model;
@@ -15,6 +17,7 @@ use std::marker::Model;
 #[derive(Drop)]
 pub(crate) struct PreparedAirport {
     airport: Airport,
+    hull: Hull,
     strips: Vec<Strip>,
 }
 
@@ -26,7 +29,7 @@ impl Model for PreparedAirport {
 
     ghost view = { λ p. p.airport };
 
-    ghost invariant = { λ p. IsPreparedAirport p.airport p.strips.items };
+    ghost invariant = { λ p. IsPreparedAirport p.airport p.hull p.strips.items };
 }
 
 /// The surfaces of runways, each prepared.
@@ -47,6 +50,7 @@ impl PreparedAirport {
         requires held { IsHeldAirport airport.now }
         ensures airport { IfOk result (λ p. p ≡ airport.now) }
     {
+        let hull = Hull::of(alloc, airport)?;
         let strips = strips_of(alloc, airport.runways.as_slice())?;
         let airport = Airport {
             id: airport.id,
@@ -55,7 +59,11 @@ impl PreparedAirport {
             elevation: airport.elevation,
             runways: airport.runways.copy(alloc)?,
         };
-        Ok(PreparedAirport { airport, strips })
+        Ok(PreparedAirport {
+            airport,
+            hull,
+            strips,
+        })
     }
 
     /// The airport.
@@ -64,6 +72,13 @@ impl PreparedAirport {
         ensures held { IsHeldAirport result.now }
     {
         &self.airport
+    }
+
+    /// Its horizontal and conical surfaces.
+    pub(crate) fn hull(&self) -> &Hull
+        ensures { result.now ≡ dome_of self.now }
+    {
+        &self.hull
     }
 
     /// The surfaces of its runways, in order of their names.

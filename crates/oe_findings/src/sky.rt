@@ -85,8 +85,8 @@ impl Sky {
     }
 
     /// Makes `list` the findings of a structure over all airfields: each standard and notice rule that it exceeds, in order, with
-    /// how far its top is above the surface or limit, in tenths of a foot, rounded down. The rules built so far are 77.17(a)(1) and
-    /// (2), the primary and approach surfaces of 77.19(c) and (d), and 77.9(a).
+    /// how far its top is above the surface or limit, in tenths of a foot, rounded down: 77.17(a)(1) and (2), the surfaces of 77.19 and
+    /// 77.23, and the notice rules of 77.9.
     ///
     /// # Errors
     ///
@@ -95,7 +95,7 @@ impl Sky {
         ensures { OnOk result (list.new ≡ findings_of self.now filing.now) }
     {
         list.clear();
-        put_findings(list, &self.register, filing)
+        put_findings(list, &self.register, self.fields.as_slice(), filing)
     }
 
     /// The same as a list of its own.
@@ -107,7 +107,7 @@ impl Sky {
         ensures { IfOk result (λ list. list ≡ findings_of self.now filing.now) }
     {
         let mut list = Findings::new(alloc);
-        put_findings(&mut list, &self.register, filing)?;
+        put_findings(&mut list, &self.register, self.fields.as_slice(), filing)?;
         Ok(list)
     }
 
@@ -121,7 +121,12 @@ impl Sky {
             obstruction: false,
             entries: 0,
         };
-        match put_findings(&mut verdict, &self.register, filing) {
+        match put_findings(
+            &mut verdict,
+            &self.register,
+            self.fields.as_slice(),
+            filing,
+        ) {
             Ok(()) => verdict,
             Err(NoMemory) => unreachable!(),
         }
