@@ -3,6 +3,7 @@ use Rattle.std.specs.Prelude.{ℕ, ℤ, Option}
 use Rattle.grid_exact.specs.Excess.{Surface}
 use Rattle.grid_exact.specs.declared.point.Point.{Point}
 use Rattle.airport_register.specs.declared.runway.Runway.{Runway}
+use Rattle.airport_register.specs.Runways.{is_precision}
 use Rattle.runway_lines.specs.declared.end.End.{End}
 use Rattle.runway_lines.specs.declared.end.End.TheVariants.{One, Two}
 use Rattle.runway_lines.specs.Ends.{other, end_of, line_between, class_of, end_class_of}
@@ -19,6 +20,7 @@ approach_of r end = record {
   width = (class_of r).width;
   class = end_class_of r end;
   z = (end_of r end).z;
+  precision = is_precision (end_of r end).kind;
 }
 
 -- the surfaces at a point

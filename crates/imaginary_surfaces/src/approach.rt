@@ -18,6 +18,8 @@ pub(crate) struct ApproachSurface {
     pub(crate) width: i64,
     pub(crate) class: EndClass,
     pub(crate) z: i64,
+    /// Whether it is a precision instrument approach.
+    pub(crate) precision: bool,
     ghost sound: { IsApproach width class z },
 }
 
