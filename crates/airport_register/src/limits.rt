@@ -34,8 +34,8 @@ pub(crate) fn is_allowed_elevation(z: &i64) -> bool
 }
 
 impl RunwayEnd {
-    /// Whether it has precision instrument approaches.
-    fn is_precision(&self) -> bool
+    /// Whether it has or is planned for precision instrument approaches.
+    pub fn is_precision(&self) -> bool
         ensures { result ≡ is_precision self.now.kind }
     {
         matches!(self.kind, ApproachKind::Precision)
