@@ -1,1 +1,3 @@
 pub mod SomeFacts
+pub mod Tests
+pub mod Grows
