@@ -1,3 +1,4 @@
 pub mod SomeFacts
 pub mod Tests
 pub mod Grows
+pub mod Bounds
