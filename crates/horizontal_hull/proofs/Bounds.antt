@@ -1,5 +1,5 @@
 -- A tapered capsule lies in the box of its two centers, each grown by its radius.
-use Rattle.std.proofs.Common.{◌≡◌, ◌⊎◌, inl, inr, ℕ, zero, suc, ℤ, pos, negsuc, ◌+◌, ◌-◌, ◌*◌, ◌<◌, ◌≤◌, ◌+ℤ◌, ◌-ℤ◌, ◌*ℤ◌, ◌≤ℤ◌, ◌<ℤ◌, neg_ℤ, unsigned_abs, arith, ap, ◌∙◌, subst}
+use Rattle.std.proofs.Common.{◌≡◌, ◌⊎◌, inl, inr, ℕ, suc, ℤ, pos, negsuc, ◌+◌, ◌-◌, ◌*◌, ◌<◌, ◌≤◌, ◌+ℤ◌, ◌-ℤ◌, ◌*ℤ◌, ◌≤ℤ◌, neg_ℤ, unsigned_abs, arith, ap, ◌∙◌, subst}
 use Rattle.std.proofs.Math.Nat.{mul-le-mul, mul-le-mul_left}
 use Rattle.std.proofs.Math.IntN.{*ℤ_comm}
 use Rattle.std.proofs.lemmas.Bool.{cases_lt}
@@ -12,7 +12,7 @@ use Rattle.grid_exact.proofs.RootSums.{AtMostRoot-scale, AtMostRoot_add, at_zero
 use Rattle.grid_exact.proofs.Vectors.{lagrange_most}
 use Rattle.horizontal_hull.specs.declared.edge.Edge.TheVariants.{Closed}
 use Rattle.horizontal_hull.specs.Arcs.{ArcShape}
-use Rattle.horizontal_hull.specs.Capsules.{InBand, InDisc, InTapered, flare}
+use Rattle.horizontal_hull.specs.Capsules.{InTapered, flare}
 
 -- ---- |ey| * sqrt(T) is at most D2 + p * ex
 twice_product : (a b : ℕ) → 2 * (a * b) ≤ a * a + b * b

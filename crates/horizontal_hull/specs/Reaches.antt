@@ -1,5 +1,5 @@
 -- How far the horizontal and the conical surface reach.
-use Rattle.std.specs.Prelude.{ℕ, ℤ, pos, ◌+ℤ◌, ◌≤◌, ◌≤ℤ◌}
+use Rattle.std.specs.Prelude.{pos, ◌+ℤ◌, ◌≤◌, ◌≤ℤ◌}
 use Rattle.grid_exact.specs.declared.area.Area.{Area}
 use Rattle.horizontal_hull.specs.Arcs.{ArcShape}
 
