@@ -3,3 +3,4 @@ pub mod Tests
 pub mod Grows
 pub mod Bounds
 pub mod Reach
+pub mod Caps
