@@ -140,11 +140,11 @@ cap_listed d x (Level z) h =
     elim h [
       | inl i ↦ (let t : is_within Closed d.arcs x 0 ≡ true = (Within-test Closed d.arcs x 0).1 i.0 in rw t (ap Level i.1))
       | inr c ↦
-        (let n : is_within Closed d.arcs x 0 ≡ false = false_test (is_within Closed d.arcs x 0) (Within-test Closed d.arcs x 0) c.0.not_inner in
-        let t : is_within Closed d.arcs x 40000 ≡ true = (Within-test Closed d.arcs x 40000).1 c.0.within_outer in
-        let e : below_edge d x ≡ unsigned_abs (d.level +ℤ pos 2000 -ℤ z) = below_edge-is d x z c.0.within_outer c.1 in
-        let up : z ≡ d.level +ℤ pos 2000 -ℤ pos (unsigned_abs (d.level +ℤ pos 2000 -ℤ z)) = back d.level z (least_level d x z c.0.within_outer c.1).1 in
-        rw (n, t, e) (ap Level up))
+          (let n : is_within Closed d.arcs x 0 ≡ false = false_test (is_within Closed d.arcs x 0) (Within-test Closed d.arcs x 0) c.0.not_inner in
+          let t : is_within Closed d.arcs x 40000 ≡ true = (Within-test Closed d.arcs x 40000).1 c.0.within_outer in
+          let e : below_edge d x ≡ unsigned_abs (d.level +ℤ pos 2000 -ℤ z) = below_edge-is d x z c.0.within_outer c.1 in
+          let up : z ≡ d.level +ℤ pos 2000 -ℤ pos (unsigned_abs (d.level +ℤ pos 2000 -ℤ z)) = back d.level z (least_level d x z c.0.within_outer c.1).1 in
+          rw (n, t, e) (ap Level up))
     ]
   where
     back : (level z : ℤ) → z ≤ℤ (level +ℤ pos 2000) → z ≡ level +ℤ pos 2000 -ℤ pos (unsigned_abs (level +ℤ pos 2000 -ℤ z))

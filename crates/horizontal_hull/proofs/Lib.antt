@@ -4,3 +4,4 @@ pub mod Grows
 pub mod Bounds
 pub mod Reach
 pub mod Caps
+pub mod Worked
