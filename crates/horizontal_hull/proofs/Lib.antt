@@ -1,0 +1,7 @@
+pub mod SomeFacts
+pub mod Tests
+pub mod Grows
+pub mod Bounds
+pub mod Reach
+pub mod Caps
+pub mod Worked
