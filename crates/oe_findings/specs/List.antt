@@ -19,8 +19,8 @@ use Rattle.horizontal_hull.specs.Within.{horizontal_excess, conical_excess, cap_
 use Rattle.imaginary_surfaces.specs.Strips.{primary_excess, approach_excess, primary_transition_excess, approach_transition_excess}
 use Rattle.runway_lines.specs.declared.end.End.TheVariants as ends
 use Rattle.heliport_surfaces.specs.Pads.{pad_primary_excess, pad_approach_excess, pad_transition_excess, pad_notice_excess}
-use Rattle.heliport_surfaces.specs.declared.pad.PadEnd.TheVariants as pad_ends
-use Rattle.heliport_surfaces.specs.declared.pad.Beside.TheVariants as sides
+use Rattle.heliport_surfaces.specs.declared.parts.PadEnd.TheVariants as pad_ends
+use Rattle.heliport_surfaces.specs.declared.parts.Beside.TheVariants as sides
 use Rattle.notice_slopes.specs.Exemptions.{exemption_of}
 use Rattle.notice_slopes.specs.OnAirfields.{is_on_described}
 use Rattle.notice_slopes.specs.NoticeSlopes.{notice_slope}

@@ -1,6 +1,7 @@
 //! The standards that a structure exceeds over one airfield.
 
 ghost use Rattle.std.specs.Prelude.{◌≡◌, ◌++◌, List, OnOk, OnErr};
+ghost use Rattle.std.specs.List.{flat_map};
 ghost use Rattle.grid_exact.specs.Level.{IsLevel};
 ghost use Rattle.grid_exact.specs.Caps.{IsSmallCap};
 ghost use Rattle.height_rules.specs.Heights.{standards_top};
@@ -47,6 +48,26 @@ fn put_runway<C: Collector>(
     Ok(())
 }
 
+/// Puts the entries of the surfaces of runways behind the others, one runway after the other.
+fn put_runways<C: Collector>(
+    out: &mut C,
+    field: FieldId,
+    at: &Point,
+    top: i64,
+    cap: &Cap,
+    strips: &[Strip],
+) -> Result<(), NoMemory>
+    requires top { IsLevel top }
+    requires cap { IsSmallCap cap.now }
+    ensures taken { OnOk result ((list : List AFinding) → C.taken out.old list → C.taken out.new (list ++ flat_map (of_runway field at.now top cap.now) strips.now)) }
+    ensures fails { OnErr result C.fails }
+{
+    for strip in strips {
+        put_runway(out, field, at, top, cap, strip)?;
+    }
+    Ok(())
+}
+
 /// Puts the entries of the civil surfaces of an airport behind the others: horizontal, conical, then those of its runways in order
 /// of name.
 fn put_civil<C: Collector>(
@@ -63,11 +84,7 @@ fn put_civil<C: Collector>(
     let hull = prepared.hull();
     put_on_field(out, Rule::Horizontal, field, 0, hull.excess_horizontal(at, top))?;
     put_on_field(out, Rule::Conical, field, 0, hull.excess_conical(at, top))?;
-    let cap = hull.cap(at);
-    for strip in prepared.strips() {
-        put_runway(out, field, at, top, &cap, strip)?;
-    }
-    Ok(())
+    put_runways(out, field, at, top, &hull.cap(at), prepared.strips())
 }
 
 /// Puts the entries of the surfaces of a heliport behind the others.
