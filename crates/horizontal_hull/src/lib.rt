@@ -2,4 +2,9 @@
 //! their common tangents, and what lies around them. Lengths, coordinates and levels are whole tenths of a foot.
 #![tactic(auto)]
 
+mod arc;
 mod edge;
+mod hull;
+mod reach;
+
+pub use hull::Hull;
