@@ -3,3 +3,4 @@ pub mod Pairs
 pub mod Capsules
 pub mod Triangles
 pub mod Within
+pub mod Reaches
