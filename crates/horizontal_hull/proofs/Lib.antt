@@ -3,3 +3,5 @@ pub mod Tests
 pub mod Grows
 pub mod Bounds
 pub mod Reach
+pub mod BoxFacts
+pub mod ArcFacts

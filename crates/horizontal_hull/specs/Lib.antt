@@ -4,3 +4,4 @@ pub mod Capsules
 pub mod Triangles
 pub mod Within
 pub mod Reaches
+pub mod Close

@@ -8,7 +8,7 @@ ghost use Rattle.horizontal_hull.specs.Arcs.{arcs_of_runway, dome_of};
 ghost use Rattle.horizontal_hull.specs.Close.{IsNearReference};
 
 use crate::arc::Arc;
-use crate::reach::reach;
+use crate::extent::extent;
 use airport_register::{Airport, Runway};
 use grid_exact::{Area, NoMemory};
 use runway_lines::End;
@@ -58,7 +58,7 @@ impl Hull {
         ensures dome { IfOk result (λ h. h ≡ dome_of a.now) }
     {
         let arcs = arcs(alloc, a.runways.as_slice())?;
-        let reach = reach(arcs.as_slice(), &a.arp);
+        let reach = extent(arcs.as_slice(), &a.arp);
         Ok(Hull {
             arcs,
             reach,

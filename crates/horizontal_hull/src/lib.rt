@@ -4,7 +4,7 @@
 
 mod arc;
 mod edge;
+mod extent;
 mod hull;
-mod reach;
 
 pub use hull::Hull;

@@ -1,6 +1,6 @@
 //! The box that the arcs of an airport reach into.
 
-ghost use Rattle.std.specs.Prelude.{◌≡◌, ◌+ℤ◌, ◌-ℤ◌, pos};
+ghost use Rattle.std.specs.Prelude.{◌≡◌, ◌+ℤ◌, ◌-ℤ◌, ◌≤◌, pos, unsigned_abs};
 ghost use Rattle.std.specs.List.{All};
 ghost use Rattle.grid_exact.specs.declared.point.Point.{Point};
 ghost use Rattle.horizontal_hull.specs.Reaches.{IsReached};
@@ -41,19 +41,27 @@ fn joined(a: &Area, b: &Area) -> Area
     }
 }
 
+/// The center of the first arc, or the reference point where there is none.
+fn first_center(arcs: &[Arc], arp: &Point) -> Start
+    requires near { All (IsNearReference arp.now) arcs.now }
+    ensures x { unsigned_abs (result.x -ℤ arp.now.x) ≤ 402000 }
+    ensures y { unsigned_abs (result.y -ℤ arp.now.y) ≤ 402000 }
+{
+    match arcs.first() {
+        Some(arc) => arc.center(),
+        None => Start::at(arp),
+    }
+}
+
 /// The least box that has all that the arcs can reach. Without arcs it is about the airport's reference point.
-pub(crate) fn reach(arcs: &[Arc], arp: &Point) -> Area
+pub(crate) fn extent(arcs: &[Arc], arp: &Point) -> Area
     requires near { All (IsNearReference arp.now) arcs.now }
     ensures reached { All (IsReached result) arcs.now }
     ensures small { IsSmallBox result }
 {
-    let first = match arcs.first() {
-        Some(arc) => arc.center(),
-        None => Start::at(arp),
-    };
-    let mut reach = around(first);
+    let mut extent = around(first_center(arcs, arp));
     for arc in arcs {
-        reach = joined(&reach, &around(arc.center()));
+        extent = joined(&extent, &around(arc.center()));
     }
-    reach
+    extent
 }
