@@ -5,3 +5,4 @@ pub mod Bounds
 pub mod Reach
 pub mod BoxFacts
 pub mod ArcFacts
+pub mod Sizes

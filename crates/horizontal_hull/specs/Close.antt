@@ -44,3 +44,14 @@ pub record AreClose (arcs : List ArcShape) (x : Point) : Type 0 where
   pub reached : All (IsReached reach) arcs
   pub small : IsSmallBox reach
   pub has : Has reach x
+
+-- two arcs of one airport, and a point near them
+pub record IsNearBoth (a b : ArcShape) (x : Point) : Type 0 where
+  pub way_x : unsigned_abs (b.x -ℤ a.x) ≤ 804000
+  pub way_y : unsigned_abs (b.y -ℤ a.y) ≤ 804000
+  pub first_x : unsigned_abs (x.x -ℤ a.x) ≤ 944000
+  pub first_y : unsigned_abs (x.y -ℤ a.y) ≤ 944000
+  pub second_x : unsigned_abs (x.x -ℤ b.x) ≤ 944000
+  pub second_y : unsigned_abs (x.y -ℤ b.y) ≤ 944000
+  pub first_radius : a.radius ≤ 100000
+  pub second_radius : b.radius ≤ 100000

@@ -5,3 +5,4 @@ pub mod Triangles
 pub mod Within
 pub mod Reaches
 pub mod Close
+pub mod Bands

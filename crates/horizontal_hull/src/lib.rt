@@ -3,8 +3,11 @@
 #![tactic(auto)]
 
 mod arc;
+mod band;
+mod capsule;
 mod edge;
 mod extent;
 mod hull;
+mod triangle;
 
 pub use hull::Hull;
