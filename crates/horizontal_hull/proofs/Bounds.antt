@@ -105,16 +105,16 @@ band_east ex ey vx vy r p l h =
         let m3 : AtMostRoot (pos (q * T) +ℤ neg_ℤ (pos (q * K))) (A +ℤ neg_ℤ (pos (q * b))) T = AtMostRoot_add _ _ _ _ T m1 m2 in
         by_lt_z (ex +ℤ pos p) (pos 0)
         (λ low. let F : ℕ = unsigned_abs (ex +ℤ pos p) in
-          let e : ex ≡ neg_ℤ (pos F) -ℤ pos p = omega (arith, ints) in
-          inl (cancel d vx (pos r) dp (behind_sum s vx q b d r p F ex e big
-            (at_zero _ T tp (subst (λ z. AtMostRoot z (A +ℤ neg_ℤ (pos (q * b)) +ℤ pos F *ℤ s) T) (zero_behind q T K p F (size_behind ex d p T K F e eT eK))
-              (AtMostRoot_add _ _ _ _ T m3 (AtMostRoot-scale F (neg_ℤ (pos (p * q))) s T after)))))))
+        let e : ex ≡ neg_ℤ (pos F) -ℤ pos p = omega (arith, ints) in
+        inl (cancel d vx (pos r) dp (behind_sum s vx q b d r p F ex e big
+        (at_zero _ T tp (subst (λ z. AtMostRoot z (A +ℤ neg_ℤ (pos (q * b)) +ℤ pos F *ℤ s) T) (zero_behind q T K p F (size_behind ex d p T K F e eT eK))
+        (AtMostRoot_add _ _ _ _ T m3 (AtMostRoot-scale F (neg_ℤ (pos (p * q))) s T after)))))))
         (λ high. let F : ℕ = unsigned_abs (ex +ℤ pos p) in
-          let e : ex ≡ pos F -ℤ pos p = omega (arith, ints) in
-          let bound : vx ≤ℤ (pos r +ℤ pos F) = cancel d vx (pos r +ℤ pos F) dp (ahead_sum s vx q b d r p F ex e big
-            (at_zero _ T tp (subst (λ z. AtMostRoot z (A +ℤ neg_ℤ (pos (q * b)) +ℤ pos F *ℤ (pos d -ℤ s)) T) (zero_ahead q T K p F (size_ahead ex d p T K F e eT eK))
-              (AtMostRoot_add _ _ _ _ T m3 (AtMostRoot-scale F (pos (p * q)) (pos d -ℤ s) T before))))) in
-          inr (omega (arith, ints, bound, e)))
+        let e : ex ≡ pos F -ℤ pos p = omega (arith, ints) in
+        let bound : vx ≤ℤ (pos r +ℤ pos F) = cancel d vx (pos r +ℤ pos F) dp (ahead_sum s vx q b d r p F ex e big
+        (at_zero _ T tp (subst (λ z. AtMostRoot z (A +ℤ neg_ℤ (pos (q * b)) +ℤ pos F *ℤ (pos d -ℤ s)) T) (zero_ahead q T K p F (size_ahead ex d p T K F e eT eK))
+        (AtMostRoot_add _ _ _ _ T m3 (AtMostRoot-scale F (pos (p * q)) (pos d -ℤ s) T before))))) in
+        inr (omega (arith, ints, bound, e)))
       where
         size_behind : (ex : ℤ) (d p T K F : ℕ) → ex ≡ neg_ℤ (pos F) -ℤ pos p → T + p * p ≡ d → pos K ≡ pos d +ℤ pos p *ℤ ex → K + p * F ≡ T
         size_behind ex d p T K F e t k =
@@ -188,8 +188,8 @@ tapered_in_grown a b x c m la lb h =
       | inr t ↦ elim t.1 [
         | inl d ↦ in_first a.x a.y b.x b.y x.x x.y (a.radius + c) m la d
         | inr band ↦
-          in_band a.x a.y b.x b.y x.x x.y (a.radius + c) (flare a b) m la (both a.radius b.radius c m la lb) t.0
-          (record { after = band.after; before = band.before; under = band.under })
+            in_band a.x a.y b.x b.y x.x x.y (a.radius + c) (flare a b) m la (both a.radius b.radius c m la lb) t.0
+            (record { after = band.after; before = band.before; under = band.under })
       ]
     ]
   where

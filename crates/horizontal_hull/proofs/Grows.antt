@@ -35,10 +35,13 @@ tapered_map : (edge edge' : Edge) (x : Point) (c c' : ℕ) → ((a : ArcShape) �
 tapered_map edge edge' x c c' disc under a b h =
     elim h [
       | inl d ↦ inl (disc b d)
-      | inr t ↦ inr (t.0, elim t.1 [
-        | inl d ↦ inl (disc a d)
-        | inr band ↦ inr (record { after = band.after; before = band.before; under = under a b t.0 band.under })
-      ])
+      | inr t ↦ inr (
+        t.0,
+        elim t.1 [
+          | inl d ↦ inl (disc a d)
+          | inr band ↦ inr (record { after = band.after; before = band.before; under = under a b t.0 band.under })
+        ],
+      )
     ]
 
 -- ---- discs

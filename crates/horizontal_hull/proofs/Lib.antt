@@ -6,3 +6,5 @@ pub mod Reach
 pub mod BoxFacts
 pub mod ArcFacts
 pub mod Sizes
+pub mod Caps
+pub mod Worked

@@ -47,23 +47,48 @@ capsule_in_reach reach x c l a b ra rb h = either (nat_le a.radius b.radius) (ta
 -- the weights of the point's place among three corners
 weights : (ax ay bx by dx dy : ℤ) → across_of bx by dx dy *ℤ ax +ℤ across_of dx dy ax ay *ℤ bx +ℤ across_of ax ay bx by *ℤ dx ≡ pos 0
 weights ax ay bx by dx dy =
-    omega (arith, ints,
-      sub-mul (bx *ℤ dy) (by *ℤ dx) ax, sub-mul (dx *ℤ ay) (dy *ℤ ax) bx, sub-mul (ax *ℤ by) (ay *ℤ bx) dx,
-      rotated bx dy ax, rotated ax by dx, rotated dx ay bx)
+    omega (
+      arith,
+      ints,
+      sub-mul (bx *ℤ dy) (by *ℤ dx) ax,
+      sub-mul (dx *ℤ ay) (dy *ℤ ax) bx,
+      sub-mul (ax *ℤ by) (ay *ℤ bx) dx,
+      rotated bx dy ax,
+      rotated ax by dx,
+      rotated dx ay bx,
+    )
 
 weights_up : (ax ay bx by dx dy : ℤ) → across_of bx by dx dy *ℤ ay +ℤ across_of dx dy ax ay *ℤ by +ℤ across_of ax ay bx by *ℤ dy ≡ pos 0
 weights_up ax ay bx by dx dy =
-    omega (arith, ints,
-      sub-mul (bx *ℤ dy) (by *ℤ dx) ay, sub-mul (dx *ℤ ay) (dy *ℤ ax) by, sub-mul (ax *ℤ by) (ay *ℤ bx) dy,
-      rotated ay bx dy, rotated by dx ay, rotated dy ax by)
+    omega (
+      arith,
+      ints,
+      sub-mul (bx *ℤ dy) (by *ℤ dx) ay,
+      sub-mul (dx *ℤ ay) (dy *ℤ ax) by,
+      sub-mul (ax *ℤ by) (ay *ℤ bx) dy,
+      rotated ay bx dy,
+      rotated by dx ay,
+      rotated dy ax by,
+    )
 
 -- the triangle's area is the sum of the three at the point
 differences : (ux uy vx vy ax ay : ℤ) → across_of (ux -ℤ ax) (uy -ℤ ay) (vx -ℤ ax) (vy -ℤ ay) ≡ across_of ux uy vx vy +ℤ across_of vx vy ax ay +ℤ across_of ax ay ux uy
 differences ux uy vx vy ax ay =
-    omega (arith, ints,
-      sub-mul ux ax (vy -ℤ ay), mul-sub ux vy ay, mul-sub ax vy ay,
-      sub-mul uy ay (vx -ℤ ax), mul-sub uy vx ax, mul-sub ay vx ax,
-      *ℤ_comm ux ay, *ℤ_comm uy ax, *ℤ_comm vx ay, *ℤ_comm vy ax, *ℤ_comm ax ay)
+    omega (
+      arith,
+      ints,
+      sub-mul ux ax (vy -ℤ ay),
+      mul-sub ux vy ay,
+      mul-sub ax vy ay,
+      sub-mul uy ay (vx -ℤ ax),
+      mul-sub uy vx ax,
+      mul-sub ay vx ax,
+      *ℤ_comm ux ay,
+      *ℤ_comm uy ax,
+      *ℤ_comm vx ay,
+      *ℤ_comm vy ax,
+      *ℤ_comm ax ay,
+    )
 
 area_sum : (a b d : ArcShape) (x : Point) → turn a b d ≡ turn_at x b d +ℤ turn_at x d a +ℤ turn_at x a b
 area_sum a b d x =
@@ -87,9 +112,19 @@ sign_of_product (negsuc d) x p h = absurd (omega (arith, ints, p))
 most_of : (f g h e za zb zd : ℤ) → pos 0 ≤ℤ f → pos 0 ≤ℤ g → pos 0 ≤ℤ h → pos 0 <ℤ (f +ℤ g +ℤ h) → za ≤ℤ e → zb ≤ℤ e → zd ≤ℤ e → f *ℤ za +ℤ g *ℤ zb +ℤ h *ℤ zd ≡ pos 0 → pos 0 ≤ℤ e
 most_of f g h e za zb zd pf pg ph d ha hb hd z =
     sign_of_product (f +ℤ g +ℤ h) e d
-    (omega (arith, ints,
-      product_up f (e -ℤ za) pf (omega (arith, ints, ha)), product_up g (e -ℤ zb) pg (omega (arith, ints, hb)), product_up h (e -ℤ zd) ph (omega (arith, ints, hd)), z,
-      mul-sub f e za, mul-sub g e zb, mul-sub h e zd, add-mul (f +ℤ g) h e, add-mul f g e))
+    (omega (
+      arith,
+      ints,
+      product_up f (e -ℤ za) pf (omega (arith, ints, ha)),
+      product_up g (e -ℤ zb) pg (omega (arith, ints, hb)),
+      product_up h (e -ℤ zd) ph (omega (arith, ints, hd)),
+      z,
+      mul-sub f e za,
+      mul-sub g e zb,
+      mul-sub h e zd,
+      add-mul (f +ℤ g) h e,
+      add-mul f g e,
+    ))
 
 least_of : (f g h e za zb zd : ℤ) → pos 0 ≤ℤ f → pos 0 ≤ℤ g → pos 0 ≤ℤ h → pos 0 <ℤ (f +ℤ g +ℤ h) → e ≤ℤ za → e ≤ℤ zb → e ≤ℤ zd → f *ℤ za +ℤ g *ℤ zb +ℤ h *ℤ zd ≡ pos 0 → e ≤ℤ pos 0
 least_of f g h e za zb zd pf pg ph d ha hb hd z =
@@ -104,13 +139,13 @@ inside_in_reach reach a b d x ra rb rd t =
     let v : turn_at x b d *ℤ (a.y -ℤ x.y) +ℤ turn_at x d a *ℤ (b.y -ℤ x.y) +ℤ turn_at x a b *ℤ (d.y -ℤ x.y) ≡ pos 0 = weights_up (a.x -ℤ x.x) (a.y -ℤ x.y) (b.x -ℤ x.x) (b.y -ℤ x.y) (d.x -ℤ x.x) (d.y -ℤ x.y) in
     record {
       west = low reach.x0 x.x (least_of (turn_at x b d) (turn_at x d a) (turn_at x a b) (reach.x0 -ℤ x.x) (a.x -ℤ x.x) (b.x -ℤ x.x) (d.x -ℤ x.x) t.second t.third t.first sum
-        (above reach.x0 a.x x.x ra.west) (above reach.x0 b.x x.x rb.west) (above reach.x0 d.x x.x rd.west) h);
+          (above reach.x0 a.x x.x ra.west) (above reach.x0 b.x x.x rb.west) (above reach.x0 d.x x.x rd.west) h);
       east = high reach.x1 x.x (most_of (turn_at x b d) (turn_at x d a) (turn_at x a b) (reach.x1 -ℤ x.x) (a.x -ℤ x.x) (b.x -ℤ x.x) (d.x -ℤ x.x) t.second t.third t.first sum
-        (below reach.x1 a.x x.x ra.east) (below reach.x1 b.x x.x rb.east) (below reach.x1 d.x x.x rd.east) h);
+          (below reach.x1 a.x x.x ra.east) (below reach.x1 b.x x.x rb.east) (below reach.x1 d.x x.x rd.east) h);
       south = low reach.y0 x.y (least_of (turn_at x b d) (turn_at x d a) (turn_at x a b) (reach.y0 -ℤ x.y) (a.y -ℤ x.y) (b.y -ℤ x.y) (d.y -ℤ x.y) t.second t.third t.first sum
-        (above reach.y0 a.y x.y ra.south) (above reach.y0 b.y x.y rb.south) (above reach.y0 d.y x.y rd.south) v);
+          (above reach.y0 a.y x.y ra.south) (above reach.y0 b.y x.y rb.south) (above reach.y0 d.y x.y rd.south) v);
       north = high reach.y1 x.y (most_of (turn_at x b d) (turn_at x d a) (turn_at x a b) (reach.y1 -ℤ x.y) (a.y -ℤ x.y) (b.y -ℤ x.y) (d.y -ℤ x.y) t.second t.third t.first sum
-        (below reach.y1 a.y x.y ra.north) (below reach.y1 b.y x.y rb.north) (below reach.y1 d.y x.y rd.north) v);
+          (below reach.y1 a.y x.y ra.north) (below reach.y1 b.y x.y rb.north) (below reach.y1 d.y x.y rd.north) v);
     }
   where
     low : (m x : ℤ) → (m -ℤ x) ≤ℤ pos 0 → m ≤ℤ x

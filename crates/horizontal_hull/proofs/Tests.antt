@@ -55,15 +55,16 @@ InBand-test edge a b x c =
     let r : Bool = is_under_tangent edge a b x c in
     let hp = at_most_test (neg_ℤ (pos (flare a b * aside a b x))) (ahead a b x) (tangent a b) in
     let hq = at_most_test (pos (flare a b * aside a b x)) (pos (span a b) -ℤ ahead a b x) (tangent a b) in
-    let hr = IsUnderTangent-test edge a b x c in
-    (λ t. record { after = hp.0 (first_true p q r t); before = hq.0 (second_true p q r t); under = hr.0 (third_true p q r t) },
-    λ h. all_true p q r (hp.1 h.after) (hq.1 h.before) (hr.1 h.under))
+    let hr = IsUnderTangent-test edge a b x c in (
+      λ t. record { after = hp.0 (first_true p q r t); before = hq.0 (second_true p q r t); under = hr.0 (third_true p q r t) },
+      λ h. all_true p q r (hp.1 h.after) (hq.1 h.before) (hr.1 h.under),
+    )
 
 pub InTapered-test : (edge : Edge) (a b : ArcShape) (x : Point) (c : ℕ) → IsTrue (in_tapered edge a b x c) ↔ InTapered edge a b x c
 InTapered-test edge a b x c =
     or_test (in_disc edge b x c) (nat_lt (flare a b * flare a b) (span a b) && (in_disc edge a x c || in_band edge a b x c)) (InDisc-test edge b x c)
     (and_test (nat_lt (flare a b * flare a b) (span a b)) (in_disc edge a x c || in_band edge a b x c) (nat_lt_test (flare a b * flare a b) (span a b))
-      (or_test (in_disc edge a x c) (in_band edge a b x c) (InDisc-test edge a x c) (InBand-test edge a b x c)))
+    (or_test (in_disc edge a x c) (in_band edge a b x c) (InDisc-test edge a x c) (InBand-test edge a b x c)))
 
 pub InCapsule-test : (edge : Edge) (a b : ArcShape) (x : Point) (c : ℕ) → IsTrue (in_capsule edge a b x c) ↔ InCapsule edge a b x c
 unfolding in_capsule
@@ -76,9 +77,10 @@ IsInside-test a b d x =
     let h =
     and_test (int_lt (pos 0) (turn a b d) && int_le (pos 0) (turn_at x a b)) (int_le (pos 0) (turn_at x b d) && int_le (pos 0) (turn_at x d a))
     (and_test (int_lt (pos 0) (turn a b d)) (int_le (pos 0) (turn_at x a b)) (int_lt_test (pos 0) (turn a b d)) (int_le_test (pos 0) (turn_at x a b)))
-    (and_test (int_le (pos 0) (turn_at x b d)) (int_le (pos 0) (turn_at x d a)) (int_le_test (pos 0) (turn_at x b d)) (int_le_test (pos 0) (turn_at x d a))) in
-    (λ t. let k = h.0 t in record { proper = k.0.0; first = k.0.1; second = k.1.0; third = k.1.1 },
-    λ k. h.1 ((k.proper, k.first), (k.second, k.third)))
+    (and_test (int_le (pos 0) (turn_at x b d)) (int_le (pos 0) (turn_at x d a)) (int_le_test (pos 0) (turn_at x b d)) (int_le_test (pos 0) (turn_at x d a))) in (
+      λ t. let k = h.0 t in record { proper = k.0.0; first = k.0.1; second = k.1.0; third = k.1.1 },
+      λ k. h.1 ((k.proper, k.first), (k.second, k.third)),
+    )
 
 pub InTriangle-test : (a b d : ArcShape) (x : Point) → IsTrue (in_triangle a b d x) ↔ InTriangle a b d x
 unfolding in_triangle
