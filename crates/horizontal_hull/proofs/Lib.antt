@@ -8,3 +8,4 @@ pub mod ArcFacts
 pub mod Sizes
 pub mod Caps
 pub mod Worked
+pub mod CloseFacts

@@ -8,6 +8,7 @@ mod capsule;
 mod edge;
 mod extent;
 mod hull;
+mod some;
 mod triangle;
 
 pub use hull::Hull;
