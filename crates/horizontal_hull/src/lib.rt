@@ -9,6 +9,8 @@ mod edge;
 mod extent;
 mod hull;
 mod some;
+#[cfg(test)]
+mod tests;
 mod triangle;
 
 pub use hull::Hull;

@@ -24,7 +24,8 @@ fn is_not_right(x: &Point, a: &Arc, b: &Arc) -> bool
 fn is_inside(a: &Arc, b: &Arc, d: &Arc, x: &Point) -> bool
     ensures { result ≡ is_inside_of a.now b.now d.now x.now }
 {
-    (is_left_turn(a, b, d) && is_not_right(x, a, b)) && (is_not_right(x, b, d) && is_not_right(x, d, a))
+    (is_left_turn(a, b, d) && is_not_right(x, a, b))
+        && (is_not_right(x, b, d) && is_not_right(x, d, a))
 }
 
 /// Whether a point lies in the closed triangle of three centers that are not on one line.
