@@ -8,9 +8,9 @@ mod capsule;
 mod edge;
 mod extent;
 mod hull;
-mod some;
 #[cfg(test)]
-mod tests;
+mod hull_tests;
+mod some;
 mod triangle;
 
 pub use hull::Hull;

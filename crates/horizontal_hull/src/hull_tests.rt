@@ -1,5 +1,7 @@
 //! Worked values: distances from the convex hulls of the discs, computed apart from this crate.
 
+ghost use Rattle.grid_exact.specs.Level.{IsLevel};
+
 use crate::Hull;
 use airport_register::{
     Airfield, Amendment, Category, FieldId, Register, Runway, RunwayEnd, RunwayName,
@@ -68,6 +70,12 @@ fn hull(alloc: Global, runways: &[Runway]) -> Result<Hull, Fail> {
     }
 }
 
+fn level(top: i16) -> i64
+    ensures { IsLevel result }
+{
+    i64::from(top)
+}
+
 /// A smaller and a larger arc on one line: 12 y = 5 x + 650,000 is the northern tangent.
 #[test]
 fn slanted_tangents(rt: HostRuntime) -> Result<(), Fail> {
@@ -92,7 +100,7 @@ fn slanted_tangents(rt: HostRuntime) -> Result<(), Fail> {
     ];
     for (x, y, top, horizontal, conical, cap) in table {
         let point = Point::new(x, y)?;
-        let top = i64::from(top);
+        let top = level(top);
         assert_eq!(rt;
             hull.excess_horizontal(&point, top),
             horizontal,
