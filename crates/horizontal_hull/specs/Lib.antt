@@ -4,3 +4,5 @@ pub mod Capsules
 pub mod Triangles
 pub mod Within
 pub mod Reaches
+pub mod Close
+pub mod Bands
