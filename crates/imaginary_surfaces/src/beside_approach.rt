@@ -7,7 +7,9 @@ ghost use Rattle.grid_exact.specs.Level.{IsLevel};
 ghost use Rattle.grid_exact.specs.Root.{AtLeastRoot, AtMostRoot};
 
 use crate::approach::{ApproachSurface, Rise};
-use grid_exact::{Cap, Point, Rising, Slope, is_at_least_root, is_at_most_root, minus, plus, product, scale};
+use grid_exact::{
+    Cap, Point, Rising, Slope, is_at_least_root, is_at_most_root, minus, plus, product, scale,
+};
 
 impl Rise {
     ghost use Rattle.std.specs.Prelude.{◌-ℤ◌};

@@ -46,7 +46,10 @@ impl PrimarySurface {
         ensures value { result ≡ shift_beside_primary (primary_shape self.now) point.now }
         ensures size { unsigned_abs result ≤ 2 ^ 24 }
     {
-        minus(product(14, self.centerline.elevation(point)), self.width as i128)
+        minus(
+            product(14, self.centerline.elevation(point)),
+            self.width as i128,
+        )
     }
 
     /// The slope of the transitional surface over a point that it reaches.
@@ -57,7 +60,12 @@ impl PrimarySurface {
         ensures c { result.c ≡ shift_beside_primary (primary_shape self.now) point.now }
         ensures n { result.n ≡ axis_square self.now.axis }
     {
-        Slope::rising(self.twice_aside(point), 14, self.shift_beside(point), self.axis.square())
+        Slope::rising(
+            self.twice_aside(point),
+            14,
+            self.shift_beside(point),
+            self.axis.square(),
+        )
     }
 
     /// How far `top` is above the transitional surface at a point where it ends at `limit` at the highest.

@@ -14,3 +14,5 @@ pub use strip::Strip;
 
 #[cfg(test)]
 mod tests;
+#[cfg(test)]
+mod transition_tests;

@@ -97,7 +97,13 @@ impl Strip {
     /// How far `top` is above the transitional surface beside the approach surface of an end at a point, in tenths of a foot, rounded
     /// down: 77.19(e). `cap` is where the horizontal and conical surfaces end upward at the point. `None` where it is not above, and
     /// where the surface does not cover the point.
-    pub fn excess_transition_approach(&self, end: End, x: &Point, top: i64, cap: &Cap) -> Option<u32>
+    pub fn excess_transition_approach(
+        &self,
+        end: End,
+        x: &Point,
+        top: i64,
+        cap: &Cap,
+    ) -> Option<u32>
         requires top { IsLevel top }
         requires cap { IsSmallCap cap.now }
         ensures exact { IsExcess (approach_transition_surface self.now end x.now cap.now) top result }
