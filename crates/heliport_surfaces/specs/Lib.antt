@@ -3,3 +3,7 @@ pub mod Axes
 pub mod Landings
 pub mod Approaches
 pub mod Shapes
+pub mod Notices
+pub mod Laws
+pub mod Pads
+pub mod Prepared

@@ -15,3 +15,11 @@ pub record HasPadSizes (width z : ℤ) : Type 0 where
 pub record IsPadSlope (slope : ℤ) : Type 0 where
   pub slope_least : pos 8 ≤ℤ slope
   pub slope_most : slope ≤ℤ pos 10
+
+-- how a point of the grid lies off a takeoff and landing area
+pub record HasGapSizes (beyond aside width square : ℕ) : Type 0 where
+  pub beyond_size : beyond ≤ 2 ^ 41
+  pub aside_size : aside ≤ 2 ^ 40
+  pub width_size : width ≤ 5000
+  pub some : 0 < square
+  pub square_size : square ≤ 10000 * 10000

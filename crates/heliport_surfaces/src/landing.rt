@@ -8,7 +8,9 @@ ghost use Rattle.heliport_surfaces.specs.Landings.{at_axis};
 ghost use Rattle.heliport_surfaces.specs.Sizes.{HasPadSizes};
 
 use crate::axis::PadAxis;
-use grid_exact::{Point, Slope, flat_excess, is_at_least_root, is_at_most_root, minus, product, scale};
+use crate::gap::LandingGap;
+use crate::notice::NoticeSlope;
+use grid_exact::{Point, Slope, excess, flat_excess, is_at_least_root, is_at_most_root, minus, product, scale};
 
 /// The takeoff and landing area of a heliport.
 #[derive(Clone, Copy)]
@@ -30,10 +32,11 @@ pub(crate) fn height_at_axis(z: i64, width: i64) -> i128
 }
 
 impl LandingArea {
-    ghost use Rattle.grid_exact.specs.Lines.{aside, square};
+    ghost use Rattle.grid_exact.specs.Lines.{along, aside, square};
     ghost use Rattle.heliport_surfaces.specs.Axes.{pad_line};
     ghost use Rattle.heliport_surfaces.specs.Landings.{PrimaryCovers, PrimarySideCovers, primary, primary_side};
-    ghost use Rattle.heliport_surfaces.specs.Shapes.{landing_shape};
+    ghost use Rattle.heliport_surfaces.specs.Notices.{beyond_ends, gap as gap_of, notice};
+    ghost use Rattle.heliport_surfaces.specs.Shapes.{gap_shape, landing_shape};
 
     /// Twice how far a point is to a side, times the length of the axis.
     fn twice_aside(&self, point: &Point) -> i128
@@ -109,5 +112,46 @@ impl LandingArea {
         }
         let base = height_at_axis(self.z, self.width);
         Slope::rising(self.twice_aside(point), 4, base, self.axis.square()).excess(top)
+    }
+
+    /// How far a point is before or past the ends of the axis, times its length.
+    fn beyond(&self, point: &Point) -> u128
+        ensures value { result ≡ beyond_ends (along (pad_line self.now.axis) point.now) (square (pad_line self.now.axis)) }
+        ensures size { result ≤ 2 ^ 41 }
+    {
+        let along = self.axis.along(point);
+        if along < 0 {
+            return along.unsigned_abs();
+        }
+        let square = self.axis.square() as i128;
+        if square < along {
+            return (along - square).unsigned_abs();
+        }
+        0
+    }
+
+    /// How a point lies off the area.
+    fn gap(&self, point: &Point) -> LandingGap
+        ensures shape { gap_shape result ≡ gap_of (landing_shape self.now) point.now }
+    {
+        LandingGap {
+            beyond: self.beyond(point),
+            aside: self.axis.aside(point).unsigned_abs(),
+            width: self.width.unsigned_abs() as u128,
+            square: self.axis.square(),
+        }
+    }
+
+    /// How far `top` is above the slope of notice at a point, or `None` where it is not above, or the slope does not reach the point.
+    pub(crate) fn excess_notice(&self, point: &Point, top: i64) -> Option<u32>
+        requires top { IsLevel top }
+        ensures exact { IsExcess (notice (landing_shape self.now) point.now) top result }
+        ensures size { IfSome result (λ e. e ≤ 2 ^ 26) }
+    {
+        let gap = self.gap(point);
+        if !gap.is_near() {
+            return None;
+        }
+        excess(&NoticeSlope::new(gap, self.z), self.z, top)
     }
 }

@@ -4,4 +4,12 @@
 
 mod approach;
 mod axis;
+mod gap;
 mod landing;
+mod notice;
+mod pad;
+mod parts;
+mod prepare;
+
+pub use pad::Pad;
+pub use parts::{Beside, PadEnd};
