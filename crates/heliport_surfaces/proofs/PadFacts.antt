@@ -1,10 +1,11 @@
 -- What covers a point, as the tests compute it, and excesses by them.
-use Rattle.std.proofs.Common.{◌≡◌, ℕ, ℤ, pos, ◌*◌, ◌*ℤ◌, ◌≤◌, ◌^◌, sym, Bool, Option, true, false, int_le, int_lt, arith, refl}
+use Rattle.std.proofs.Common.{◌≡◌, ℕ, ℤ, pos, ◌*◌, ◌-ℤ◌, ◌*ℤ◌, ◌≤◌, ◌^◌, sym, Bool, Option, true, false, int_le, int_lt, unsigned_abs, arith, refl}
 use Rattle.std.specs.Prelude.{◌&&◌, IfSome}
 use Rattle.std.proofs.lemmas.Int.{ints}
 use Rattle.grid_exact.specs.Excess.{IsExcess, is_at_most_root, most_excess}
-use Rattle.grid_exact.specs.Lines.{along, aside, square}
+use Rattle.grid_exact.specs.Lines.{Line, along, aside, square}
 use Rattle.grid_exact.specs.Root.{AtLeastRoot}
+use Rattle.grid_exact.specs.Vector.{length_of}
 use Rattle.grid_exact.specs.declared.point.Point.{Point}
 use Rattle.grid_exact.proofs.ExcessLemmas.{excess_of-is, flat_excess_of-is, root_excess_of-is, within_most}
 use Rattle.grid_exact.proofs.TestFacts.{at_most_in, at_most_out, le_in, le_out, lt_in, lt_out}
@@ -180,3 +181,23 @@ notice_listed h x top e size k =
       at_in = at_in l.z g;
     })
     (within_most e size) k)
+
+-- ---- shapes whose parts are the same
+abbrev shaped_landing : Line → ℤ → ℤ → Landing
+shaped_landing l w z = record { line = l; width = w; z = z }
+
+abbrev shaped_approach : Line → ℤ → ℤ → ℤ → Approach
+shaped_approach l w z s = record { line = l; width = w; z = z; slope = s }
+
+pub same_landing : (l l' : Line) (w w' z z' : ℤ) → l ≡ l' → w ≡ w' → z ≡ z' → shaped_landing l w z ≡ shaped_landing l' w' z'
+same_landing l l' w w' z z' a b d = rw (a, b, d)
+
+pub same_approach : (l l' : Line) (w w' z z' s s' : ℤ) → l ≡ l' → w ≡ w' → z ≡ z' → s ≡ s' → shaped_approach l w z s ≡ shaped_approach l' w' z' s'
+same_approach l l' w w' z z' s s' a b d e = rw (a, b, d, e)
+
+-- the way back is as long
+pub length_back : (a b : Point) → length_of (a.x -ℤ b.x) (a.y -ℤ b.y) ≡ length_of (b.x -ℤ a.x) (b.y -ℤ a.y)
+length_back a b =
+    let ex : unsigned_abs (a.x -ℤ b.x) ≡ unsigned_abs (b.x -ℤ a.x) = omega (arith, ints) in
+    let ey : unsigned_abs (a.y -ℤ b.y) ≡ unsigned_abs (b.y -ℤ a.y) = omega (arith, ints) in
+    rw (ex, ey) refl
