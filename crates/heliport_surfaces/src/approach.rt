@@ -127,7 +127,10 @@ impl PadApproach {
         ensures value { result ≡ pos 40000 *ℤ (self.now.slope *ℤ at_axis self.now.z self.now.width) }
         ensures size { unsigned_abs result ≤ 2 ^ 41 }
     {
-        scale(40_000, scale(self.slope, height_at_axis(self.z, self.width)))
+        scale(
+            40_000,
+            scale(self.slope, height_at_axis(self.z, self.width)),
+        )
     }
 
     /// How far `top` is above the transitional surface beside it, or `None` where it is not above, or the surface does not cover the
@@ -140,7 +143,12 @@ impl PadApproach {
         if !self.covers_beside(point) {
             return None;
         }
-        Slope::rising_short(self.raised(point), self.steepness(), self.foot(), self.axis.square())
-            .excess(top)
+        Slope::rising_short(
+            self.raised(point),
+            self.steepness(),
+            self.foot(),
+            self.axis.square(),
+        )
+        .excess(top)
     }
 }

@@ -10,7 +10,9 @@ ghost use Rattle.heliport_surfaces.specs.Sizes.{HasPadSizes};
 use crate::axis::PadAxis;
 use crate::gap::LandingGap;
 use crate::notice::NoticeSlope;
-use grid_exact::{Point, Slope, excess, flat_excess, is_at_least_root, is_at_most_root, minus, product, scale};
+use grid_exact::{
+    Point, Slope, excess, flat_excess, is_at_least_root, is_at_most_root, minus, product, scale,
+};
 
 /// The takeoff and landing area of a heliport.
 #[derive(Clone, Copy)]

@@ -13,3 +13,6 @@ mod prepare;
 
 pub use pad::Pad;
 pub use parts::{Beside, PadEnd};
+
+#[cfg(test)]
+mod tests;
