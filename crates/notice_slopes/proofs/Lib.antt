@@ -1,0 +1,2 @@
+pub mod DistanceFacts
+pub mod NearestFacts

@@ -1,0 +1,4 @@
+pub mod Distances
+pub mod Measures
+pub mod Nearest
+pub mod Candidates
