@@ -1,5 +1,5 @@
 -- Distances from a point to the centerline of a runway, by their squares.
-use Rattle.std.specs.Prelude.{ℕ, ℤ, pos, ◌+◌, ◌*◌, ◌-ℤ◌, ◌≤◌, ◌<◌, ◌^◌, ◌≤ℤ◌, unsigned_abs}
+use Rattle.std.specs.Prelude.{ℕ, ℤ, pos, ◌+◌, ◌*◌, ◌-ℤ◌, ◌*ℤ◌, ◌≤◌, ◌<◌, ◌^◌, ◌≤ℤ◌, ◌<ℤ◌, unsigned_abs, Bool, ◌&&◌, int_le, nat_le, nat_lt}
 use Rattle.std.specs.Ordering.{nat_cmp}
 use Rattle.std.specs.declared.cmp.Ordering.{Ordering}
 use Rattle.grid_exact.specs.declared.point.Point.{Point}
@@ -33,7 +33,24 @@ pub record IsAboveRootOf (d : Fraction) (b : ℤ) : Type 0 where
   pub not_negative : pos 0 ≤ℤ b
   pub square : d.part < unsigned_abs b * unsigned_abs b * d.whole
 
+-- the distance at which a slope of ratio to 1, from the elevation base on, comes to the level z
+abbrev pub run_of : ℤ → ℤ → ℤ → ℤ
+run_of ratio base z = ratio *ℤ (z -ℤ base)
+
 -- sizes that a runway gives
 pub record IsMeasure (part whole : ℕ) : Type 0 where
   pub part_size : part ≤ 2 ^ 91
   pub whole_size : whole ≤ 200000 * 200000
+
+pub record IsSlopeFrom (base ratio : ℤ) : Type 0 where
+  pub rises : pos 0 <ℤ ratio
+  pub ratio_size : ratio ≤ℤ pos 100
+  pub base_size : unsigned_abs base ≤ 2 ^ 19
+
+-- ---- the same as tests that compute
+
+abbrev pub is_at_least_root_of : Fraction → ℤ → Bool
+is_at_least_root_of d b = int_le (pos 0) b && nat_le d.part (unsigned_abs b * unsigned_abs b * d.whole)
+
+abbrev pub is_above_root_of : Fraction → ℤ → Bool
+is_above_root_of d b = int_le (pos 0) b && nat_lt d.part (unsigned_abs b * unsigned_abs b * d.whole)

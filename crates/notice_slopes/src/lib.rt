@@ -3,5 +3,11 @@
 #![tactic(auto)]
 
 mod candidate;
+mod limit;
 mod nearest;
+mod notice;
+mod slope;
 mod square_distance;
+
+pub use notice::excess_notice;
+pub use slope::{Slope, Sub};
