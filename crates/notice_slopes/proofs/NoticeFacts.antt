@@ -48,10 +48,10 @@ same_named : (runways : List Runway) (r s : Runway) → Rises name_cmp name_of r
 same_named runways r s rises (i, l, e) (j, m, f) h k =
     elim (cases_lt i j) [
       | inl b ↦ absurd (let n = apart name_cmp nat_list_cmp_total name_of runways i j r rises b m in
-      let q : name_cmp r.name s.name ≡ Less = rw (e, get_or_default runways j r s m ∙ f) at n in cc)
+          let q : name_cmp r.name s.name ≡ Less = rw (e, get_or_default runways j r s m ∙ f) at n in cc)
       | inr a ↦ elim (cases_lt j i) [
         | inl b ↦ absurd (let n = apart name_cmp nat_list_cmp_total name_of runways j i s rises b l in
-        let q : name_cmp s.name r.name ≡ Less = rw (f, get_or_default runways i s r l ∙ e) at n in cc)
+            let q : name_cmp s.name r.name ≡ Less = rw (f, get_or_default runways i s r l ∙ e) at n in cc)
         | inr b ↦ (let q : i ≡ j = omega arith in sym e ∙ (get_or_default runways i r s l ∙ (ap (λ n. get_or runways n s) q ∙ f)))
       ]
     ]

@@ -6,3 +6,5 @@ pub mod Laws
 pub mod Slopes
 pub mod Surfaces
 pub mod Notices
+pub mod Exemptions
+pub mod OnAirfields

@@ -28,13 +28,13 @@ loop-runway-preserved c =
     elim c.if-is_nearer.branch [
       | then-is_nearer w ↦ record {
         nearest = ap (λ b. b.runway.now) w.best-is
-        ∙ (c.of-next.ensures.runway
-        ∙ takes x c.of-best.result.runway.now c.loop-runway.best.runway.now c.runway-item.result c.in_ok-first.others.now i c.loop-runway.invariant.nearest c.loop-runway-test.true c.runway-item.is (tested c true w.if-is_nearer.true));
+            ∙ (c.of-next.ensures.runway
+            ∙ takes x c.of-best.result.runway.now c.loop-runway.best.runway.now c.runway-item.result c.in_ok-first.others.now i c.loop-runway.invariant.nearest c.loop-runway-test.true c.runway-item.is (tested c true w.if-is_nearer.true));
         candidate = subst (λ (b : Candidate). IsCandidate x b) (sym w.best-is) c.of-next.ensures.candidate;
       }
       | else-is_nearer w ↦ record {
         nearest = ap (λ b. b.runway.now) w.best-is
-        ∙ keeps x c.of-best.result.runway.now c.loop-runway.best.runway.now c.runway-item.result c.in_ok-first.others.now i c.loop-runway.invariant.nearest c.loop-runway-test.true c.runway-item.is (tested c false w.if-is_nearer.false);
+            ∙ keeps x c.of-best.result.runway.now c.loop-runway.best.runway.now c.runway-item.result c.in_ok-first.others.now i c.loop-runway.invariant.nearest c.loop-runway-test.true c.runway-item.is (tested c false w.if-is_nearer.false);
         candidate = subst (λ (b : Candidate). IsCandidate x b) (sym w.best-is) c.loop-runway.invariant.candidate;
       }
     ]
