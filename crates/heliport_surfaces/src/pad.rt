@@ -52,6 +52,13 @@ impl Pad {
         }
     }
 
+    /// The heliport.
+    pub fn heliport(&self) -> &Heliport
+        ensures { result.now ≡ self.now }
+    {
+        &self.heliport
+    }
+
     /// The approach surface of this end.
     fn approach(&self, end: PadEnd) -> &PadApproach
         ensures shape { approach_shape result.now ≡ approach_of self.now end }
