@@ -23,7 +23,7 @@ use Rattle.heliport_surfaces.specs.declared.parts.PadEnd.TheVariants as pad_ends
 use Rattle.heliport_surfaces.specs.declared.parts.Beside.TheVariants as sides
 use Rattle.notice_slopes.specs.Exemptions.{exemption_of}
 use Rattle.notice_slopes.specs.OnAirfields.{is_on_described}
-use Rattle.notice_slopes.specs.NoticeSlopes.{notice_slope}
+use Rattle.notice_slopes.specs.Notices.{notice_slope}
 use Rattle.notice_slopes.specs.declared.slope.Slope.{Slope}
 use Rattle.notice_slopes.specs.declared.slope.Sub.{Sub}
 use Rattle.notice_slopes.specs.declared.slope.Sub.TheVariants.{B1, B2}

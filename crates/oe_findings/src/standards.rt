@@ -84,7 +84,8 @@ fn put_civil<C: Collector>(
     let hull = prepared.hull();
     put_on_field(out, Rule::Horizontal, field, 0, hull.excess_horizontal(at, top))?;
     put_on_field(out, Rule::Conical, field, 0, hull.excess_conical(at, top))?;
-    put_runways(out, field, at, top, &hull.cap(at), prepared.strips())
+    put_runways(out, field, at, top, &hull.cap(at), prepared.strips())?;
+    Ok(())
 }
 
 /// Puts the entries of the surfaces of a heliport behind the others.
