@@ -1,14 +1,10 @@
 -- The slopes of 77.9(b)(1) and (2).
-use Rattle.std.specs.Prelude.{ℤ, pos, ◌*◌, List, Bool, nat_lt, if◌then◌else◌}
+use Rattle.std.specs.Prelude.{ℤ, pos, List, if◌then◌else◌}
 use Rattle.std.specs.List.{list_any}
-use Rattle.airport_register.specs.Runways.{length_square}
+use Rattle.airport_register.specs.Runways.{is_long}
 use Rattle.airport_register.specs.declared.runway.Runway.{Runway}
 use Rattle.notice_slopes.specs.declared.slope.Sub.{Sub}
 use Rattle.notice_slopes.specs.declared.slope.Sub.TheVariants.{B1, B2}
-
--- a runway of more than 3,200 feet
-abbrev pub is_long : Runway → Bool
-is_long r = nat_lt (32000 * 32000) (length_square r)
 
 -- (1) is for an airport whose longest runway is more than 3,200 feet long, (2) for one whose longest runway is not
 abbrev pub sub_of : List Runway → Sub

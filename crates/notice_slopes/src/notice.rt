@@ -1,14 +1,13 @@
 //! Notice by the slope from the nearest runway of an airport.
 
 ghost use Rattle.std.specs.Prelude.{◌≡◌, ◌≤◌, ◌^◌, IfSome, true};
-ghost use Rattle.std.specs.List.{list_any};
 ghost use Rattle.grid_exact.specs.Excess.{IsExcess};
 ghost use Rattle.grid_exact.specs.Level.{IsLevel};
 ghost use Rattle.airport_register.specs.Airfields.{IsHeldAirport};
 ghost use Rattle.airport_register.specs.Categories.{is_described};
 ghost use Rattle.notice_slopes.specs.Candidates.{IsCandidate};
 ghost use Rattle.notice_slopes.specs.Nearest.{elevation_of};
-ghost use Rattle.notice_slopes.specs.Slopes.{is_long, ratio_of, sub_of as sub_of_runways};
+ghost use Rattle.notice_slopes.specs.Slopes.{ratio_of, sub_of as sub_of_runways};
 ghost use Rattle.notice_slopes.specs.Surfaces.{slope_surface};
 ghost use Rattle.notice_slopes.specs.Notices.{IsNoticeSlope, notice_slope};
 
@@ -16,26 +15,14 @@ use crate::candidate::Candidate;
 use crate::limit::SlopeLimit;
 use crate::nearest::nearest;
 use crate::slope::{Slope, Sub};
-use airport_register::{Airport, Runway};
+use airport_register::{Airport, Runways};
 use grid_exact::{Point, excess};
 
-/// The square of 3,200 feet.
-const LONG_SQUARE: u64 = 32_000 * 32_000;
-
-/// Whether one of the runways is longer than 3,200 feet.
-fn has_long_runway(runways: &[Runway]) -> bool
-    ensures { result ≡ list_any is_long runways.now }
-{
-    runways
-        .iter()
-        .any(|runway| runway.square_length() > LONG_SQUARE)
-}
-
 /// Which slope goes out from the runways of an airport.
-fn sub_of(runways: &[Runway]) -> Sub
+fn sub_of(runways: &Runways) -> Sub
     ensures { result ≡ sub_of_runways runways.now }
 {
-    if has_long_runway(runways) {
+    if runways.has_long() {
         Sub::B1
     } else {
         Sub::B2
@@ -91,9 +78,8 @@ pub fn excess_notice(a: &Airport, x: &Point, top: i64) -> Option<Slope>
     if !a.category.described() {
         return None;
     }
-    let runways = a.runways.as_slice();
-    let nearest = nearest(runways, x)?;
-    let sub = sub_of(runways);
+    let nearest = nearest(a.runways.as_slice(), x)?;
+    let sub = sub_of(&a.runways);
     let excess = excess_over(a, &nearest, sub, x, top)?;
     Some(Slope {
         sub,

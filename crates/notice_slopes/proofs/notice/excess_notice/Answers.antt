@@ -22,13 +22,13 @@ returns-then-not-described-clause-value c = sym (undescribed c.args.a.now c.args
 pub returns-in_err-nearest-clause-value : goal.returns-in_err-nearest-clause-value
 returns-in_err-nearest-clause-value c =
     let x = c.args.x.now in
-    let e = found c.nearest.result None c.as_slice-runways.result.now c.args.a.now.runways c.in_err-nearest.was c.as_slice-runways.ensures.value (λ runways. nearest runways x) c.nearest.ensures.nearest in
+    let e = found c.nearest.result None c.as_slice.result.now c.args.a.now.runways c.in_err-nearest.was c.as_slice.ensures.value (λ runways. nearest runways x) c.nearest.ensures.nearest in
     c.from_residual.ensures ∙ sym (without_runways c.args.a.now x c.args.top e)
 
 pub returns-in_err-nearest-clause-exact : goal.returns-in_err-nearest-clause-exact
 returns-in_err-nearest-clause-exact c =
     let x = c.args.x.now in
-    let e = found c.nearest.result None c.as_slice-runways.result.now c.args.a.now.runways c.in_err-nearest.was c.as_slice-runways.ensures.value (λ runways. nearest runways x) c.nearest.ensures.nearest in
+    let e = found c.nearest.result None c.as_slice.result.now c.args.a.now.runways c.in_err-nearest.was c.as_slice.ensures.value (λ runways. nearest runways x) c.nearest.ensures.nearest in
     subst (λ (o : Option Slope). IsNoticeSlope c.args.a.now x c.args.top o) (sym c.from_residual.ensures) (no_runway c.args.a.now x c.args.top e)
 
 pub returns-in_err-excess-clause-exact : goal.returns-in_err-excess-clause-exact
@@ -36,7 +36,7 @@ returns-in_err-excess-clause-exact c =
     let a = c.args.a.now in
     let x = c.args.x.now in
     let n = c.in_ok-nearest.nearest in
-    let e = found c.nearest.result (Some n) c.as_slice-runways.result.now a.runways c.in_ok-nearest.was c.as_slice-runways.ensures.value (λ runways. nearest runways x) c.nearest.ensures.nearest in
+    let e = found c.nearest.result (Some n) c.as_slice.result.now a.runways c.in_ok-nearest.was c.as_slice.ensures.value (λ runways. nearest runways x) c.nearest.ensures.nearest in
     let ft : FitsSigned w64 c.args.top = c.ranges.top in
     let h : IsExcess (slope_surface a n.runway.now x) c.args.top c.excess_over.result = simp to_z-of_z at c.excess_over.ensures.exact in
     let k = subst (λ (o : Option ℕ). IsExcess (slope_surface a n.runway.now x) c.args.top o) c.in_err-excess.was h in
@@ -49,7 +49,7 @@ returns-in_err-excess-clause-value c =
     let x = c.args.x.now in
     let n = c.in_ok-nearest.nearest in
     let r = n.runway.now in
-    let e = found c.nearest.result (Some n) c.as_slice-runways.result.now a.runways c.in_ok-nearest.was c.as_slice-runways.ensures.value (λ runways. nearest runways x) c.nearest.ensures.nearest in
+    let e = found c.nearest.result (Some n) c.as_slice.result.now a.runways c.in_ok-nearest.was c.as_slice.ensures.value (λ runways. nearest runways x) c.nearest.ensures.nearest in
     let ft : FitsSigned w64 c.args.top = c.ranges.top in
     let h : IsExcess (slope_surface a r x) c.args.top c.excess_over.result = simp to_z-of_z at c.excess_over.ensures.exact in
     let k = slope_listed a r x c.args.top c.excess_over.result c.excess_over.ensures.size h in
@@ -69,11 +69,11 @@ returns-clause-exact c =
     let x = c.args.x.now in
     let n = c.in_ok-nearest.nearest in
     let r = n.runway.now in
-    let e = found c.nearest.result (Some n) c.as_slice-runways.result.now a.runways c.in_ok-nearest.was c.as_slice-runways.ensures.value (λ runways. nearest runways x) c.nearest.ensures.nearest in
+    let e = found c.nearest.result (Some n) c.as_slice.result.now a.runways c.in_ok-nearest.was c.as_slice.ensures.value (λ runways. nearest runways x) c.nearest.ensures.nearest in
     let ft : FitsSigned w64 c.args.top = c.ranges.top in
     let h : ExceedsBy (slope_surface a r x) c.args.top c.in_ok-excess.excess = simp to_z-of_z at c.in_ok-excess.ensures.exact in
     subst (λ (s : Slope). ExceedsSlope a x c.args.top s)
-    (same_slope c.sub_of-sub.result (sub_of a.runways) r.name c.in_ok-excess.excess (c.sub_of-sub.ensures ∙ ap sub_of c.as_slice-runways.ensures.value))
+    (same_slope c.sub_of-sub.result (sub_of a.runways) r.name c.in_ok-excess.excess c.sub_of-sub.ensures)
     (exceeded a x c.args.top r c.in_ok-excess.excess c.requires.held.rises c.requires.held.proper e h)
 
 pub returns-clause-value : goal.returns-clause-value
@@ -82,9 +82,9 @@ returns-clause-value c =
     let x = c.args.x.now in
     let n = c.in_ok-nearest.nearest in
     let r = n.runway.now in
-    let e = found c.nearest.result (Some n) c.as_slice-runways.result.now a.runways c.in_ok-nearest.was c.as_slice-runways.ensures.value (λ runways. nearest runways x) c.nearest.ensures.nearest in
+    let e = found c.nearest.result (Some n) c.as_slice.result.now a.runways c.in_ok-nearest.was c.as_slice.ensures.value (λ runways. nearest runways x) c.nearest.ensures.nearest in
     let ft : FitsSigned w64 c.args.top = c.ranges.top in
     let h : IsExcess (slope_surface a r x) c.args.top c.excess_over.result = simp to_z-of_z at c.excess_over.ensures.exact in
     let k = slope_listed a r x c.args.top c.excess_over.result c.excess_over.ensures.size h in
-    let s = same_slope c.sub_of-sub.result (sub_of a.runways) r.name c.in_ok-excess.excess (c.sub_of-sub.ensures ∙ ap sub_of c.as_slice-runways.ensures.value) in
+    let s = same_slope c.sub_of-sub.result (sub_of a.runways) r.name c.in_ok-excess.excess c.sub_of-sub.ensures in
     ap Some (sym s) ∙ sym (from_nearest a x c.args.top r e ∙ ap (option_map (slope_by a r)) (sym k ∙ c.in_ok-excess.was))
