@@ -59,7 +59,7 @@ primary_side_out l x h =
     let near = is_at_most_root (pos q) (pos 2500) n in
     both_true (is_between_ends l x) (out && near)
     (both_true (int_le (pos 0) m) (int_le m (pos n)) (le_out (pos 0) m h.past_start) (le_out m (pos n) h.before_end))
-    (both_true out near (at_least_out (pos (2 * q)) l.width n h.beside) (at_most_out (pos q) (pos 2500) n h.not_past))
+    (both_true out near (at_least_out (pos (2 * q)) l.width n h.beside) (at_most_out (pos q) (pos 2500) n h.not_far))
 
 primary_side_in : (l : Landing) (x : Point) → primary_side_covers l x ≡ true → PrimarySideCovers l x
 unfolding primary_side_covers
@@ -77,7 +77,7 @@ primary_side_in l x h =
       past_start = le_in (pos 0) m (left_true start end between);
       before_end = le_in m (pos n) (right_true start end between);
       beside = at_least_in (pos (2 * q)) l.width n (left_true out near sides);
-      not_past = at_most_in (pos q) (pos 2500) n (right_true out near sides);
+      not_far = at_most_in (pos q) (pos 2500) n (right_true out near sides);
     }
 
 -- ---- an approach surface
