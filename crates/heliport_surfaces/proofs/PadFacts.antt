@@ -1,5 +1,5 @@
 -- What covers a point, as the tests compute it, and excesses by them.
-use Rattle.std.proofs.Common.{◌≡◌, ℕ, ℤ, pos, ◌*◌, ◌-ℤ◌, ◌*ℤ◌, ◌≤◌, ◌^◌, sym, Bool, Option, true, false, int_le, int_lt, unsigned_abs, arith, refl}
+use Rattle.std.proofs.Common.{◌≡◌, ℕ, ℤ, pos, ◌*◌, ◌-ℤ◌, ◌*ℤ◌, ◌≤◌, ◌^◌, sym, Option, true, int_le, int_lt, unsigned_abs, arith, refl}
 use Rattle.std.specs.Prelude.{◌&&◌, IfSome}
 use Rattle.std.proofs.lemmas.Int.{ints}
 use Rattle.grid_exact.specs.Excess.{IsExcess, is_at_most_root, most_excess}
@@ -14,7 +14,7 @@ use Rattle.heliport_surfaces.specs.declared.parts.Beside.{Beside}
 use Rattle.heliport_surfaces.specs.declared.parts.Beside.TheVariants.{Primary, ApproachOne, ApproachTwo}
 use Rattle.heliport_surfaces.specs.declared.parts.PadEnd.{PadEnd}
 use Rattle.heliport_surfaces.specs.declared.parts.PadEnd.TheVariants.{One, Two}
-use Rattle.heliport_surfaces.specs.Approaches.{Approach, ApproachCovers, ApproachSideCovers, approach, approach_covers, approach_side, approach_side_covers, excess_over_approach_side, is_as_far, outside, raised}
+use Rattle.heliport_surfaces.specs.Approaches.{Approach, ApproachCovers, ApproachSideCovers, approach_covers, approach_side, approach_side_covers, excess_over_approach_side, is_as_far, outside, raised}
 use Rattle.heliport_surfaces.specs.Landings.{Landing, PrimaryCovers, PrimarySideCovers, at_axis, excess_over_primary_side, is_at_least_root, is_between_ends, primary_covers, primary_side, primary_side_covers}
 use Rattle.heliport_surfaces.specs.Notices.{gap, is_above_notice, is_at_notice, is_within, notice}
 use Rattle.heliport_surfaces.specs.Pads.{approach_of, landing_of, pad_approach, pad_approach_excess, pad_notice, pad_notice_excess, pad_primary, pad_primary_excess, pad_transition, pad_transition_excess}
