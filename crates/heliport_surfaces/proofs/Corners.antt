@@ -1,11 +1,10 @@
 -- A point at most d from a rectangle, by whole numbers: near its corner it is as near in both directions.
-use Rattle.std.proofs.Common.{◌≡◌, inl, inr, ℕ, ◌+◌, ◌-◌, ◌*◌, ◌<◌, ◌≤◌, ℤ, pos, ◌-ℤ◌, ◌≤ℤ◌, ◌<ℤ◌, unsigned_abs, Bool, true, false, arith, refl}
+use Rattle.std.proofs.Common.{◌≡◌, inl, inr, ℕ, ◌+◌, ◌-◌, ◌*◌, ◌<◌, ◌≤◌, ℤ, pos, ◌<ℤ◌, unsigned_abs, true, false, arith, refl}
 use Rattle.std.specs.Bool.{MatchBool}
-use Rattle.std.proofs.Math.Nat.{mul-le-mul, mul-le-mul_left, mul-le-mul_right}
+use Rattle.std.proofs.Math.Nat.{mul-le-mul, mul-le-mul_right}
 use Rattle.std.proofs.lemmas.Bool.{cases_lt}
 use Rattle.std.proofs.lemmas.Int.{ints, by_lt_z}
 use Rattle.grid_exact.specs.Root.{AtMostRoot, BelowRoot}
-use Rattle.grid_exact.specs.Excess.{is_at_most_root}
 use Rattle.grid_exact.proofs.IntLaws.{signed_square_lt}
 use Rattle.grid_exact.proofs.RootSums.{le_from_squares, out_pp}
 use Rattle.grid_exact.proofs.TestFacts.{at_most_in}

@@ -1,5 +1,5 @@
 -- What covers a point, as the tests compute it, and excesses by them.
-use Rattle.std.proofs.Common.{◌≡◌, ℕ, ℤ, pos, ◌*◌, ◌-ℤ◌, ◌*ℤ◌, ◌≤◌, ◌^◌, sym, Bool, Option, true, false, int_le, int_lt, unsigned_abs, arith, refl}
+use Rattle.std.proofs.Common.{◌≡◌, ℕ, ℤ, pos, ◌*◌, ◌-ℤ◌, ◌*ℤ◌, ◌≤◌, ◌^◌, sym, Option, true, int_le, int_lt, unsigned_abs, arith, refl}
 use Rattle.std.specs.Prelude.{◌&&◌, IfSome}
 use Rattle.std.proofs.lemmas.Int.{ints}
 use Rattle.grid_exact.specs.Excess.{IsExcess, is_at_most_root, most_excess}
@@ -14,7 +14,7 @@ use Rattle.heliport_surfaces.specs.declared.parts.Beside.{Beside}
 use Rattle.heliport_surfaces.specs.declared.parts.Beside.TheVariants.{Primary, ApproachOne, ApproachTwo}
 use Rattle.heliport_surfaces.specs.declared.parts.PadEnd.{PadEnd}
 use Rattle.heliport_surfaces.specs.declared.parts.PadEnd.TheVariants.{One, Two}
-use Rattle.heliport_surfaces.specs.Approaches.{Approach, ApproachCovers, ApproachSideCovers, approach, approach_covers, approach_side, approach_side_covers, excess_over_approach_side, is_as_far, outside, raised}
+use Rattle.heliport_surfaces.specs.Approaches.{Approach, ApproachCovers, ApproachSideCovers, approach_covers, approach_side, approach_side_covers, excess_over_approach_side, is_as_far, outside, raised}
 use Rattle.heliport_surfaces.specs.Landings.{Landing, PrimaryCovers, PrimarySideCovers, at_axis, excess_over_primary_side, is_at_least_root, is_between_ends, primary_covers, primary_side, primary_side_covers}
 use Rattle.heliport_surfaces.specs.Notices.{gap, is_above_notice, is_at_notice, is_within, notice}
 use Rattle.heliport_surfaces.specs.Pads.{approach_of, landing_of, pad_approach, pad_approach_excess, pad_notice, pad_notice_excess, pad_primary, pad_primary_excess, pad_transition, pad_transition_excess}
@@ -59,7 +59,7 @@ primary_side_out l x h =
     let near = is_at_most_root (pos q) (pos 2500) n in
     both_true (is_between_ends l x) (out && near)
     (both_true (int_le (pos 0) m) (int_le m (pos n)) (le_out (pos 0) m h.past_start) (le_out m (pos n) h.before_end))
-    (both_true out near (at_least_out (pos (2 * q)) l.width n h.beside) (at_most_out (pos q) (pos 2500) n h.not_past))
+    (both_true out near (at_least_out (pos (2 * q)) l.width n h.beside) (at_most_out (pos q) (pos 2500) n h.not_far))
 
 primary_side_in : (l : Landing) (x : Point) → primary_side_covers l x ≡ true → PrimarySideCovers l x
 unfolding primary_side_covers
@@ -77,7 +77,7 @@ primary_side_in l x h =
       past_start = le_in (pos 0) m (left_true start end between);
       before_end = le_in m (pos n) (right_true start end between);
       beside = at_least_in (pos (2 * q)) l.width n (left_true out near sides);
-      not_past = at_most_in (pos q) (pos 2500) n (right_true out near sides);
+      not_far = at_most_in (pos q) (pos 2500) n (right_true out near sides);
     }
 
 -- ---- an approach surface

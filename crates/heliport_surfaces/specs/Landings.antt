@@ -27,7 +27,7 @@ pub record PrimarySideCovers (l : Landing) (x : Point) : Type 0 where
   pub past_start : pos 0 ≤ℤ along l.line x
   pub before_end : along l.line x ≤ℤ pos (square l.line)
   pub beside : AtLeastRoot (pos (2 * aside l.line x)) l.width (square l.line)
-  pub not_past : AtMostRoot (pos (aside l.line x)) (pos 2500) (square l.line)
+  pub not_far : AtMostRoot (pos (aside l.line x)) (pos 2500) (square l.line)
 
 -- four times the height that a slope of 2 to 1 has at an axis, where it is at the elevation z half the width from it
 abbrev pub at_axis : (z width : ℤ) → ℤ

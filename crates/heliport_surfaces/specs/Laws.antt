@@ -1,5 +1,5 @@
 -- The slope of notice is reached at every level above one that reaches it.
-use Rattle.std.specs.Prelude.{ℕ, ℤ, pos, ◌+◌, ◌*◌, ◌-ℤ◌, ◌≤◌, ◌≤ℤ◌, unsigned_abs, true, false}
+use Rattle.std.specs.Prelude.{ℕ, ℤ, pos, ◌*◌, ◌-ℤ◌, ◌≤◌, ◌≤ℤ◌, unsigned_abs, true, false}
 use Rattle.std.specs.Bool.{MatchBool}
 use Rattle.std.proofs.Common.{arith}
 use Rattle.std.proofs.Math.Nat.{mul-le-mul, mul-le-mul_right}

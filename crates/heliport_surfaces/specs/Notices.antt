@@ -27,17 +27,18 @@ gap l x = record {
   square = square l.line;
 }
 
--- at most half the width from the axis or what extends it, so that an end of the area is nearest, or its side; else a corner is, or
--- a side
+-- the point lies between the two sides of the area or what extends them, 2*q <= w*sqrt(n) with q aside and the width w: then it is
+-- p/sqrt(n) away, with p beyond
 abbrev pub is_in_line : Gap → Bool
 is_in_line g = is_at_most_root (pos (2 * g.aside)) (pos g.width) g.square
 
--- with p beyond, q aside and the width w, the square of the distance from a point that is not in line is
--- p*p/n + (q/sqrt(n) - w/2)^2, and at most d*d where 4*p*p + 4*q*q + w*w*n - 4*d*d*n <= 4*q*w*sqrt(n); this is the left side
+-- else a side of the area is nearest or, past its ends, a corner, and the square of the distance is p*p/n + (q/sqrt(n) - w/2)^2.
+-- It is at most d*d where 4*p*p + (2*q - w*sqrt(n))^2 <= 4*d*d*n, which is 4*p*p + 4*q*q + w*w*n - 4*d*d*n <= 4*q*w*sqrt(n); this
+-- is the left side
 abbrev pub corner : Gap → ℕ → ℤ
 corner g d = pos (4 * (g.beyond * g.beyond) + 4 * (g.aside * g.aside) + g.width * g.width * g.square) -ℤ pos (4 * (d * d) * g.square)
 
--- the point is at most d from the area, and it is nearer than d
+-- the point is at most d away, and it is nearer than d
 abbrev pub IsWithin : Gap → ℕ → Type 0
 IsWithin g d = MatchBool (is_in_line g) (AtMostRoot (pos g.beyond) (pos d) g.square) (AtMostRoot (corner g d) (pos (4 * g.aside * g.width)) g.square)
 
@@ -54,7 +55,7 @@ pub record IsAboveNotice (z : ℤ) (g : Gap) (top : ℤ) : Type 0 where
   pub not_below : z ≤ℤ top
   pub nearer : IsNearer g (25 * unsigned_abs (top -ℤ z))
 
--- it reaches 5,000 feet
+-- it reaches 5,000 feet, so that it is nowhere more than 200 feet over z
 abbrev pub notice : Landing → Point → Surface
 notice l x = record {
   Covers = IsWithin (gap l x) 50000;
@@ -62,7 +63,8 @@ notice l x = record {
   AtOrAbove = IsAtNotice l.z (gap l x);
 }
 
--- what follows of a point at most d from an area, without a root: it is as near in the direction of the axis, and to a side of it
+-- what follows for a point at most d away, without a root: p <= d*sqrt(n) and 2*q <= (2*d + w)*sqrt(n), so that it is no farther in
+-- the direction of the axis alone, nor to a side of the area alone
 pub record IsClose (g : Gap) (d : ℕ) : Type 0 where
   pub ends : g.beyond * g.beyond ≤ d * d * g.square
   pub sides : 4 * (g.aside * g.aside) ≤ (2 * d + g.width) * (2 * d + g.width) * g.square

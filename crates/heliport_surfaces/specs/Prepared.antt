@@ -1,6 +1,5 @@
 -- What is prepared of a heliport.
 use Rattle.std.specs.Prelude.{◌≡◌}
-use Rattle.airport_register.specs.Airfields.{IsHeldHeliport}
 use Rattle.airport_register.specs.declared.airfield.Heliport.{Heliport}
 use Rattle.heliport_surfaces.specs.Shapes.{landing_shape, approach_shape}
 use Rattle.heliport_surfaces.specs.Pads.{landing_of, approach_of}

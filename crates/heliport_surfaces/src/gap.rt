@@ -50,7 +50,7 @@ impl LandingGap {
     }
 
     /// Whether the point is at most 5,000 feet away in each of the two directions.
-    pub(crate) fn is_close(&self) -> bool
+    fn is_close(&self) -> bool
         ensures { IsTrue result ↔ IsClose (gap_shape self.now) 50000 }
     {
         self.is_near_ends() && self.is_near_sides()

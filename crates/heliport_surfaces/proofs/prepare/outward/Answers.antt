@@ -1,4 +1,3 @@
-use Rattle.std.proofs.Common.{arith}
 use Rattle.heliport_surfaces.proofs.PadFacts.{length_back}
 use Rattle.heliport_surfaces.proofs.prepare.outward.Goals as goal
 
