@@ -7,8 +7,9 @@ ghost use Rattle.grid_exact.specs.Level.{IsLevel};
 ghost use Rattle.grid_exact.specs.Root.{AtLeastRoot, AtMostRoot};
 
 use crate::approach::{ApproachSurface, Rise};
+use crate::limit::is_up_to;
 use grid_exact::{
-    Cap, Point, Rising, Slope, is_at_least_root, is_at_most_root, minus, plus, product, scale,
+    Cap, Point, Slope, is_at_least_root, is_at_most_root, minus, plus, product, scale,
 };
 
 impl Rise {
@@ -122,7 +123,7 @@ impl ApproachSurface {
             return None;
         }
         let slope = self.slope_beside(point);
-        if !slope.is_reached(limit) {
+        if !is_up_to(&slope, limit) {
             return None;
         }
         slope.excess(top)

@@ -6,8 +6,9 @@ ghost use Rattle.grid_exact.specs.Excess.{IsExcess};
 ghost use Rattle.grid_exact.specs.Level.{IsLevel};
 ghost use Rattle.grid_exact.specs.Root.{AtLeastRoot};
 
+use crate::limit::is_up_to;
 use crate::primary::PrimarySurface;
-use grid_exact::{Cap, Point, Rising, Slope, is_at_least_root, minus, product, scale};
+use grid_exact::{Cap, Point, Slope, is_at_least_root, minus, product, scale};
 
 impl PrimarySurface {
     ghost use Rattle.grid_exact.specs.Axes.{axis_aside, axis_square};
@@ -79,7 +80,7 @@ impl PrimarySurface {
             return None;
         }
         let slope = self.slope_beside(point);
-        if !slope.is_reached(limit) {
+        if !is_up_to(&slope, limit) {
             return None;
         }
         slope.excess(top)

@@ -5,6 +5,7 @@
 mod approach;
 mod beside_approach;
 mod beside_primary;
+mod limit;
 mod prepare;
 mod primary;
 mod strip;

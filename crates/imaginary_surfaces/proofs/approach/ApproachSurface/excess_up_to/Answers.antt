@@ -9,13 +9,13 @@ use Rattle.imaginary_surfaces.specs.Shapes.{approach_shape}
 use Rattle.imaginary_surfaces.specs.Transitions.{beside_approach}
 use Rattle.imaginary_surfaces.proofs.approach.ApproachSurface.excess_up_to.Goals as goal
 
-pub returns-then-not-is_reached-clause-exact : goal.returns-then-not-is_reached-clause-exact
-returns-then-not-is_reached-clause-exact c = λ p.
+pub returns-then-not-is_up_to-clause-exact : goal.returns-then-not-is_up_to-clause-exact
+returns-then-not-is_up_to-clause-exact c = λ p.
     let fl : FitsSigned w64 c.args.limit = c.ranges.limit in
     let s = c.slope_beside-slope.result in
     let is = c.slope_beside-slope.ensures in
     let r : Reaches s.a s.k s.c s.n c.args.limit = rw (is.a, is.k, is.c, is.n) p.0.limited in
-    not_from_false c.is_reached.result c.is_reached.ensures.1 c.if-not-is_reached.true (simp to_z-of_z r)
+    not_from_false c.is_up_to.result c.is_up_to.ensures.1 c.if-not-is_up_to.true (simp to_z-of_z r)
 
 pub returns-clause-exact : goal.returns-clause-exact
 returns-clause-exact c =
@@ -24,7 +24,7 @@ returns-clause-exact c =
     let s = c.slope_beside-slope.result in
     let is = c.slope_beside-slope.ensures in
     let h : IsExcess (root_surface ⊤ s.a s.k s.c s.n) c.args.top c.excess.result = simp to_z-of_z at c.excess.ensures.excess in
-    let r : Reaches s.a s.k s.c s.n c.args.limit = simp to_z-of_z at (c.is_reached.ensures.0 c.if-not-is_reached.false) in
+    let r : Reaches s.a s.k s.c s.n c.args.limit = simp to_z-of_z at (c.is_up_to.ensures.0 c.if-not-is_up_to.false) in
     IsExcess-covered (beside_approach (approach_shape c.args.self.now) c.args.point.now (Level c.args.limit)) c.args.top c.excess.result
     (record { reaches = c.reaches_beside.ensures.0 c.if-not-reaches_beside.false; limited = rw (is.a, is.k, is.c, is.n) at r })
     (rw (is.a, is.k, is.c, is.n) at h)
