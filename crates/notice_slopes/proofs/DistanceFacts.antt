@@ -1,6 +1,5 @@
 -- Sizes of the centerlines of runways.
-use Rattle.std.proofs.Common.{◌≡◌, ℕ, ◌*◌, ◌<◌, ◌≤◌, ◌-ℤ◌, arith}
-use Rattle.std.proofs.lemmas.Int.{ints}
+use Rattle.std.proofs.Common.{◌≡◌, ◌*◌, ◌<◌, ◌≤◌, arith}
 use Rattle.grid_exact.specs.Lines.{square}
 use Rattle.airport_register.specs.Runways.{IsWithinLength, length_square}
 use Rattle.airport_register.specs.declared.runway.Runway.{Runway}

@@ -1,5 +1,5 @@
 -- Sizes of slopes.
-use Rattle.std.proofs.Common.{ℕ, ℤ, ◌≤◌, ◌*◌, ◌^◌, ◌-ℤ◌, ◌*ℤ◌, ◌≤ℤ◌, unsigned_abs, arith}
+use Rattle.std.proofs.Common.{ℤ, ◌≤◌, ◌^◌, ◌-ℤ◌, unsigned_abs, arith}
 use Rattle.std.proofs.lemmas.Int.{ints}
 use Rattle.grid_exact.specs.Level.{IsLevel}
 use Rattle.grid_exact.proofs.Sizes.{abs_mul_le}

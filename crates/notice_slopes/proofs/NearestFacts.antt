@@ -1,5 +1,5 @@
 -- The nearest runway.
-use Rattle.std.proofs.Common.{[], ◌≢◌, Some, None}
+use Rattle.std.proofs.Common.{[], ◌≢◌, Some}
 use Rattle.std.specs.List.{Contains}
 use Rattle.std.specs.Ordering.{is_gt}
 use Rattle.std.specs.declared.cmp.Ordering.TheVariants.{Less, Equal, Greater}
@@ -10,13 +10,12 @@ use Rattle.airport_register.specs.Names.{name_cmp}
 use Rattle.airport_register.specs.Runways.{name_of}
 use Rattle.notice_slopes.specs.Nearest.{IsNearest, nearest, taking_cmp}
 use Rattle.notice_slopes.proofs.Order.{taking_self, taking_trans, nearer_first, named_first}
-use Rattle.std.proofs.Common.{◌≡◌, ℤ, ◌<ℤ◌, ◌<◌, ◌+◌, ℕ, List, ◌∷◌, int_lt, arith, refl, sym, ◌∙◌, ap, Bool, true, false, inl, inr, length, take, get_or, cond, subst}
+use Rattle.std.proofs.Common.{◌≡◌, ℤ, ◌<◌, ◌+◌, ℕ, List, ◌∷◌, int_lt, refl, sym, ◌∙◌, Bool, true, false, inl, inr, length, take, get_or, cond, subst}
 use Rattle.std.specs.List.{All, IsFirstAndRest, fold}
 use Rattle.std.specs.Ordering.{int_cmp, is_lt}
 use Rattle.std.proofs.lemmas.Bool.{cases_Bool}
 use Rattle.std.proofs.lemmas.List.Elements.{All-head, All-tail}
 use Rattle.std.proofs.lemmas.List.Sums.{fold_more}
-use Rattle.std.proofs.lemmas.Int.{ints}
 use Rattle.airport_register.specs.Runways.{IsProper}
 use Rattle.airport_register.specs.declared.runway.Runway.{Runway}
 use Rattle.grid_exact.specs.declared.point.Point.{Point}

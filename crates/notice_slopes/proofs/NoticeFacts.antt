@@ -1,20 +1,18 @@
 -- The slope from the nearest runway, as the tests compute it.
-use Rattle.std.proofs.Common.{[], ◌∷◌, ◌≡◌, ◌≢◌, ◌<◌, ◌≤◌, ◌*◌, ◌^◌, ℕ, ℤ, pos, ◌≤ℤ◌, unsigned_abs, List, Option, Some, None, Bool, true, false, inl, inr, arith, refl, sym, ◌∙◌, ap, subst, length, get_or, int_le}
+use Rattle.std.proofs.Common.{[], ◌∷◌, ◌≡◌, ◌≢◌, ◌<◌, ◌≤◌, ◌*◌, ◌^◌, ℕ, ℤ, pos, unsigned_abs, List, Option, Some, None, Bool, true, false, inl, inr, arith, refl, sym, ◌∙◌, ap, subst, get_or, int_le}
 use Rattle.std.specs.Prelude.{◌&&◌, IfSome, nat_le, nat_lt}
 use Rattle.std.specs.Option.{option_and_then, option_map}
 use Rattle.std.specs.List.{All, Contains}
-use Rattle.std.specs.Cmp.{IsTotalOrder}
 use Rattle.std.specs.Ordering.{ordering_reverse, ordering_then}
 use Rattle.std.specs.declared.cmp.Ordering.{Ordering}
 use Rattle.std.specs.declared.cmp.Ordering.TheVariants.{Less, Equal, Greater}
-use Rattle.std.proofs.lemmas.Bool.{cases_Bool, cases_lt}
+use Rattle.std.proofs.lemmas.Bool.{cases_lt}
 use Rattle.std.proofs.lemmas.Bool.Decides.{nat_tests}
-use Rattle.std.proofs.lemmas.Int.{ints}
 use Rattle.std.proofs.lemmas.Cmp.{nat_list_cmp_total}
 use Rattle.std.proofs.lemmas.List.{get_or_default}
 use Rattle.ordered_list.specs.Ordered.{Rises}
 use Rattle.ordered_list.proofs.Places.{apart}
-use Rattle.grid_exact.specs.Excess.{IsExcess, ExceedsBy, excess_of, most_excess}
+use Rattle.grid_exact.specs.Excess.{IsExcess, ExceedsBy, most_excess}
 use Rattle.grid_exact.specs.declared.point.Point.{Point}
 use Rattle.grid_exact.proofs.TestFacts.{le_in, le_out}
 use Rattle.grid_exact.proofs.ExcessLemmas.{excess_of-is, within_most}
@@ -28,7 +26,6 @@ use Rattle.notice_slopes.specs.Nearest.{IsNearest, distance_of, nearest, taking_
 use Rattle.notice_slopes.specs.Slopes.{range_of, sub_of}
 use Rattle.notice_slopes.specs.Surfaces.{IsInRange, is_in_range, run_to, slope_excess, slope_surface}
 use Rattle.notice_slopes.specs.Notices.{ExceedsSlope, IsNoticeSlope, notice_slope, slope_by}
-use Rattle.notice_slopes.specs.declared.slope.Slope.{Slope}
 use Rattle.notice_slopes.proofs.NearestFacts.{nearest_is}
 use Rattle.notice_slopes.proofs.Order.{taking_back}
 

@@ -1,5 +1,5 @@
 -- The orders of fractions and of runways.
-use Rattle.std.proofs.Common.{◌≡◌, ◌≢◌, ◌<◌, ◌*◌, ◌≤◌, ℕ, zero, ℤ, List, arith, refl, sym, ◌∙◌, ap, Bool, true, false}
+use Rattle.std.proofs.Common.{◌≡◌, ◌<◌, ◌*◌, ℕ, ℤ, List, arith, refl, sym, ◌∙◌, ap, true, false}
 use Rattle.std.specs.Cmp.{IsTotalOrder, nat_cmp_is, ranks}
 use Rattle.std.specs.Ordering.{int_cmp, nat_cmp, is_gt, is_lt, MatchOrdering, on, ordering_reverse, ordering_then, then_cmp}
 use Rattle.std.specs.declared.cmp.Ordering.{Ordering}
@@ -7,11 +7,9 @@ use Rattle.std.specs.declared.cmp.Ordering.TheVariants.{Less, Equal, Greater}
 use Rattle.std.proofs.lemmas.Cmp.{int_cmp_total, nat_cmp_total, nat_list_cmp_total, on_total, then_total, tied_itself, upto}
 use Rattle.std.proofs.Math.Nat.{lt_of_mul-lt-mul_right, mul-lt-mul_of_pos_right}
 use Rattle.grid_exact.specs.declared.point.Point.{Point}
-use Rattle.grid_exact.specs.Lines.{square}
 use Rattle.airport_register.specs.Names.{name_cmp}
 use Rattle.airport_register.specs.Runways.{IsProper}
 use Rattle.airport_register.specs.declared.runway.Runway.{Runway}
-use Rattle.runway_lines.specs.Profiles.{profile_of}
 use Rattle.notice_slopes.specs.Distances.{Fraction, fraction_cmp}
 use Rattle.notice_slopes.specs.Nearest.{distance_of, elevation_of, nearness_cmp, taking_cmp}
 use Rattle.notice_slopes.proofs.DistanceFacts.{profile_some}

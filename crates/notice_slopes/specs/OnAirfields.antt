@@ -1,5 +1,5 @@
 -- Construction on airports and heliports: 77.9(d).
-use Rattle.std.specs.Prelude.{List, Option, Some, None, Bool, option_and_then, false}
+use Rattle.std.specs.Prelude.{List, Option, Bool, option_and_then, false}
 use Rattle.std.specs.Option.{option_map_or}
 use Rattle.airport_register.specs.Airfields.{category_of}
 use Rattle.airport_register.specs.Amendments.{airfield_at}

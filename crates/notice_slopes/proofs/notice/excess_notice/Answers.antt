@@ -1,4 +1,4 @@
-use Rattle.std.proofs.Common.{◌≡◌, ℕ, ℤ, List, Option, Some, None, FitsSigned, w64, to_z-of_z, arith, refl, sym, ◌∙◌, ap, subst}
+use Rattle.std.proofs.Common.{◌≡◌, ℕ, List, Option, Some, None, FitsSigned, w64, to_z-of_z, refl, sym, ◌∙◌, ap, subst}
 use Rattle.std.specs.Option.{option_map}
 use Rattle.grid_exact.specs.Excess.{IsExcess, ExceedsBy}
 use Rattle.airport_register.specs.declared.runway.Runway.{Runway}
@@ -7,8 +7,8 @@ use Rattle.notice_slopes.specs.declared.slope.Slope.{Slope}
 use Rattle.notice_slopes.specs.declared.slope.Sub.{Sub}
 use Rattle.notice_slopes.specs.Nearest.{nearest}
 use Rattle.notice_slopes.specs.Slopes.{sub_of}
-use Rattle.notice_slopes.specs.Surfaces.{slope_surface, slope_excess}
-use Rattle.notice_slopes.specs.Notices.{ExceedsSlope, IsNoticeSlope, notice_slope, slope_by}
+use Rattle.notice_slopes.specs.Surfaces.{slope_surface}
+use Rattle.notice_slopes.specs.Notices.{ExceedsSlope, IsNoticeSlope, slope_by}
 use Rattle.notice_slopes.proofs.NoticeFacts.{exceeded, from_nearest, no_runway, not_exceeded, slope_listed, undescribed, without_runways}
 use Rattle.notice_slopes.proofs.notice.excess_notice.Goals as goal
 

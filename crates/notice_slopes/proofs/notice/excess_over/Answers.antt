@@ -1,4 +1,4 @@
-use Rattle.std.proofs.Common.{◌≡◌, ℤ, ◌≤ℤ◌, ◌↔◌, Bool, true, false, Option, FitsSigned, w64, to_z-of_z, arith, ap, sym, ◌∙◌, subst, IsTrue}
+use Rattle.std.proofs.Common.{◌≡◌, ℤ, ◌↔◌, Bool, true, false, FitsSigned, w64, to_z-of_z, arith, ap, ◌∙◌, subst, IsTrue}
 use Rattle.std.proofs.lemmas.Int.{ints}
 use Rattle.grid_exact.specs.Excess.{IsExcess, covering}
 use Rattle.grid_exact.proofs.ExcessLemmas.{IsExcess-covered}
@@ -6,7 +6,7 @@ use Rattle.notice_slopes.specs.Distances.{Fraction, IsAtLeastRootOf, IsAboveRoot
 use Rattle.notice_slopes.specs.Measures.{fraction}
 use Rattle.notice_slopes.specs.Nearest.{distance_of, elevation_of}
 use Rattle.notice_slopes.specs.Slopes.{range_of, ratio_of, sub_of}
-use Rattle.notice_slopes.specs.Surfaces.{IsInRange, run_to, slope_surface}
+use Rattle.notice_slopes.specs.Surfaces.{slope_surface}
 use Rattle.notice_slopes.proofs.notice.excess_over.Goals as goal
 
 -- what the test of the range says

@@ -1,9 +1,8 @@
-use Rattle.std.proofs.Common.{◌≡◌, ℤ, ◌≤ℤ◌, ◌<ℤ◌, int_lt, FitsSigned, w64, to_z, of_z, to_z-of_z, arith, sym, ap, ◌∙◌}
-use Rattle.std.specs.Ordering.{int_cmp, is_lt}
+use Rattle.std.proofs.Common.{◌≡◌, FitsSigned, w64, to_z-of_z, arith, sym, ap, ◌∙◌}
 use Rattle.std.specs.declared.cmp.Ordering.TheVariants.{Equal}
 use Rattle.std.proofs.lemmas.Int.{ints}
 use Rattle.runway_lines.specs.Centerlines.{elevation}
-use Rattle.notice_slopes.specs.Nearest.{distance_of, elevation_of, nearness_cmp}
+use Rattle.notice_slopes.specs.Nearest.{distance_of, elevation_of}
 use Rattle.notice_slopes.specs.Distances.{fraction_cmp}
 use Rattle.notice_slopes.specs.Measures.{fraction}
 use Rattle.notice_slopes.proofs.NearestFacts.{lower_test, tied_same}
