@@ -1,5 +1,5 @@
 -- Flags are known by their letters.
-use Rattle.std.proofs.Common.{arith, ℕ, ◌≡◌, ◌≢◌, List, [], ◌∷◌, Bool, true, false, get_or, length, refl, ap, sym, ◌∙◌, codes}
+use Rattle.std.proofs.Common.{arith, ℕ, ◌≡◌, ◌≢◌, List, [], ◌∷◌, Bool, true, false, get_or, refl, ap, sym, ◌∙◌, codes}
 use Rattle.std.specs.Prelude.{nat_eq}
 use Rattle.std.proofs.lemmas.Bool.Decides.{nat_tests}
 use Rattle.airport_register.specs.declared.structure.Flags.{Flags}

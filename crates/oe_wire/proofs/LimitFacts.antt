@@ -1,5 +1,5 @@
 -- Numbers within limits.
-use Rattle.std.proofs.Common.{arith, w64, ℤ, ℕ, to_z, of_z, subst, pos, negsuc, neg_ℤ, ◌<ℤ◌, ◌≡◌, ◌≢◌, ◌^◌, ◌<◌, List, Some, refl, sym, ◌∙◌, FitsSigned}
+use Rattle.std.proofs.Common.{arith, w64, ℤ, ℕ, to_z, of_z, subst, pos, negsuc, ◌<ℤ◌, ◌≡◌, ◌≢◌, ◌^◌, ◌<◌, List, Some, refl, sym, ◌∙◌, FitsSigned}
 use Rattle.std.specs.Fmt.{signed_decimal}
 use Rattle.std.proofs.lemmas.Fmt.{signed_decimal_injective}
 use Rattle.std.proofs.lemmas.Int.{ints, to_z-of_z}
@@ -40,12 +40,6 @@ mobile_short kinds.Road = omega (arith, ints)
 mobile_short kinds.Private = omega (arith, ints)
 mobile_short kinds.Rail = omega (arith, ints)
 mobile_short kinds.Water = omega (arith, ints)
-
-pub terrain_short : (z : ℤ) → IsBetween (neg_ℤ (pos 20000)) (pos 200000) z → HasNineDigits z
-terrain_short z h = omega (arith, ints)
-
-pub height_short : (z : ℤ) → IsBetween (pos 0) (pos 100000) z → HasNineDigits z
-height_short z h = omega (arith, ints)
 
 -- a text spells one number
 spelled_once : (text : List ℕ) (y z : ℤ) → text ≡ signed_decimal y → text ≡ signed_decimal z → HasNineDigits y → HasNineDigits z → y ≡ z

@@ -24,7 +24,7 @@ use Rattle.airport_register.specs.declared.runway.Runway.{Runway}
 use Rattle.airport_register.specs.declared.amendment.Amendment.{Amendment}
 use Rattle.airport_register.specs.declared.amendment.Amendment.TheVariants.{PutAirport, PutRunway, DropRunway, PutHeliport, Drop}
 use Rattle.csv.specs.Records.{field_at}
-use Rattle.oe_wire.specs.Words.{category_word, approach_word, weight_word, pavement_word, kind_word, flags_text, name_text, IsAirfieldName}
+use Rattle.oe_wire.specs.Words.{category_word, approach_word, weight_word, pavement_word, kind_word, name_text, IsAirfieldName}
 use Rattle.oe_wire.specs.Forms.{form_word}
 use Rattle.oe_wire.specs.Requests.{site_spelling, amendment_spelling, query_spelling, query_form, spelling, form_of, act_spelling, act_form, IsValidAmendment, IsValidAct, IsGood}
 use Rattle.oe_wire.specs.declared.form.Form.{Form}

@@ -1,5 +1,5 @@
 -- Requests, each with its one spelling.
-use Rattle.std.specs.Prelude.{ℕ, ◌-◌, ◌≤◌, ◌<◌, take, ◌≡◌, ◌≢◌, List, [], ◌∷◌, length, Option, Some, None, codes}
+use Rattle.std.specs.Prelude.{ℕ, ◌-◌, ◌≤◌, ◌<◌, take, ◌≡◌, ◌≢◌, List, [], ◌∷◌, length, Some, None, codes}
 use Rattle.std.specs.Fmt.{signed_decimal}
 use Rattle.record_fields.specs.Fields.{one_record}
 use Rattle.whole_number.specs.Whole.{HasNineDigits}

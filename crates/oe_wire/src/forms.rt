@@ -1,11 +1,11 @@
 //! The forms of records, each read in one pass over its fields.
 
-ghost use Rattle.std.specs.Prelude.{◌≡◌, ◌+◌, ◌<◌, ◌∷◌, [], Some, IfOk, IfErr, IfSome, IfNone, OnOk, slice_get, codes, pos, neg_ℤ};
+ghost use Rattle.std.specs.Prelude.{◌≡◌, ◌+◌, ◌<◌, ◌∷◌, Some, IfOk, IfErr, IfSome, IfNone, OnOk, slice_get, codes};
 ghost use Rattle.std.specs.Fmt.{signed_decimal};
 ghost use Rattle.csv.specs.Records.{fields_of};
 ghost use Rattle.whole_number.specs.Whole.{HasNineDigits};
 ghost use Rattle.oe_wire.specs.Words.{approach_word};
-ghost use Rattle.oe_wire.specs.Shape.{ApproachWanted, Spelled, IsBetween, IsField, FitsBefore, HasShape, FirstBad};
+ghost use Rattle.oe_wire.specs.Shape.{ApproachWanted, Spelled, IsField, FitsBefore, HasShape, FirstBad};
 ghost use Rattle.oe_wire.specs.Forms.{form_word, shape_of, site_shape, coordinate, whole_number, IsNoForm};
 ghost use Rattle.oe_wire.specs.Requests.{site_spelling, spelling, form_of, IsValidSite, IsValid};
 

@@ -1,16 +1,15 @@
 //! The fields of structures.
 
-use crate::tests::bad_field;
-use crate::{Query, Request, read_record};
+use crate::Query;
+use crate::tests::{bad_field, query_of};
 use airport_register::{FieldId, Filing, Flags, StructureKind};
-use std::alloc::Global;
 
-// The structure that a line asks to screen, or to give a verdict of.
-fn filing_of(alloc: Global, line: &[u8]) -> Option<Filing> {
-    match read_record(alloc, line) {
-        Ok(Request::Query(Query::Screen(filing))) => Some(filing),
-        Ok(Request::Query(Query::Verdict(filing))) => Some(filing),
-        _ => None,
+// The structure that a query is about.
+fn filing_of(query: &Query) -> Option<&Filing> {
+    match query {
+        Query::Screen(filing) => Some(filing),
+        Query::Verdict(filing) => Some(filing),
+        Query::Airfield(_) => None,
     }
 }
 
@@ -89,7 +88,8 @@ fn kinds_of_structures(rt: HostRuntime) {
         ),
     ];
     for (line, kind, mobile) in table {
-        let filing = filing_of(rt.alloc(), line).expect(&rt, "it is a record");
+        let query = query_of(rt.alloc(), line).expect(&rt, "it is a record");
+        let filing = filing_of(&query).expect(&rt, "it has a structure");
         assert_eq!(rt; filing.kind, kind);
         assert_eq!(rt; filing.mobile, mobile);
     }
@@ -146,7 +146,8 @@ fn flags_of_structures(rt: HostRuntime) {
         (b"screen,0,0,0,0,object,0,SDRIGT,-", [true; 6]),
     ];
     for (line, want) in table {
-        let filing = filing_of(rt.alloc(), line).expect(&rt, "it is a record");
+        let query = query_of(rt.alloc(), line).expect(&rt, "it is a record");
+        let filing = filing_of(&query).expect(&rt, "it has a structure");
         assert_eq!(rt; standing(&filing.flags), want);
     }
 }
@@ -163,7 +164,8 @@ fn airfields_of_structures(rt: HostRuntime) {
         ),
     ];
     for (line, on) in table {
-        let filing = filing_of(rt.alloc(), line).expect(&rt, "it is a record");
+        let query = query_of(rt.alloc(), line).expect(&rt, "it is a record");
+        let filing = filing_of(&query).expect(&rt, "it has a structure");
         assert_eq!(rt; filing.on, on);
     }
 }

@@ -263,7 +263,7 @@ fn screenings(rt: HostRuntime) {
 }
 
 // The query of a line.
-fn query_of(alloc: Global, line: &[u8]) -> Option<Query> {
+pub(crate) fn query_of(alloc: Global, line: &[u8]) -> Option<Query> {
     match read_record(alloc, line) {
         Ok(Request::Query(query)) => Some(query),
         _ => None,

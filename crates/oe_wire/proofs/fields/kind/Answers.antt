@@ -1,4 +1,3 @@
-use Rattle.std.proofs.Common.{sym}
 use Rattle.oe_wire.proofs.FieldFacts.{kind_fits}
 use Rattle.oe_wire.proofs.fields.kind.Goals as goal
 
