@@ -1,17 +1,16 @@
 -- What is within, by its two parts, and where one of them has no point.
-use Rattle.std.proofs.Common.{◌≡◌, ◌↔◌, inl, inr, ℕ, ◌*◌, ◌≤◌, ℤ, pos, ◌+ℤ◌, ◌-ℤ◌, ◌≤ℤ◌, unsigned_abs, List, Bool, true, false, ◌||◌, IsTrue, arith, refl, sym, ◌∙◌}
+use Rattle.std.proofs.Common.{◌≡◌, ◌↔◌, ℕ, ◌≤◌, List, Bool, true, false, ◌||◌, IsTrue, refl, sym, ◌∙◌}
 use Rattle.std.specs.List.{All}
-use Rattle.std.proofs.lemmas.Int.{ints}
 use Rattle.grid_exact.specs.declared.area.Area.{Area}
 use Rattle.grid_exact.specs.declared.point.Point.{Point}
 use Rattle.grid_exact.specs.Area.{Has}
 use Rattle.horizontal_hull.specs.declared.edge.Edge.{Edge}
 use Rattle.horizontal_hull.specs.declared.edge.Edge.TheVariants.{Closed}
-use Rattle.horizontal_hull.specs.Arcs.{ArcShape, Dome}
+use Rattle.horizontal_hull.specs.Arcs.{ArcShape}
 use Rattle.horizontal_hull.specs.Pairs.{some_three, some_two}
 use Rattle.horizontal_hull.specs.Capsules.{in_capsule}
 use Rattle.horizontal_hull.specs.Triangles.{in_triangle}
-use Rattle.horizontal_hull.specs.Within.{AtConical, IsLeastConical, Within, is_within, run_to}
+use Rattle.horizontal_hull.specs.Within.{Within, is_within}
 use Rattle.horizontal_hull.specs.Reaches.{IsReached}
 use Rattle.horizontal_hull.proofs.Tests.{Within-test}
 use Rattle.horizontal_hull.proofs.Reach.{Within_reach}
