@@ -1,5 +1,5 @@
 -- What an amendment that breaks no rule leaves in the register.
-use Rattle.std.proofs.Common.{◌≡◌, ◌≢◌, ℕ, ℤ, ◌<◌, ◌≤◌, List, [], ◌++◌, length, Option, Some, None, Bool, true, false, not, refl, sym, ◌∙◌, arith}
+use Rattle.std.proofs.Common.{◌≡◌, ◌≢◌, ℕ, ℤ, ◌<◌, List, [], ◌++◌, length, Option, Some, None, Bool, true, false, not, refl, sym, ◌∙◌, arith}
 use Rattle.std.specs.Prelude.{◌&&◌, is_none, nat_le}
 use Rattle.std.specs.List.{All, list_all, slice_get}
 use Rattle.std.specs.Ordering.{is_eq}
@@ -16,20 +16,21 @@ use Rattle.ordered_list.proofs.Rising.{Rises-put, All-put, Rises-removed, All-re
 use Rattle.grid_exact.specs.declared.point.Point.{Point}
 use Rattle.airport_register.specs.Names.{name_cmp}
 use Rattle.airport_register.specs.Runways.{name_of, IsElevation, is_elevation, IsProper, HasNearEnds, has_near_ends, has_elevations, is_within_length, is_precision_on_utility}
-use Rattle.airport_register.specs.Airfields.{id_of, IsHeld, IsHeldAirport, IsRegister}
-use Rattle.airport_register.specs.Amendments.{airfield_at, runway_at, first_broken, when, airport_rules, runway_rules, drop_runway_rules, is_heliport, runways_in, put_runway, drop_runway, with_runways, with_runway, without_runway, put_airport, after_amendment, amended_id}
+use Rattle.airport_register.specs.Airfields.{id_of, IsHeld, IsHeldAirport, IsHeldHeliport, IsRegister, has_heliport_shape}
+use Rattle.airport_register.specs.Amendments.{airfield_at, runway_at, first_broken, when, airport_rules, runway_rules, drop_runway_rules, heliport_rules, is_heliport, is_airport, runways_in, put_runway, drop_runway, with_runways, with_runway, without_runway, put_airport, after_amendment, amended_id}
 use Rattle.airport_register.specs.declared.category.Category.{Category}
 use Rattle.airport_register.specs.declared.runway.Runway.{Runway}
 use Rattle.airport_register.specs.declared.airfield.Airport.{Airport}
+use Rattle.airport_register.specs.declared.airfield.Heliport.{Heliport}
 use Rattle.airport_register.specs.declared.airfield.Airfield.{Airfield}
 use Rattle.airport_register.specs.declared.airfield.Airfield.TheVariants.{Airport as AnAirport, Heliport as AHeliport}
 use Rattle.airport_register.specs.declared.amendment.Amendment.{Amendment}
-use Rattle.airport_register.specs.declared.amendment.Amendment.TheVariants.{PutAirport, PutRunway, DropRunway, Drop}
+use Rattle.airport_register.specs.declared.amendment.Amendment.TheVariants.{PutAirport, PutRunway, DropRunway, PutHeliport, Drop}
 use Rattle.airport_register.specs.declared.amendment.AmendRefusal.{AmendRefusal}
-use Rattle.airport_register.specs.declared.amendment.AmendRefusal.TheVariants.{PrecisionOnUtility, UnknownAirfield, UnknownRunway, RunwayLength, RunwayFar, TooManyRunways, RegisterFull, ElevationRange, WrongKind}
+use Rattle.airport_register.specs.declared.amendment.AmendRefusal.TheVariants.{PrecisionOnUtility, UnknownAirfield, RunwayLength, RunwayFar, TooManyRunways, RegisterFull, ElevationRange, HeliportShape, WrongKind}
 use Rattle.airport_register.proofs.Fields.{found_held}
 use Rattle.airport_register.proofs.Numbers.{number_put, number_removed}
-use Rattle.airport_register.proofs.WithinLimits.{elevation_told, proper_told, near_ends_told, all_near_told}
+use Rattle.airport_register.proofs.WithinLimits.{elevation_told, heliport_told, proper_told, near_ends_told, all_near_told}
 
 -- names that stand equal in their order are one
 pub same_name : (j k : List ℕ) → name_cmp j k ≡ Equal → j ≡ k
@@ -79,6 +80,19 @@ airport_allowed xs field arp z e =
       room = room_told field (length xs) 4096 k.3;
     }
 
+-- a heliport that breaks no rule
+pub record IsAllowedHeliport (xs : List Airfield) (field : Option Airfield) (h : Heliport) : Type 0 where
+  pub held : IsHeldHeliport h
+  pub room : field ≡ None → length xs < 4096
+
+pub heliport_allowed : (xs : List Airfield) (field : Option Airfield) (h : Heliport) → slice_get (heliport_rules xs field h) 0 ≡ None → IsAllowedHeliport xs field h
+heliport_allowed xs field h e =
+    let k = four_kept (is_airport field) (not (is_elevation h.elevation)) (not (has_heliport_shape h)) (is_none field && nat_le 4096 (length xs)) WrongKind ElevationRange HeliportShape RegisterFull e in
+    record {
+      held = heliport_told h (not-false (is_elevation h.elevation) k.1) (not-false (has_heliport_shape h) k.2);
+      room = room_told field (length xs) 4096 k.3;
+    }
+
 -- a runway that an airport may have
 pub record IsAllowedRunway (a : Airport) (r : Runway) : Type 0 where
   pub proper : IsProper r
@@ -114,6 +128,7 @@ pub amendment_room : (xs : List Airfield) (a : Amendment) → first_broken xs a 
 amendment_room xs (PutAirport id category arp elevation) e m = (airport_allowed xs (airfield_at xs id) arp elevation e).room m
 amendment_room xs (PutRunway id r) e m = absurd (runway_known (airfield_at xs id) r e m)
 amendment_room xs (DropRunway id name) e m = absurd (drop_known (airfield_at xs id) name e m)
+amendment_room xs (PutHeliport h) e m = (heliport_allowed xs (airfield_at xs h.id) h e).room m
 amendment_room xs (Drop id) e m = absurd (field_known (airfield_at xs id) e m)
 
 -- ---- what may be held
@@ -139,6 +154,10 @@ held_step xs (Some (AHeliport p)) b r h e = no_runways b r.elevation e
 pub held_put : (xs : List Airfield) (id : List ℕ) (category : Category) (b : Airport) → IsRegister xs → first_broken xs (PutAirport id category b.arp b.elevation) ≡ None → b.runways ≡ runways_in (airfield_at xs id) → IsHeldAirport b
 held_put xs id category b reg e n =
     held_step xs (airfield_at xs id) b (airport_allowed xs (airfield_at xs id) b.arp b.elevation e) (λ f m. found_held id f xs reg m) n
+
+-- a heliport that breaks no rule
+pub held_heliport : (xs : List Airfield) (h : Heliport) → first_broken xs (PutHeliport h) ≡ None → IsHeldHeliport h
+held_heliport xs h e = (heliport_allowed xs (airfield_at xs h.id) h e).held
 
 -- a held airport with one more runway that it may have
 pub held_with : (xs : List Airfield) (id : List ℕ) (a : Airport) (rs : List Runway) (r : Runway) → IsRegister xs → first_broken xs (PutRunway id r) ≡ None → airfield_at xs id ≡ Some (AnAirport a) → rs ≡ put_by name_cmp name_of r a.runways → IsHeldAirport (with_runways rs a)
@@ -192,4 +211,5 @@ pub amended_elsewhere : (xs : List Airfield) (a : Amendment) (k : List ℕ) → 
 amended_elsewhere xs (PutAirport id category arp elevation) k h = put_elsewhere (AnAirport (put_airport xs id category arp elevation)) xs k h
 amended_elsewhere xs (PutRunway id r) k h = runway_elsewhere xs (airfield_at xs id) id r k refl h
 amended_elsewhere xs (DropRunway id name) k h = drop_elsewhere xs (airfield_at xs id) id name k refl h
+amended_elsewhere xs (PutHeliport p) k h = put_elsewhere (AHeliport p) xs k h
 amended_elsewhere xs (Drop id) k h = removed_elsewhere id xs k h

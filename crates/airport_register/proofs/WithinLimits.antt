@@ -1,16 +1,18 @@
--- What the tests of the limits of a runway tell.
+-- What the tests of the limits of a runway and of a heliport tell.
 use Rattle.std.proofs.Common.{◌≡◌, ◌≢◌, ℕ, ℤ, List, Bool, true, false, refl, arith}
 use Rattle.std.specs.Prelude.{◌&&◌, ◌||◌}
 use Rattle.std.specs.List.{All, list_all}
-use Rattle.std.proofs.lemmas.Bool.{and_parts, and_cases, or_parts}
+use Rattle.std.proofs.lemmas.Bool.{and_parts, or_parts}
 use Rattle.std.proofs.lemmas.Bool.Decides.{nat_tests}
 use Rattle.std.proofs.lemmas.Int.{ints}
 use Rattle.std.proofs.lemmas.List.Elements.{All-weaker}
 use Rattle.std.proofs.lemmas.List.Sums.{AllPass-from_list_all}
 use Rattle.runway_classes.specs.declared.ApproachKind.{ApproachKind}
-use Rattle.runway_classes.specs.declared.ApproachKind.TheVariants.{Visual, NonprecisionAbove, NonprecisionLow, Precision}
+use Rattle.runway_classes.specs.declared.ApproachKind.TheVariants.{Precision}
 use Rattle.grid_exact.specs.declared.point.Point.{Point}
 use Rattle.airport_register.specs.Runways.{length_square, IsWithinLength, is_within_length, IsElevation, is_elevation, has_elevations, is_precision, is_precision_on_utility, IsProper, apart, IsNear, is_near, HasNearEnds, has_near_ends}
+use Rattle.airport_register.specs.Airfields.{axis_square, is_axis, is_width, has_heliport_shape, IsHeldHeliport}
+use Rattle.airport_register.specs.declared.airfield.Heliport.{Heliport}
 use Rattle.airport_register.specs.declared.runway.Runway.{Runway}
 
 within_length_told : (r : Runway) → is_within_length r ≡ true → IsWithinLength r
@@ -18,6 +20,21 @@ within_length_told r e = let n : ℕ = length_square r in record { least = grind
 
 pub elevation_told : (z : ℤ) → is_elevation z ≡ true → IsElevation z
 elevation_told z e = record { least = grind (arith, ints); most = grind (arith, ints) }
+
+pub heliport_told : (h : Heliport) → is_elevation h.elevation ≡ true → has_heliport_shape h ≡ true → IsHeldHeliport h
+heliport_told h e s =
+    let p : (is_axis h ≡ true) × (is_width h.width ≡ true) = and_parts (is_axis h) (is_width h.width) s in
+    let axis : is_axis h ≡ true = p.0 in
+    let wide : is_width h.width ≡ true = p.1 in
+    let n : ℕ = axis_square h in
+    let w : ℤ = h.width in
+    record {
+      elevation = elevation_told h.elevation e;
+      axis_least = grind (arith, nat_tests);
+      axis_most = grind (arith, nat_tests);
+      width_least = grind (arith, ints);
+      width_most = grind (arith, ints);
+    }
 
 not_precision : (k : ApproachKind) → is_precision k ≡ false → k ≢ Precision
 not_precision k e p = let t : is_precision k ≡ true = rw p refl in cc

@@ -5,16 +5,17 @@ use Rattle.ordered_list.specs.Ordered.{found_by, put_by, removed_by}
 use Rattle.grid_exact.specs.declared.point.Point.{Point}
 use Rattle.airport_register.specs.Names.{name_cmp}
 use Rattle.airport_register.specs.Runways.{name_of, is_within_length, is_elevation, has_elevations, is_precision_on_utility, has_near_ends}
-use Rattle.airport_register.specs.Airfields.{id_of}
+use Rattle.airport_register.specs.Airfields.{id_of, has_heliport_shape}
 use Rattle.airport_register.specs.declared.category.Category.{Category}
 use Rattle.airport_register.specs.declared.runway.Runway.{Runway}
 use Rattle.airport_register.specs.declared.airfield.Airport.{Airport}
+use Rattle.airport_register.specs.declared.airfield.Heliport.{Heliport}
 use Rattle.airport_register.specs.declared.airfield.Airfield.{Airfield}
 use Rattle.airport_register.specs.declared.airfield.Airfield.TheVariants.{Airport as AnAirport, Heliport as AHeliport}
 use Rattle.airport_register.specs.declared.amendment.Amendment.{Amendment}
-use Rattle.airport_register.specs.declared.amendment.Amendment.TheVariants.{PutAirport, PutRunway, DropRunway, Drop}
+use Rattle.airport_register.specs.declared.amendment.Amendment.TheVariants.{PutAirport, PutRunway, DropRunway, PutHeliport, Drop}
 use Rattle.airport_register.specs.declared.amendment.AmendRefusal.{AmendRefusal}
-use Rattle.airport_register.specs.declared.amendment.AmendRefusal.TheVariants.{PrecisionOnUtility, UnknownAirfield, UnknownRunway, RunwayLength, RunwayFar, TooManyRunways, RegisterFull, ElevationRange, WrongKind}
+use Rattle.airport_register.specs.declared.amendment.AmendRefusal.TheVariants.{PrecisionOnUtility, UnknownAirfield, UnknownRunway, RunwayLength, RunwayFar, TooManyRunways, RegisterFull, ElevationRange, HeliportShape, WrongKind}
 
 -- the airfield of this name
 abbrev pub airfield_at : List Airfield → List ℕ → Option Airfield
@@ -29,12 +30,18 @@ abbrev pub amended_id : Amendment → List ℕ
 amended_id (PutAirport id category arp elevation) = id
 amended_id (PutRunway id runway) = id
 amended_id (DropRunway id name) = id
+amended_id (PutHeliport heliport) = heliport.id
 amended_id (Drop id) = id
 
 abbrev pub is_heliport : Option Airfield → Bool
 is_heliport None = false
 is_heliport (Some (AnAirport a)) = false
 is_heliport (Some (AHeliport h)) = true
+
+abbrev pub is_airport : Option Airfield → Bool
+is_airport None = false
+is_airport (Some (AnAirport a)) = true
+is_airport (Some (AHeliport h)) = false
 
 -- the runways of an airport; there are none where there is no airport
 abbrev pub runways_in : Option Airfield → List Runway
@@ -80,11 +87,20 @@ drop_runway_rules field name =
     ++ when (is_heliport field) WrongKind
     ++ when (is_none (runway_at (runways_in field) name)) UnknownRunway
 
+-- the rules that a heliport breaks, where field is the airfield of its name that is there
+abbrev pub heliport_rules : List Airfield → Option Airfield → Heliport → List AmendRefusal
+heliport_rules airfields field heliport =
+    when (is_airport field) WrongKind
+    ++ when (not (is_elevation heliport.elevation)) ElevationRange
+    ++ when (not (has_heliport_shape heliport)) HeliportShape
+    ++ when (is_none field && nat_le 4096 (length airfields)) RegisterFull
+
 -- the rules that the amendment breaks, in the order in which they are tested
 abbrev pub broken_rules : List Airfield → Amendment → List AmendRefusal
 broken_rules airfields (PutAirport id category arp elevation) = airport_rules airfields (airfield_at airfields id) arp elevation
 broken_rules airfields (PutRunway id runway) = runway_rules (airfield_at airfields id) runway
 broken_rules airfields (DropRunway id name) = drop_runway_rules (airfield_at airfields id) name
+broken_rules airfields (PutHeliport heliport) = heliport_rules airfields (airfield_at airfields heliport.id) heliport
 broken_rules airfields (Drop id) = when (is_none (airfield_at airfields id)) UnknownAirfield
 
 -- the first of them
@@ -132,4 +148,5 @@ after_amendment airfields (PutAirport id category arp elevation) =
     put_by name_cmp id_of (AnAirport (put_airport airfields id category arp elevation)) airfields
 after_amendment airfields (PutRunway id runway) = put_runway airfields (airfield_at airfields id) runway
 after_amendment airfields (DropRunway id name) = drop_runway airfields (airfield_at airfields id) name
+after_amendment airfields (PutHeliport heliport) = put_by name_cmp id_of (AHeliport heliport) airfields
 after_amendment airfields (Drop id) = removed_by name_cmp id_of id airfields

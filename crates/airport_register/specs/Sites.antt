@@ -1,5 +1,5 @@
 -- The structure of a notice.
-use Rattle.std.specs.Prelude.{ℕ, ℤ, pos, neg_ℤ, ◌≤ℤ◌, List, Option}
+use Rattle.std.specs.Prelude.{ℕ, ℤ, pos, neg_ℤ, ◌≤ℤ◌, List, Option, Bool, true, false}
 use Rattle.grid_exact.specs.declared.point.Point.{Point}
 use Rattle.airport_register.specs.declared.structure.StructureKind.{StructureKind}
 use Rattle.airport_register.specs.declared.structure.StructureKind.TheVariants.{Object, Antenna, Interstate, Road, Private, Rail, Water}
@@ -19,6 +19,16 @@ pub record Site : Type 0 where
 abbrev pub site : Point → ℤ → ℤ → StructureKind → ℤ → Flags → Option (List ℕ) → Site
 site at terrain height kind mobile flags on =
     record { at = at; terrain = terrain; height = height; kind = kind; mobile = mobile; flags = flags; on = on }
+
+-- the traverse ways of 77.9(c): highways and other roads, railroads, and waterways or any other way for mobile objects
+abbrev pub is_traverse_way : StructureKind → Bool
+is_traverse_way Object = false
+is_traverse_way Antenna = false
+is_traverse_way Interstate = true
+is_traverse_way Road = true
+is_traverse_way Private = true
+is_traverse_way Rail = true
+is_traverse_way Water = true
 
 -- the greatest height of a mobile object: it is given for private roads and waterways alone (77.9(c))
 abbrev pub greatest_mobile : StructureKind → ℤ

@@ -17,8 +17,8 @@ pub struct Airport {
     pub runways: Runways,
 }
 
-/// A heliport.
-#[derive(Drop)]
+/// A heliport; a value that is copied.
+#[derive(Clone, Copy, Debug, PartialEq, Eq)]
 pub struct Heliport {
     pub id: FieldId,
     pub category: Category,

@@ -1,6 +1,7 @@
 //! Amendments of the register: the airfield that each amendment puts, and the airfield that it takes out.
 
-ghost use Rattle.std.specs.Prelude.{◌≡◌, ◌≢◌, IfOk, IfErr, OnErr, None, Some, IfSome, option_copied};
+ghost use Rattle.std.specs.Prelude.{◌≡◌, ◌≢◌, IfOk, IfErr, OnErr, None, Some, IfSome, option_copied, option_map};
+ghost use Rattle.std.specs.Arc.{arc_value};
 ghost use Rattle.airport_register.specs.Airfields.{id_of, IsHeld};
 ghost use Rattle.airport_register.specs.Amendments.{airfield_at, amended_id, first_broken, after_amendment, replaced};
 ghost use Rattle.airport_register.specs.Amendments.{runways_in, with_runways};
@@ -89,6 +90,7 @@ impl Register {
                 }
                 _ => unreachable!(),
             },
+            Amendment::PutHeliport(heliport) => Ok(Some(Airfield::Heliport(*heliport))),
             Amendment::Drop(_) => Ok(None),
         }
     }
@@ -103,6 +105,7 @@ impl Register {
         ensures allowed { IfOk result (λ _. first_broken self.old a.now ≡ None) }
         ensures after { IfOk result (λ _. self.new ≡ after_amendment self.old a.now) }
         ensures change { IfOk result (λ c. IsChange self.old self.new (amended_id a.now) c) }
+        ensures put { IfOk result (λ c. self.new ≡ replaced (amended_id a.now) (option_map arc_value c.after) self.old) }
         ensures refused { IfErr result (λ e. e ≢ AmendRefusal.NoMemory → first_broken self.old a.now ≡ Some e) }
         ensures same { OnErr result (self.new ≡ self.old) }
     {

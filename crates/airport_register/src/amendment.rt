@@ -1,6 +1,6 @@
 //! Amendments of the register, and what they change.
 
-use crate::airfield::Airfield;
+use crate::airfield::{Airfield, Heliport};
 use crate::category::Category;
 use crate::names::{FieldId, RunwayName};
 use crate::runway::Runway;
@@ -27,6 +27,8 @@ pub enum Amendment {
         id: FieldId,
         name: RunwayName,
     },
+    /// The heliport is added, or takes the place of the heliport of its name.
+    PutHeliport(Heliport),
     /// The airfield is taken out.
     Drop(FieldId),
 }

@@ -1,11 +1,12 @@
-//! The name of an airfield.
+//! The name of an airfield, and its category.
 
 ghost use Rattle.std.specs.Prelude.{◌≡◌};
-ghost use Rattle.airport_register.specs.Airfields.{id_of};
+ghost use Rattle.airport_register.specs.Airfields.{category_of, id_of};
 ghost use Rattle.airport_register.specs.Amendments.{amended_id};
 
 use crate::airfield::Airfield;
 use crate::amendment::Amendment;
+use crate::category::Category;
 use crate::names::FieldId;
 
 impl Airfield {
@@ -16,6 +17,16 @@ impl Airfield {
         match self {
             Airfield::Airport(airport) => &airport.id,
             Airfield::Heliport(heliport) => &heliport.id,
+        }
+    }
+
+    /// The category of the airfield, which says whether 77.9(d) describes it.
+    pub fn category(&self) -> Category
+        ensures { result ≡ category_of self.now }
+    {
+        match self {
+            Airfield::Airport(airport) => airport.category,
+            Airfield::Heliport(heliport) => heliport.category,
         }
     }
 }
@@ -29,6 +40,7 @@ impl Amendment {
             Amendment::PutAirport { id, .. } => id,
             Amendment::PutRunway { id, .. } => id,
             Amendment::DropRunway { id, .. } => id,
+            Amendment::PutHeliport(heliport) => &heliport.id,
             Amendment::Drop(id) => id,
         }
     }

@@ -12,8 +12,9 @@ use grid_exact::Point;
 pub struct FilingRange;
 
 impl StructureKind {
-    /// The greatest height of a mobile object on it, in tenths of a foot (77.9(c)).
-    fn mobile_most(&self) -> i64
+    /// The greatest height of a mobile object on it, in tenths of a foot: 1,000 for a private road or a waterway, and 0 for any other
+    /// kind (77.9(c)).
+    pub fn mobile_most(&self) -> i64
         ensures { result ≡ greatest_mobile self.now }
     {
         match self {

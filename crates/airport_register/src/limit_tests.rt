@@ -82,24 +82,23 @@ fn refusal(rt: &HostRuntime, register: &mut Register, a: &Amendment) -> Option<A
     register.amend(rt.alloc(), a).err()
 }
 
-/// The heliport `HELI` alone.
-fn heliport(rt: &HostRuntime) -> Result<Register, Fail> {
-    let mut register = Register::empty(rt.alloc());
-    let heliport = Heliport {
-        id: FieldId::new(b"HELI")?,
-        category: Category::PublicUse,
+/// A heliport whose axis goes from the origin to (x, y).
+fn heliport(id: &str, x: i64, y: i64, width: i64, elevation: i64) -> Result<Heliport, Fail> {
+    Ok(Heliport {
+        id: FieldId::new(id.as_bytes())?,
+        category: Category::Procedure,
         a: Point::new(0, 0)?,
-        b: Point::new(1_000, 0)?,
-        width: 1_000,
-        elevation: 0,
-    };
-    register.put(rt.alloc(), Airfield::Heliport(heliport))?;
-    Ok(register)
+        b: Point::new(x, y)?,
+        width,
+        elevation,
+    })
 }
 
 /// The heliport `HELI`, the airport `FULL` with 16 runways, and the airport `ONE` with the runway `09/27`.
 fn register(rt: &HostRuntime) -> Result<Register, Fail> {
-    let mut register = heliport(rt)?;
+    let mut register = Register::empty(rt.alloc());
+    let heli = heliport("HELI", 1_000, 0, 1_000, 0)?;
+    accept(rt, &mut register, Amendment::PutHeliport(heli))?;
     accept(rt, &mut register, airport("FULL", 0, 0, 0)?)?;
     accept(rt, &mut register, airport("ONE", 0, 0, 0)?)?;
     accept(
@@ -199,6 +198,61 @@ fn refusals_of_runways(rt: HostRuntime) -> Result<(), Fail> {
     ] {
         let a = put(id, runway)?;
         assert_eq!(rt; refusal(&rt, &mut register, &a), Some(wanted), "{a:?}");
+    }
+    Ok(())
+}
+
+#[test]
+fn refusals_of_heliports(rt: HostRuntime) -> Result<(), Fail> {
+    let mut register = register(&rt)?;
+    for (id, x, y, width, elevation, wanted) in [
+        ("ONE", 1_000, 0, 1_000, 0, AmendRefusal::WrongKind),
+        ("ONE", 99, 0, 99, 200_001, AmendRefusal::WrongKind),
+        ("NEW", 99, 0, 99, 200_001, AmendRefusal::ElevationRange),
+        ("NEW", 99, 0, 99, i64::MIN, AmendRefusal::ElevationRange),
+        (
+            "HELI",
+            1_000,
+            0,
+            1_000,
+            -20_001,
+            AmendRefusal::ElevationRange,
+        ),
+        ("NEW", 99, 0, 1_000, 0, AmendRefusal::HeliportShape),
+        ("NEW", 60, 79, 1_000, 0, AmendRefusal::HeliportShape),
+        ("NEW", 0, -10_001, 1_000, 0, AmendRefusal::HeliportShape),
+        ("NEW", 6_000, 8_001, 1_000, 0, AmendRefusal::HeliportShape),
+        ("NEW", 1_000, 0, 99, 0, AmendRefusal::HeliportShape),
+        ("NEW", 1_000, 0, 5_001, 0, AmendRefusal::HeliportShape),
+        ("HELI", 1_000, 0, i64::MAX, 0, AmendRefusal::HeliportShape),
+    ] {
+        let a = Amendment::PutHeliport(heliport(id, x, y, width, elevation)?);
+        assert_eq!(rt; refusal(&rt, &mut register, &a), Some(wanted), "{a:?}");
+    }
+    Ok(())
+}
+
+#[test]
+fn heliports(rt: HostRuntime) -> Result<(), Fail> {
+    let mut register = register(&rt)?;
+    for (id, x, y, width, elevation) in [
+        ("HELI", 100, 0, 100, -20_000),
+        ("HELI", -10_000, 0, 5_000, 200_000),
+        ("GATE", 60, -80, 1_000, 0),
+        ("GATE", 6_000, 8_000, 1_000, 0),
+    ] {
+        let put = heliport(id, x, y, width, elevation)?;
+        let changed = register.amend(rt.alloc(), &Amendment::PutHeliport(put))?;
+        assert_eq!(rt; changed.id, put.id);
+        match register.get(&put.id) {
+            Some(Airfield::Heliport(held)) => assert_eq!(rt; *held, put),
+            _ => assert!(rt; false),
+        }
+    }
+    assert_eq!(rt; register.len(), 4);
+    for (place, id) in ["FULL", "GATE", "HELI", "ONE"].iter().enumerate() {
+        let field = register.nth(place).expect(&rt, "an airfield");
+        assert_eq!(rt; field.id().as_str(), *id);
     }
     Ok(())
 }
@@ -326,6 +380,13 @@ fn full_register(rt: HostRuntime) -> Result<(), Fail> {
         (200_001, AmendRefusal::ElevationRange),
     ] {
         let a = airport("B", 0, 0, elevation)?;
+        assert_eq!(rt; refusal(&rt, &mut register, &a), Some(wanted), "{a:?}");
+    }
+    for (width, wanted) in [
+        (1_000, AmendRefusal::RegisterFull),
+        (99, AmendRefusal::HeliportShape),
+    ] {
+        let a = Amendment::PutHeliport(heliport("B", 1_000, 0, width, 0)?);
         assert_eq!(rt; refusal(&rt, &mut register, &a), Some(wanted), "{a:?}");
     }
     // One that is there is changed, and one that is taken out makes room.

@@ -1,11 +1,13 @@
-//! The limits of one runway.
+//! The limits of one runway, and of one heliport.
 
 ghost use Rattle.std.specs.Prelude.{◌≡◌, ◌≤◌};
 ghost use Rattle.airport_register.specs.Runways.{apart, length_square, is_within_length, is_elevation, has_elevations};
 ghost use Rattle.airport_register.specs.Runways.{is_precision, is_precision_on_utility, is_near, has_near_ends};
+ghost use Rattle.airport_register.specs.Airfields.{axis_square, is_axis, is_width, has_heliport_shape};
 
+use crate::airfield::Heliport;
 use crate::runway::{Runway, RunwayEnd};
-use grid_exact::Point;
+use grid_exact::{Point, Vector};
 use runway_classes::ApproachKind;
 
 /// How far east or west two points of the grid are apart.
@@ -32,8 +34,8 @@ pub(crate) fn is_allowed_elevation(z: &i64) -> bool
 }
 
 impl RunwayEnd {
-    /// Whether it has precision instrument approaches.
-    fn is_precision(&self) -> bool
+    /// Whether it has or is planned for precision instrument approaches.
+    pub fn is_precision(&self) -> bool
         ensures { result ≡ is_precision self.now.kind }
     {
         matches!(self.kind, ApproachKind::Precision)
@@ -85,5 +87,36 @@ impl Runway {
         ensures { result ≡ has_near_ends arp.now self.now }
     {
         self.end1.is_near(arp) && self.end2.is_near(arp)
+    }
+}
+
+/// Whether the width is 100 to 5,000 tenths of a foot.
+fn is_allowed_width(width: &i64) -> bool
+    ensures { result ≡ is_width width.now }
+{
+    100 <= *width && *width <= 5_000
+}
+
+impl Heliport {
+    /// The exact square of the length of the axis of its takeoff and landing area, in square tenths of a foot.
+    pub fn square_axis(&self) -> u128
+        ensures { result ≡ axis_square self.now }
+    {
+        Vector::between(&self.a, &self.b).square_length()
+    }
+
+    /// Whether the axis is 100 to 10,000 tenths of a foot long, by the exact square of its length.
+    fn has_allowed_axis(&self) -> bool
+        ensures { result ≡ is_axis self.now }
+    {
+        let square = self.square_axis();
+        100 * 100 <= square && square <= 10_000 * 10_000
+    }
+
+    /// Whether the axis and the width of its takeoff and landing area are within their limits.
+    pub(crate) fn has_allowed_shape(&self) -> bool
+        ensures { result ≡ has_heliport_shape self.now }
+    {
+        self.has_allowed_axis() && is_allowed_width(&self.width)
     }
 }

@@ -1,13 +1,13 @@
 //! The rules of amendments, in the order in which they are tested.
 
-ghost use Rattle.std.specs.Prelude.{◌≡◌, option_copied, slice_get, Some};
+ghost use Rattle.std.specs.Prelude.{◌≡◌, ◌&&◌, is_none, length, nat_le, option_copied, slice_get, Some};
 ghost use Rattle.std.specs.List.{list_all};
 ghost use Rattle.airport_register.specs.Runways.{has_near_ends};
-ghost use Rattle.airport_register.specs.Amendments.{airfield_at, first_broken, is_heliport, runways_in};
-ghost use Rattle.airport_register.specs.Amendments.{airport_rules, runway_rules, drop_runway_rules};
+ghost use Rattle.airport_register.specs.Amendments.{airfield_at, first_broken, is_airport, is_heliport, runways_in};
+ghost use Rattle.airport_register.specs.Amendments.{airport_rules, runway_rules, drop_runway_rules, heliport_rules};
 ghost use Rattle.airport_register.specs.declared.airfield.Airfield.TheVariants.{Airport as AnAirport};
 
-use crate::airfield::{Airfield, Airport};
+use crate::airfield::{Airfield, Airport, Heliport};
 use crate::amendment::{AmendRefusal, Amendment};
 use crate::limits::is_allowed_elevation;
 use crate::names::{FieldId, RunwayName};
@@ -26,6 +26,13 @@ fn is_heliport(field: Option<&Airfield>) -> bool
     ensures { result ≡ is_heliport (option_copied field.entry) }
 {
     matches!(field, Some(Airfield::Heliport(_)))
+}
+
+/// Whether the airfield is an airport.
+fn is_airport(field: Option<&Airfield>) -> bool
+    ensures { result ≡ is_airport (option_copied field.entry) }
+{
+    matches!(field, Some(Airfield::Airport(_)))
 }
 
 /// Whether all runways of an airport are near enough to a reference point.
@@ -90,6 +97,13 @@ fn drop_runway_refusal(field: Option<&Airfield>, name: &RunwayName) -> Option<Am
 }
 
 impl Register {
+    /// Whether there is no room for an airfield whose place `field` would take: its name is new, and the register is full.
+    fn is_full_for(&self, field: Option<&Airfield>) -> bool
+        ensures { result ≡ is_none (option_copied field.entry) && nat_le 4096 (length self.now) }
+    {
+        field.is_none() && self.len() >= MOST_AIRFIELDS
+    }
+
     /// The first rule that an airport of this name breaks.
     fn airport_refusal(&self, id: &FieldId, arp: &Point, elevation: &i64) -> Option<AmendRefusal>
         ensures { result ≡ slice_get (airport_rules self.now (airfield_at self.now id.now) arp.now elevation.now) 0 }
@@ -104,7 +118,27 @@ impl Register {
         if !has_near_runways(field, arp) {
             return Some(AmendRefusal::RunwayFar);
         }
-        if field.is_none() && self.len() >= MOST_AIRFIELDS {
+        if self.is_full_for(field) {
+            return Some(AmendRefusal::RegisterFull);
+        }
+        None
+    }
+
+    /// The first rule that the heliport breaks.
+    fn heliport_refusal(&self, heliport: &Heliport) -> Option<AmendRefusal>
+        ensures { result ≡ slice_get (heliport_rules self.now (airfield_at self.now heliport.now.id) heliport.now) 0 }
+    {
+        let field = self.get(&heliport.id);
+        if is_airport(field) {
+            return Some(AmendRefusal::WrongKind);
+        }
+        if !is_allowed_elevation(&heliport.elevation) {
+            return Some(AmendRefusal::ElevationRange);
+        }
+        if !heliport.has_allowed_shape() {
+            return Some(AmendRefusal::HeliportShape);
+        }
+        if self.is_full_for(field) {
             return Some(AmendRefusal::RegisterFull);
         }
         None
@@ -123,6 +157,7 @@ impl Register {
             } => self.airport_refusal(id, arp, elevation),
             Amendment::PutRunway { id, runway } => runway_refusal(self.get(id), runway),
             Amendment::DropRunway { id, name } => drop_runway_refusal(self.get(id), name),
+            Amendment::PutHeliport(heliport) => self.heliport_refusal(heliport),
             Amendment::Drop(id) => {
                 if self.get(id).is_none() {
                     return Some(AmendRefusal::UnknownAirfield);

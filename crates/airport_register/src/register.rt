@@ -1,6 +1,6 @@
 //! The register of airfields.
 
-ghost use Rattle.std.specs.Prelude.{◌≡◌, ◌<◌, [], length, slice_get, option_copied, IfOk, IfSome, OnErr, None};
+ghost use Rattle.std.specs.Prelude.{◌≡◌, ◌<◌, [], length, slice_get, option_copied, option_map, IfOk, IfSome, OnErr, None, Some};
 ghost use Rattle.std.specs.Arc.{arc_value};
 ghost use Rattle.std.specs.List.Sorted.{IsBinarySearchResult, IsSearchInRange};
 ghost use Rattle.ordered_list.specs.Ordered.{put_by, removed_by};
@@ -113,6 +113,7 @@ impl Register {
         requires room { airfield_at self.old (id_of field) ≡ None → length self.old < 4096 }
         ensures put { IfOk result (λ _. self.new ≡ put_by name_cmp id_of field self.old) }
         ensures change { IfOk result (λ c. IsChange self.old self.new (id_of field) c) }
+        ensures after { IfOk result (λ c. option_map arc_value c.after ≡ Some field) }
         ensures same { OnErr result (self.new ≡ self.old) }
     {
         let id = *field.id();
@@ -142,6 +143,7 @@ impl Register {
     pub(crate) fn remove(&mut self, id: &FieldId) -> Changed
         ensures removed { self.new ≡ removed_by name_cmp id_of id.now self.old }
         ensures change { IsChange self.old self.new id.now result }
+        ensures after { option_map arc_value result.after ≡ None }
     {
         match place(self.items.as_slice(), id) {
             Ok(i) => {

@@ -23,6 +23,26 @@ pub enum StructureKind {
     Water,
 }
 
+impl StructureKind {
+    ghost use Rattle.std.specs.Prelude.{◌≡◌};
+    ghost use Rattle.airport_register.specs.Sites.{is_traverse_way};
+
+    /// Whether it is a traverse way, which 77.9(c) raises by the height of what moves on it.
+    pub fn is_traverse_way(&self) -> bool
+        ensures { result ≡ is_traverse_way self.now }
+    {
+        match self {
+            StructureKind::Object => false,
+            StructureKind::Antenna => false,
+            StructureKind::Interstate => true,
+            StructureKind::Road => true,
+            StructureKind::Private => true,
+            StructureKind::Rail => true,
+            StructureKind::Water => true,
+        }
+    }
+}
+
 /// What a notice says besides place and height.
 #[derive(Clone, Copy, Debug, PartialEq, Eq)]
 pub struct Flags {

@@ -60,6 +60,17 @@ fn filings(rt: HostRuntime) {
     filing.limits();
     assert_eq!(rt; filing.height, 2_001);
     assert!(rt; Filing::new(at, 0, 1, StructureKind::Road, 150, flags, None).is_err());
+    for kind in [
+        StructureKind::Interstate,
+        StructureKind::Road,
+        StructureKind::Private,
+        StructureKind::Rail,
+        StructureKind::Water,
+    ] {
+        assert!(rt; kind.is_traverse_way());
+    }
+    assert!(rt; !StructureKind::Object.is_traverse_way());
+    assert!(rt; !StructureKind::Antenna.is_traverse_way());
     assert_eq!(rt; FilingRange, FilingRange);
 }
 
@@ -103,5 +114,7 @@ fn amendments(rt: HostRuntime) -> Result<(), Fail> {
         }
         _ => assert!(rt; false),
     }
+    let field = shared.nth(0).expect(&rt, "an airfield");
+    assert_eq!(rt; field.category(), Category::PublicUse);
     Ok(())
 }

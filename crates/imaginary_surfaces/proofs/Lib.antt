@@ -1,1 +1,2 @@
 pub mod SurfaceFacts
+pub mod TransitionFacts

@@ -1,5 +1,5 @@
 -- What covers a point, as the tests compute it, and excesses by them.
-use Rattle.std.proofs.Common.{◌≡◌, ℕ, ℤ, pos, ◌*◌, ◌*ℤ◌, ◌≤◌, ◌^◌, sym, Option, true, int_le, int_lt}
+use Rattle.std.proofs.Common.{◌≡◌, ℕ, ℤ, pos, ◌*◌, ◌*ℤ◌, ◌≤◌, ◌^◌, sym, Option, Bool, true, int_le, int_lt}
 use Rattle.std.specs.Prelude.{IfSome}
 use Rattle.grid_exact.specs.Excess.{IsExcess, is_at_most_root}
 use Rattle.grid_exact.specs.declared.point.Point.{Point}
@@ -76,11 +76,11 @@ approach_listed r end x top e size h =
 abbrev shaped_primary : Line → ℤ → Profile → Primary
 shaped_primary l w p = record { line = l; width = w; profile = p }
 
-abbrev shaped_approach : Line → ℤ → EndClass → ℤ → Approach
-shaped_approach l w e z = record { line = l; width = w; class = e; z = z }
+abbrev shaped_approach : Line → ℤ → EndClass → ℤ → Bool → Approach
+shaped_approach l w e z p = record { line = l; width = w; class = e; z = z; precision = p }
 
 pub same_primary : (l l' : Line) (w w' : ℤ) (p p' : Profile) → l ≡ l' → w ≡ w' → p ≡ p' → shaped_primary l w p ≡ shaped_primary l' w' p'
 same_primary l l' w w' p p' a b d = rw (a, b, d)
 
-pub same_approach : (l l' : Line) (w w' : ℤ) (e e' : EndClass) (z z' : ℤ) → l ≡ l' → w ≡ w' → e ≡ e' → z ≡ z' → shaped_approach l w e z ≡ shaped_approach l' w' e' z'
-same_approach l l' w w' e e' z z' a b d f = rw (a, b, d, f)
+pub same_approach : (l l' : Line) (w w' : ℤ) (e e' : EndClass) (z z' : ℤ) (p p' : Bool) → l ≡ l' → w ≡ w' → e ≡ e' → z ≡ z' → p ≡ p' → shaped_approach l w e z p ≡ shaped_approach l' w' e' z' p'
+same_approach l l' w w' e e' z z' p p' a b d f g = rw (a, b, d, f, g)

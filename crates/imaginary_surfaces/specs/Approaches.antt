@@ -9,12 +9,13 @@ use Rattle.grid_exact.specs.Lines.{Line, along, aside, square}
 use Rattle.imaginary_surfaces.specs.Primaries.{IsWidth}
 
 -- the line outward from the end of the primary surface, the width there, which is that of the primary surface, the class of the
--- end, and the elevation of the end
+-- end, the elevation of the end, and whether it is a precision instrument approach
 pub record Approach : Type 0 where
   pub line : Line
   pub width : ℤ
   pub class : EndClass
   pub z : ℤ
+  pub precision : Bool
 
 -- forty times how far the point is to a side, less what forty times the half width has grown there, times the vector's length
 abbrev pub outside : Approach → Point → ℤ

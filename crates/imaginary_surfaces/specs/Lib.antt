@@ -1,5 +1,6 @@
 pub mod Primaries
 pub mod Approaches
+pub mod Transitions
 pub mod Shapes
 pub mod Strips
 pub mod Prepared

@@ -10,4 +10,4 @@ abbrev pub primary_shape : PrimarySurface → Primary
 primary_shape p = record { line = line_of p.axis; width = p.width; profile = profile p.centerline }
 
 abbrev pub approach_shape : ApproachSurface → Approach
-approach_shape a = record { line = line_of a.axis; width = a.width; class = a.class; z = a.z }
+approach_shape a = record { line = line_of a.axis; width = a.width; class = a.class; z = a.z; precision = a.precision }

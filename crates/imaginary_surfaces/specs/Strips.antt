@@ -1,14 +1,17 @@
--- The primary surface and the approach surfaces of a runway: 77.19(c), (d).
+-- The primary surface, the approach surfaces and the transitional surfaces of a runway: 77.19(c), (d), (e).
 use Rattle.std.specs.Prelude.{ℕ, ℤ, Option}
 use Rattle.grid_exact.specs.Excess.{Surface}
+use Rattle.grid_exact.specs.declared.cap.Cap.{Cap}
 use Rattle.grid_exact.specs.declared.point.Point.{Point}
 use Rattle.airport_register.specs.declared.runway.Runway.{Runway}
+use Rattle.airport_register.specs.Runways.{is_precision}
 use Rattle.runway_lines.specs.declared.end.End.{End}
 use Rattle.runway_lines.specs.declared.end.End.TheVariants.{One, Two}
 use Rattle.runway_lines.specs.Ends.{other, end_of, line_between, class_of, end_class_of}
 use Rattle.runway_lines.specs.Profiles.{profile_of}
 use Rattle.imaginary_surfaces.specs.Primaries.{Primary, primary, excess_over_primary}
 use Rattle.imaginary_surfaces.specs.Approaches.{Approach, approach, excess_over_approach}
+use Rattle.imaginary_surfaces.specs.Transitions.{beside_primary, beside_approach, excess_beside_primary, excess_beside_approach}
 
 unfoldable pub primary_of : Runway → Primary
 primary_of r = record { line = line_between r One One Two; width = (class_of r).width; profile = profile_of r }
@@ -19,6 +22,7 @@ approach_of r end = record {
   width = (class_of r).width;
   class = end_class_of r end;
   z = (end_of r end).z;
+  precision = is_precision (end_of r end).kind;
 }
 
 -- the surfaces at a point
@@ -28,9 +32,22 @@ primary_surface r x = primary (primary_of r) x
 abbrev pub approach_surface : Runway → End → Point → Surface
 approach_surface r end x = approach (approach_of r end) x
 
+-- the transitional surfaces end upward at the cap
+abbrev pub primary_transition_surface : Runway → Point → Cap → Surface
+primary_transition_surface r x cap = beside_primary (primary_of r) x cap
+
+abbrev pub approach_transition_surface : Runway → End → Point → Cap → Surface
+approach_transition_surface r end x cap = beside_approach (approach_of r end) x cap
+
 -- the excess of a top over them, where they are exceeded
 unfoldable pub primary_excess : Runway → Point → ℤ → Option ℕ
 primary_excess r x top = excess_over_primary (primary_of r) x top
 
 unfoldable pub approach_excess : Runway → End → Point → ℤ → Option ℕ
 approach_excess r end x top = excess_over_approach (approach_of r end) x top
+
+unfoldable pub primary_transition_excess : Runway → Point → Cap → ℤ → Option ℕ
+primary_transition_excess r x cap top = excess_beside_primary (primary_of r) x cap top
+
+unfoldable pub approach_transition_excess : Runway → End → Point → Cap → ℤ → Option ℕ
+approach_transition_excess r end x cap top = excess_beside_approach (approach_of r end) x cap top

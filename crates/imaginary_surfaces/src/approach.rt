@@ -18,14 +18,16 @@ pub(crate) struct ApproachSurface {
     pub(crate) width: i64,
     pub(crate) class: EndClass,
     pub(crate) z: i64,
+    /// Whether it is a precision instrument approach.
+    pub(crate) precision: bool,
     ghost sound: { IsApproach width class z },
 }
 
 /// A slope, and the elevation from which it rises at the end of the primary surface.
 #[derive(Clone, Copy)]
-struct Rise {
-    slope: i64,
-    base: i64,
+pub(crate) struct Rise {
+    pub(crate) slope: i64,
+    pub(crate) base: i64,
     ghost rises: { IsRise slope base },
 }
 
@@ -35,14 +37,14 @@ impl ApproachSurface {
     ghost use Rattle.imaginary_surfaces.specs.Shapes.{approach_shape};
 
     /// Whether a point is ahead of the end.
-    fn is_ahead(&self, point: &Point) -> bool
+    pub(crate) fn is_ahead(&self, point: &Point) -> bool
         ensures { IsTrue result ↔ (pos 0 <ℤ axis_along self.now.axis point.now) }
     {
         0 < self.axis.along(point)
     }
 
     /// Whether a point is not past its outer end.
-    fn is_not_past(&self, point: &Point) -> bool
+    pub(crate) fn is_not_past(&self, point: &Point) -> bool
         ensures { IsTrue result ↔ AtMostRoot (axis_along self.now.axis point.now) self.now.class.length (axis_square self.now.axis) }
     {
         is_at_most_root(
@@ -53,7 +55,7 @@ impl ApproachSurface {
     }
 
     /// How far a point is to a side less what the half width has grown, in fortieths, times the vector's length.
-    fn outside(&self, point: &Point) -> i128
+    pub(crate) fn outside(&self, point: &Point) -> i128
         ensures value { result ≡ outside_of (approach_shape self.now) point.now }
         ensures size { unsigned_abs result ≤ 2 ^ 52 }
     {
@@ -93,7 +95,7 @@ impl ApproachSurface {
     }
 
     /// The slope over a point. The second one goes on where the first one ends: 100,000 / 50 is 500 less than 100,000 / 40.
-    fn rise(&self, point: &Point) -> Rise
+    pub(crate) fn rise(&self, point: &Point) -> Rise
         ensures slope { result.slope ≡ slope_at (approach_shape self.now) point.now }
         ensures base { result.base ≡ base_at (approach_shape self.now) point.now }
     {

@@ -27,10 +27,12 @@ pub(crate) fn approach(runway: &Runway, end: End) -> ApproachSurface
     requires proper { IsProper runway.now }
     ensures shape { approach_shape result ≡ approach_of runway.now end }
 {
+    let runway_end = end.of(runway);
     ApproachSurface {
         axis: outward(runway, end),
         width: class(runway).width,
         class: end_class(runway, end),
-        z: end.of(runway).z,
+        z: runway_end.z,
+        precision: runway_end.is_precision(),
     }
 }

@@ -25,14 +25,14 @@ impl PrimarySurface {
     ghost use Rattle.imaginary_surfaces.specs.Shapes.{primary_shape};
 
     /// Whether a point is not before the first end.
-    fn is_past_start(&self, point: &Point) -> bool
+    pub(crate) fn is_past_start(&self, point: &Point) -> bool
         ensures { IsTrue result ↔ (pos 0 ≤ℤ axis_along self.now.axis point.now) }
     {
         0 <= self.axis.along(point)
     }
 
     /// Whether a point is not past the second end.
-    fn is_before_end(&self, point: &Point) -> bool
+    pub(crate) fn is_before_end(&self, point: &Point) -> bool
         ensures { IsTrue result ↔ (axis_along self.now.axis point.now ≤ℤ pos (axis_square self.now.axis)) }
     {
         self.axis.along(point) <= self.axis.square() as i128

@@ -1,18 +1,20 @@
 //! The surfaces of one runway.
 
 ghost use Rattle.std.specs.Prelude.{◌≡◌};
+ghost use Rattle.grid_exact.specs.Caps.{IsSmallCap};
 ghost use Rattle.grid_exact.specs.Excess.{IsExcess};
 ghost use Rattle.grid_exact.specs.Level.{IsLevel};
 ghost use Rattle.airport_register.specs.Runways.{IsProper};
 ghost use Rattle.imaginary_surfaces.specs.Shapes.{approach_shape};
 ghost use Rattle.runway_lines.specs.Ends.{AreCenters, centers as centers_of};
 ghost use Rattle.imaginary_surfaces.specs.Strips.{approach_of, primary_surface, approach_surface, primary_excess, approach_excess};
+ghost use Rattle.imaginary_surfaces.specs.Strips.{primary_transition_surface, approach_transition_surface, primary_transition_excess, approach_transition_excess};
 
 use crate::approach::ApproachSurface;
 use crate::prepare::{approach, primary};
 use crate::primary::PrimarySurface;
 use airport_register::Runway;
-use grid_exact::Point;
+use grid_exact::{Cap, Point};
 use runway_lines::End;
 use std::marker::Model;
 
@@ -50,6 +52,13 @@ impl Strip {
         }
     }
 
+    /// The runway.
+    pub fn runway(&self) -> &Runway
+        ensures { result.now ≡ self.now }
+    {
+        &self.runway
+    }
+
     /// The approach surface of this end.
     fn approach(&self, end: End) -> &ApproachSurface
         ensures shape { approach_shape result.now ≡ approach_of self.now end }
@@ -78,6 +87,36 @@ impl Strip {
         ensures value { result ≡ approach_excess self.now end x.now top }
     {
         self.approach(end).excess(x, top)
+    }
+
+    /// How far `top` is above the transitional surface beside the primary surface at a point, in tenths of a foot, rounded down:
+    /// 77.19(e). `cap` is where the horizontal and conical surfaces end upward at the point. `None` where it is not above, and where
+    /// the surface does not cover the point.
+    pub fn excess_transition_primary(&self, x: &Point, top: i64, cap: &Cap) -> Option<u32>
+        requires top { IsLevel top }
+        requires cap { IsSmallCap cap.now }
+        ensures exact { IsExcess (primary_transition_surface self.now x.now cap.now) top result }
+        ensures value { result ≡ primary_transition_excess self.now x.now cap.now top }
+    {
+        self.primary.excess_beside(x, top, cap)
+    }
+
+    /// How far `top` is above the transitional surface beside the approach surface of an end at a point, in tenths of a foot, rounded
+    /// down: 77.19(e). `cap` is where the horizontal and conical surfaces end upward at the point. `None` where it is not above, and
+    /// where the surface does not cover the point.
+    pub fn excess_transition_approach(
+        &self,
+        end: End,
+        x: &Point,
+        top: i64,
+        cap: &Cap,
+    ) -> Option<u32>
+        requires top { IsLevel top }
+        requires cap { IsSmallCap cap.now }
+        ensures exact { IsExcess (approach_transition_surface self.now end x.now cap.now) top result }
+        ensures value { result ≡ approach_transition_excess self.now end x.now cap.now top }
+    {
+        self.approach(end).excess_beside(x, top, cap)
     }
 
     /// The two ends of the primary surface on the extended centerline, each by its two coordinates: 77.19(c). They are the ends of

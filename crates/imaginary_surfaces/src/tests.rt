@@ -37,12 +37,19 @@ fn prepared(runway: &Runway) -> Result<Strip, OutsideLimits> {
     }
 }
 
-fn end(x: i64, y: i64, z: i64, kind: ApproachKind) -> Result<RunwayEnd, Fail> {
+/// An end of a runway.
+pub(crate) fn end(x: i64, y: i64, z: i64, kind: ApproachKind) -> Result<RunwayEnd, Fail> {
     let at = Point::new(x, y)?;
     Ok(RunwayEnd { at, z, kind })
 }
 
-fn strip(utility: bool, hard: bool, end1: RunwayEnd, end2: RunwayEnd) -> Result<Strip, Fail> {
+/// The surfaces of a runway with these ends.
+pub(crate) fn strip(
+    utility: bool,
+    hard: bool,
+    end1: RunwayEnd,
+    end2: RunwayEnd,
+) -> Result<Strip, Fail> {
     let name = RunwayName::new(b"09/27")?;
     let runway = Runway {
         name,

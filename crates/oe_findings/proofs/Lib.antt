@@ -1,4 +1,4 @@
 pub mod SameFindings
 pub mod ListFacts
-pub mod RunwayFacts
+pub mod EntryFacts
 pub mod Counts

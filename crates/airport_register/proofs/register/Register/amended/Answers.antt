@@ -1,7 +1,7 @@
 use Rattle.std.proofs.Common.{FitsSigned, w64, sym, ap, ◌∙◌, rules}
 use Rattle.std.proofs.lemmas.Int.{to_z-of_z}
 use Rattle.airport_register.specs.Airfields.{id_of}
-use Rattle.airport_register.proofs.Rules.{found_named, held_put, held_with, held_without}
+use Rattle.airport_register.proofs.Rules.{found_named, held_put, held_with, held_without, held_heliport}
 use Rattle.airport_register.proofs.register.Register.amended.Goals as goal
 
 pub returns-in_ok-runways-in-PutAirport-clause-held : goal.returns-in_ok-runways-in-PutAirport-clause-held
@@ -9,6 +9,9 @@ returns-in_ok-runways-in-PutAirport-clause-held c =
     let fits : FitsSigned w64 c.in-PutAirport.elevation = search rules in
     rw (to_z-of_z w64 c.in-PutAirport.elevation fits)
     (held_put c.args.self.now c.in-PutAirport.id c.in-PutAirport.category _ c.limits.ensures (rw c.in-PutAirport.is at c.requires) (rw (← c.get.ensures.found) c.in_ok-runways-in-PutAirport.ensures))
+
+pub returns-in-PutHeliport-clause-held : goal.returns-in-PutHeliport-clause-held
+returns-in-PutHeliport-clause-held c = held_heliport c.args.self.now c.in-PutHeliport.heliport (rw c.in-PutHeliport.is at c.requires)
 
 pub returns-in_ok-runways-in-Some-Airport-clause-held : goal.returns-in_ok-runways-in-Some-Airport-clause-held
 returns-in_ok-runways-in-Some-Airport-clause-held c =

@@ -1,4 +1,4 @@
-use Rattle.std.proofs.Common.{sym, ◌∙◌, rules}
+use Rattle.std.proofs.Common.{◌∙◌}
 use Rattle.airport_register.proofs.ByName.{runway_searched}
 use Rattle.airport_register.proofs.runways.Runways.has.Goals as goal
 
