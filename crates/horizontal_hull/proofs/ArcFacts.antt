@@ -12,7 +12,7 @@ use Rattle.airport_register.specs.Runways.{HasNearEnds, apart, length_square}
 use Rattle.runway_lines.specs.Centers.{center}
 use Rattle.runway_lines.specs.declared.end.End.TheVariants.{One, Two}
 use Rattle.runway_lines.proofs.CenterFacts.{extended_near}
-use Rattle.horizontal_hull.specs.Arcs.{ArcShape, arc, arcs_of_runway}
+use Rattle.horizontal_hull.specs.Arcs.{arc, arcs_of_runway}
 use Rattle.horizontal_hull.specs.Close.{IsNearReference}
 
 center_near : (hard : Bool) (here there arp : ℤ) (n : ℕ) → apart here arp ≤ 400000 → unsigned_abs (center hard here there n -ℤ arp) ≤ 402000

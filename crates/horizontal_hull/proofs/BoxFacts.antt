@@ -1,5 +1,5 @@
 -- Boxes that the arcs of an airport reach into.
-use Rattle.std.proofs.Common.{◌≡◌, ℕ, ◌+◌, ◌<◌, ◌≤◌, ℤ, pos, ◌+ℤ◌, ◌-ℤ◌, ◌≤ℤ◌, unsigned_abs, List, length, take, get_or, arith}
+use Rattle.std.proofs.Common.{◌≡◌, ℕ, ◌+◌, ◌<◌, ◌≤◌, ℤ, pos, ◌+ℤ◌, ◌-ℤ◌, unsigned_abs, List, length, take, get_or, arith}
 use Rattle.std.specs.List.{All}
 use Rattle.std.proofs.lemmas.Int.{ints}
 use Rattle.std.proofs.lemmas.List.Elements.{All-more, All-weaker}
@@ -7,7 +7,7 @@ use Rattle.grid_exact.specs.declared.area.Area.{Area}
 use Rattle.grid_exact.specs.declared.point.Point.{Point}
 use Rattle.horizontal_hull.specs.Arcs.{ArcShape}
 use Rattle.horizontal_hull.specs.Reaches.{IsReached}
-use Rattle.horizontal_hull.specs.Close.{IsAbout, IsNearReference, IsSmallBox, IsWider}
+use Rattle.horizontal_hull.specs.Close.{IsAbout, IsSmallBox, IsWider}
 
 -- the box about a center
 pub record IsAround (x y : ℤ) (box : Area) : Type 0 where

@@ -9,4 +9,4 @@ pub mod Sizes
 pub mod Caps
 pub mod Worked
 pub mod CloseFacts
-pub mod ConeFacts
+pub mod WithinFacts

@@ -1,5 +1,5 @@
 -- The horizontal and the conical surface of an airport: 77.19(a), (b).
-use Rattle.std.specs.Prelude.{ℕ, ℤ, pos, ◌+ℤ◌, ◌-ℤ◌, ◌*◌, ◌-◌, ◌≤ℤ◌, ◌≡◌, ◌⊎◌, List, Option, Bool, ◌&&◌, ◌||◌, not, int_le, unsigned_abs, if◌then◌else◌}
+use Rattle.std.specs.Prelude.{ℕ, ℤ, pos, ◌+ℤ◌, ◌-ℤ◌, ◌*◌, ◌≤ℤ◌, ◌≡◌, ◌⊎◌, List, Option, Bool, ◌&&◌, ◌||◌, not, int_le, unsigned_abs, if◌then◌else◌}
 use Rattle.grid_exact.specs.declared.point.Point.{Point}
 use Rattle.grid_exact.specs.declared.cap.Cap.{Cap}
 use Rattle.grid_exact.specs.declared.cap.Cap.TheVariants.{Level, Beyond}

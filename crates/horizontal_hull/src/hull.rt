@@ -50,7 +50,7 @@ fn arcs(alloc: Global, runways: &[Runway]) -> Result<Vec<Arc>, NoMemory>
     requires proper { All IsProper runways.now }
     ensures arcs { IfOk result (λ v. v.items ≡ flat_map arcs_of_runway runways.now) }
 {
-    let mut arcs = Vec::new(alloc);
+    let mut arcs = Vec::with_capacity(alloc, 2 * runways.len())?;
     for runway in runways {
         arcs.push(Arc::of(runway, End::One))?;
         arcs.push(Arc::of(runway, End::Two))?;
@@ -76,7 +76,8 @@ impl Hull {
             level: a.elevation + 1500,
         })
     }
-    /// Whether a point is within `c` of the arcs joined by their tangents.
+
+    /// Whether a point is at most `c` beyond the arcs joined by their tangents, or less than `c` without the edge.
     fn is_within(&self, edge: Edge, x: &Point, c: u32) -> bool
         requires run { c ≤ 40000 }
         ensures { result ≡ is_within_of edge self.now.arcs x.now c }
@@ -104,7 +105,7 @@ impl Hull {
         self.is_within(Edge::Open, x, c)
     }
 
-    /// The same beyond the horizontal surface, where no triangle has the point.
+    /// The same at a point that the horizontal surface does not cover: no triangle of centers has it.
     fn is_within_beyond(&self, edge: Edge, x: &Point, c: u32) -> bool
         requires beyond { ¬ Within Edge.Closed self.now.arcs x.now 0 }
         requires run { c ≤ 40000 }

@@ -70,56 +70,88 @@ fn hull(alloc: Global, runways: &[Runway]) -> Result<Hull, Fail> {
     }
 }
 
+/// A top.
 fn level(top: i16) -> i64
     ensures { IsLevel result }
 {
     i64::from(top)
 }
 
+/// What is said of a top at a point: how far it is above the surfaces, and where these end upward.
+#[derive(Clone, Copy, PartialEq, Eq, Debug)]
+struct Answer {
+    horizontal: Option<u32>,
+    conical: Option<u32>,
+    cap: Cap,
+}
+
+const BEYOND: Answer = Answer {
+    horizontal: None,
+    conical: None,
+    cap: Cap::Beyond,
+};
+
+fn under_horizontal(excess: Option<u32>) -> Answer {
+    Answer {
+        horizontal: excess,
+        conical: None,
+        cap: Cap::Level(1500),
+    }
+}
+
+fn under_conical(excess: Option<u32>, cap: i64) -> Answer {
+    Answer {
+        horizontal: None,
+        conical: excess,
+        cap: Cap::Level(cap),
+    }
+}
+
+fn ask(hull: &Hull, x: i64, y: i64, top: i16) -> Result<Answer, Fail> {
+    let point = Point::new(x, y)?;
+    let top = level(top);
+    Ok(Answer {
+        horizontal: hull.excess_horizontal(&point, top),
+        conical: hull.excess_conical(&point, top),
+        cap: hull.cap(&point),
+    })
+}
+
 /// A smaller and a larger arc on one line: 12 y = 5 x + 650,000 is the northern tangent.
-#[test]
-fn slanted_tangents(rt: HostRuntime) -> Result<(), Fail> {
+fn slanted(alloc: Global) -> Result<Hull, Fail> {
     let runways = [
         light(b"A", (0, 0), (1000, 0))?,
         large(b"B", (130_000, 0), (131_000, 0))?,
     ];
-    let hull = hull(rt.alloc(), runways.as_slice())?;
-    let table: [(i64, i64, i16, Option<u32>, Option<u32>, Cap); 12] = [
-        (50_000, 75_000, 1500, None, None, Cap::Level(1500)),
-        (50_000, 75_000, 1501, Some(1), None, Cap::Level(1500)),
-        (50_000, 75_001, 1500, None, None, Cap::Level(1501)),
-        (50_000, 75_001, 1501, None, Some(0), Cap::Level(1501)),
-        (50_000, -75_001, 1502, None, Some(1), Cap::Level(1501)),
-        (50_000, 118_333, 3500, None, Some(0), Cap::Level(3500)),
-        (50_000, 118_334, 9000, None, None, Cap::Beyond),
-        (-50_020, 0, 1501, None, None, Cap::Level(1501)),
-        (-50_021, 0, 1502, None, Some(0), Cap::Level(1502)),
-        (-90_000, 0, 3500, None, None, Cap::Level(3500)),
-        (-90_000, 0, 3501, None, Some(1), Cap::Level(3500)),
-        (-90_001, 0, 9000, None, None, Cap::Beyond),
-    ];
-    for (x, y, top, horizontal, conical, cap) in table {
-        let point = Point::new(x, y)?;
-        let top = level(top);
-        assert_eq!(rt;
-            hull.excess_horizontal(&point, top),
-            horizontal,
-            "at {x}, {y}"
-        );
-        assert_eq!(rt; hull.excess_conical(&point, top), conical, "at {x}, {y}");
-        assert_eq!(rt; hull.cap(&point), cap, "at {x}, {y}");
+    hull(alloc, runways.as_slice())
+}
+
+#[test]
+fn slanted_tangents(rt: HostRuntime) -> Result<(), Fail> {
+    let hull = slanted(rt.alloc())?;
+    for (x, y, top, expected) in [
+        (50_000, 75_000, 1500, under_horizontal(None)),
+        (50_000, 75_000, 1501, under_horizontal(Some(1))),
+        (50_000, 75_001, 1500, under_conical(None, 1501)),
+        (50_000, 75_001, 1501, under_conical(Some(0), 1501)),
+        (50_000, -75_001, 1502, under_conical(Some(1), 1501)),
+        (50_000, 118_333, 3500, under_conical(Some(0), 3500)),
+        (50_000, 118_334, 9000, BEYOND),
+        (-50_020, 0, 1501, under_conical(None, 1501)),
+        (-50_021, 0, 1502, under_conical(Some(0), 1502)),
+        (-90_000, 0, 3500, under_conical(None, 3500)),
+        (-90_000, 0, 3501, under_conical(Some(1), 3500)),
+        (-90_001, 0, 9000, BEYOND),
+    ] {
+        assert_eq!(rt; ask(&hull, x, y, top)?, expected, "at {x}, {y}");
     }
     Ok(())
 }
 
-/// On a tangent, on an arc and on the outer edge.
+/// On both tangents, on both arcs, and on the outer edge.
 #[test]
 fn edges(rt: HostRuntime) -> Result<(), Fail> {
-    let runways = [
-        light(b"A", (0, 0), (1000, 0))?,
-        large(b"B", (130_000, 0), (131_000, 0))?,
-    ];
-    let hull = hull(rt.alloc(), runways.as_slice())?;
+    let hull = slanted(rt.alloc())?;
     for (x, y) in [
         (50_000, 75_000),
         (50_000, -75_000),
@@ -138,48 +170,69 @@ fn edges(rt: HostRuntime) -> Result<(), Fail> {
     Ok(())
 }
 
-/// Three runways far apart, whose centers' triangle alone has the first point; a smaller arc inside a larger one; runways as far apart as
-/// they can be; and none.
+/// The first point is more than 5,000 feet from each side of the triangle.
 #[test]
-fn far_apart_and_inside(rt: HostRuntime) -> Result<(), Fail> {
-    let alloc = rt.alloc();
-    let three = [
+fn three_runways_far_apart(rt: HostRuntime) -> Result<(), Fail> {
+    let runways = [
         light(b"A", (0, 0), (1000, 0))?,
         light(b"B", (400_000, 0), (400_000, 1000))?,
         light(b"C", (0, 400_000), (1000, 400_000))?,
     ];
-    let nested = [
+    let hull = hull(rt.alloc(), runways.as_slice())?;
+    for (x, y, expected) in [
+        (130_000, 130_000, under_horizontal(Some(1))),
+        (235_856, 235_856, under_conical(Some(0), 1501)),
+    ] {
+        assert_eq!(rt; ask(&hull, x, y, 1501)?, expected, "at {x}, {y}");
+    }
+    Ok(())
+}
+
+#[test]
+fn a_smaller_arc_inside_a_larger_one(rt: HostRuntime) -> Result<(), Fail> {
+    let runways = [
         large(b"A", (0, 0), (100_000, 0))?,
         light(b"B", (30_000, 0), (31_000, 0))?,
     ];
-    let far = [
+    let hull = hull(rt.alloc(), runways.as_slice())?;
+    for (x, y, expected) in [
+        (30_000, 100_000, under_horizontal(Some(1))),
+        (30_000, 100_001, under_conical(Some(0), 1501)),
+        (-170_000, 0, BEYOND),
+    ] {
+        assert_eq!(rt; ask(&hull, x, y, 1501)?, expected, "at {x}, {y}");
+    }
+    Ok(())
+}
+
+/// The ends are as far apart as an airport's may be.
+#[test]
+fn greatest_spans(rt: HostRuntime) -> Result<(), Fail> {
+    let runways = [
         large(b"A", (400_000, 400_000), (300_000, 300_000))?,
         large(b"B", (-400_000, -400_000), (-300_000, -300_000))?,
     ];
-    let none: [Runway; 0] = [];
-    let three = hull(alloc, three.as_slice())?;
-    let nested = hull(alloc, nested.as_slice())?;
-    let far = hull(alloc, far.as_slice())?;
-    let none = hull(alloc, none.as_slice())?;
-    for (hull, x, y, horizontal, conical, cap) in [
-        (&three, 130_000, 130_000, Some(1), None, Cap::Level(1500)),
-        (&three, 235_856, 235_856, None, Some(0), Cap::Level(1501)),
-        (&nested, 0, 100_000, Some(1), None, Cap::Level(1500)),
-        (&nested, 0, 100_001, None, Some(0), Cap::Level(1501)),
-        (&nested, -170_000, 0, None, None, Cap::Beyond),
-        (&far, 70_710, -70_710, Some(1), None, Cap::Level(1500)),
-        (&far, 70_711, -70_711, None, Some(0), Cap::Level(1501)),
-        (&far, 98_995, -98_995, None, None, Cap::Beyond),
-        (&none, 0, 0, None, None, Cap::Beyond),
+    let hull = hull(rt.alloc(), runways.as_slice())?;
+    for (x, y, expected) in [
+        (70_710, -70_710, under_horizontal(Some(1))),
+        (70_711, -70_711, under_conical(Some(0), 1501)),
+        (98_994, -98_994, under_conical(None, 3500)),
+        (98_995, -98_995, BEYOND),
+        (540_000, 400_000, under_conical(None, 3500)),
+        (540_001, 400_000, BEYOND),
     ] {
-        let point = Point::new(x, y)?;
-        assert_eq!(rt;
-            hull.excess_horizontal(&point, 1501),
-            horizontal,
-            "at {x}, {y}"
-        );
-        assert_eq!(rt; hull.excess_conical(&point, 1501), conical, "at {x}, {y}");
-        assert_eq!(rt; hull.cap(&point), cap, "at {x}, {y}");
+        assert_eq!(rt; ask(&hull, x, y, 1501)?, expected, "at {x}, {y}");
     }
+    Ok(())
+}
+
+#[test]
+fn no_runways(rt: HostRuntime) -> Result<(), Fail> {
+    let runways: [Runway; 0] = [];
+    let hull = hull(rt.alloc(), runways.as_slice())?;
+    let point = Point::new(0, 0)?;
+    assert_eq!(rt; ask(&hull, 0, 0, 9000)?, BEYOND);
+    assert!(rt; !hull.within(&point, 40_000));
+    assert!(rt; !hull.strictly_within(&point, 40_000));
     Ok(())
 }

@@ -1,9 +1,8 @@
-use Rattle.std.proofs.Common.{◌≡◌, ◌≤◌, ◌∙◌, sym, ap, ℤ, ◌-ℤ◌, ◌+ℤ◌, pos, unsigned_abs, arith, get_or, subst}
-use Rattle.std.proofs.lemmas.Int.{ints}
+use Rattle.std.proofs.Common.{◌∙◌, sym, ap, ◌-ℤ◌, ◌+ℤ◌, pos, arith, subst}
 use Rattle.std.proofs.lemmas.List.{take_all}
 use Rattle.horizontal_hull.specs.Arcs.{ArcShape}
 use Rattle.horizontal_hull.specs.Reaches.{IsReached}
-use Rattle.horizontal_hull.specs.Close.{IsAbout, IsNearReference}
+use Rattle.horizontal_hull.specs.Close.{IsNearReference}
 use Rattle.horizontal_hull.proofs.BoxFacts.{IsAround, about_small, around_about, around_reached, reached_more}
 use Rattle.horizontal_hull.proofs.extent.extent.Goals as goal
 

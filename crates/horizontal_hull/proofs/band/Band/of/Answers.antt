@@ -1,4 +1,4 @@
-use Rattle.std.proofs.Common.{◌≡◌, ◌+◌, ◌-◌, ◌*◌, ◌≤◌, ◌^◌, ◌-ℤ◌, unsigned_abs, FitsSigned, to_z-of_z, arith}
+use Rattle.std.proofs.Common.{◌≤◌, unsigned_abs, FitsSigned, to_z-of_z, arith}
 use Rattle.std.specs.Int.{w128}
 use Rattle.std.proofs.lemmas.Int.{ints}
 use Rattle.horizontal_hull.proofs.Sizes.{along_size, across_size, square_size}

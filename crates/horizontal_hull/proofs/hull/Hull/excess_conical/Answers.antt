@@ -3,7 +3,7 @@ use Rattle.std.proofs.lemmas.Int.{ints}
 use Rattle.grid_exact.specs.Excess.{ExceedsBy}
 use Rattle.grid_exact.specs.Level.{IsLevel}
 use Rattle.grid_exact.proofs.Booleans.{not_from_false}
-use Rattle.horizontal_hull.specs.Within.{AboveConical, ConicalCovers, conical}
+use Rattle.horizontal_hull.specs.Within.{AboveConical, conical}
 use Rattle.horizontal_hull.proofs.Caps.{conical_exceeds, conical_listed, conical_under_top}
 use Rattle.horizontal_hull.proofs.hull.Hull.excess_conical.Goals as goal
 use Rattle.horizontal_hull.proofs.hull.Hull.excess_conical.Goals.{After-least_level}

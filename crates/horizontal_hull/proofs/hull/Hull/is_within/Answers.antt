@@ -6,7 +6,7 @@ use Rattle.horizontal_hull.specs.Capsules.{in_capsule}
 use Rattle.horizontal_hull.specs.Pairs.{some_three, some_two}
 use Rattle.horizontal_hull.specs.Reaches.{IsReached}
 use Rattle.horizontal_hull.specs.Triangles.{in_triangle}
-use Rattle.horizontal_hull.proofs.ConeFacts.{not_within, within_by_capsule, within_by_triangle}
+use Rattle.horizontal_hull.proofs.WithinFacts.{not_within, within_by_capsule, within_by_triangle}
 use Rattle.horizontal_hull.proofs.hull.Hull.is_within.Goals as goal
 
 pub returns-then-not-has : goal.returns-then-not-has

@@ -5,7 +5,7 @@ use Rattle.horizontal_hull.specs.Arcs.{ArcShape}
 use Rattle.horizontal_hull.specs.Capsules.{in_capsule}
 use Rattle.horizontal_hull.specs.Pairs.{some_two}
 use Rattle.horizontal_hull.specs.Reaches.{IsReached}
-use Rattle.horizontal_hull.proofs.ConeFacts.{not_reached, within_beyond}
+use Rattle.horizontal_hull.proofs.WithinFacts.{not_reached, within_beyond}
 use Rattle.horizontal_hull.proofs.hull.Hull.is_within_beyond.Goals as goal
 
 pub returns-then-not-has : goal.returns-then-not-has

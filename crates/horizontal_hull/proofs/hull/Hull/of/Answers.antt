@@ -1,9 +1,9 @@
-use Rattle.std.proofs.Common.{◌≡◌, ◌∙◌, refl, ◌≤◌, ◌^◌, ℤ, ◌+ℤ◌, pos, unsigned_abs, List, ap, rules, arith, sym, subst, FitsSigned, w64, to_z, of_z, to_z-of_z}
+use Rattle.std.proofs.Common.{◌≡◌, ◌∙◌, refl, ℤ, ◌+ℤ◌, pos, List, ap, arith, sym, subst, FitsSigned, w64, to_z, of_z, to_z-of_z}
 use Rattle.std.specs.List.{All, flat_map}
 use Rattle.std.proofs.lemmas.Int.{ints}
 use Rattle.airport_register.specs.Runways.{IsElevation}
 use Rattle.horizontal_hull.specs.Arcs.{ArcShape, Dome, arcs_of_runway, dome_of}
-use Rattle.horizontal_hull.specs.Close.{IsHull, IsNearReference}
+use Rattle.horizontal_hull.specs.Close.{IsNearReference}
 use Rattle.horizontal_hull.specs.Reaches.{IsReached}
 use Rattle.horizontal_hull.proofs.ArcFacts.{arcs_near}
 use Rattle.horizontal_hull.proofs.hull.Hull.of.Goals as goal

@@ -1,4 +1,4 @@
-use Rattle.std.proofs.Common.{◌≡◌, ◌⊎◌, inl, inr, ℕ, ◌+◌, ◌-◌, ◌*◌, ◌/◌, ◌<◌, ◌≤◌, arith}
+use Rattle.std.proofs.Common.{inl, inr, ℕ, ◌+◌, ◌-◌, ◌*◌, ◌/◌, arith}
 use Rattle.std.proofs.lemmas.Bool.{cases_lt}
 use Rattle.grid_exact.proofs.Booleans.{not_from_false}
 use Rattle.horizontal_hull.specs.declared.edge.Edge.TheVariants.{Closed}

@@ -1,17 +1,16 @@
--- Where no triangle has a point, and the least level at or above the conical surface.
-use Rattle.std.proofs.Common.{◌≡◌, ◌↔◌, inl, inr, ℕ, ◌*◌, ◌≤◌, ℤ, pos, ◌+ℤ◌, ◌-ℤ◌, ◌≤ℤ◌, unsigned_abs, List, Bool, true, false, ◌||◌, IsTrue, arith, refl, sym, ◌∙◌}
+-- What is within, by its two parts, and where one of them has no point.
+use Rattle.std.proofs.Common.{◌≡◌, ◌↔◌, ℕ, ◌≤◌, List, Bool, true, false, ◌||◌, IsTrue, refl, sym, ◌∙◌}
 use Rattle.std.specs.List.{All}
-use Rattle.std.proofs.lemmas.Int.{ints}
 use Rattle.grid_exact.specs.declared.area.Area.{Area}
 use Rattle.grid_exact.specs.declared.point.Point.{Point}
 use Rattle.grid_exact.specs.Area.{Has}
 use Rattle.horizontal_hull.specs.declared.edge.Edge.{Edge}
 use Rattle.horizontal_hull.specs.declared.edge.Edge.TheVariants.{Closed}
-use Rattle.horizontal_hull.specs.Arcs.{ArcShape, Dome}
+use Rattle.horizontal_hull.specs.Arcs.{ArcShape}
 use Rattle.horizontal_hull.specs.Pairs.{some_three, some_two}
 use Rattle.horizontal_hull.specs.Capsules.{in_capsule}
 use Rattle.horizontal_hull.specs.Triangles.{in_triangle}
-use Rattle.horizontal_hull.specs.Within.{AtConical, IsLeastConical, Within, is_within, run_to}
+use Rattle.horizontal_hull.specs.Within.{Within, is_within}
 use Rattle.horizontal_hull.specs.Reaches.{IsReached}
 use Rattle.horizontal_hull.proofs.Tests.{Within-test}
 use Rattle.horizontal_hull.proofs.Reach.{Within_reach}
@@ -70,18 +69,3 @@ not_reached reach edge arcs x c h l n w = n (Within_reach reach edge arcs x c h 
 
 pub not_within : (reach : Area) (edge : Edge) (arcs : List ArcShape) (x : Point) (c : ℕ) → All (IsReached reach) arcs → c ≤ 40000 → (Has reach x → ⊥) → false ≡ is_within edge arcs x c
 not_within reach edge arcs x c h l n = sym (false_test (is_within edge arcs x c) (Within-test edge arcs x c) (not_reached reach edge arcs x c h l n))
-
--- ---- the least level
-run_of : (level : ℤ) (k : ℕ) → 20 * unsigned_abs (level +ℤ pos k -ℤ level) ≡ 20 * k
-run_of level k = omega (arith, ints)
-
-pub least_from_rise : (d : Dome) (x : Point) (k : ℕ) → Within Closed d.arcs x (20 * k) → ((j : ℕ) → Within Closed d.arcs x (20 * j) → k ≤ j) → IsLeastConical d x (d.level +ℤ pos k)
-least_from_rise d x k h least = record {
-  reaches = record { not_below = omega (arith, ints); within = rw (run_of d.level k) h };
-  least = λ y r. (let l : k ≤ unsigned_abs (y -ℤ d.level) = least (unsigned_abs (y -ℤ d.level)) r.within in let b : d.level ≤ℤ y = r.not_below in above d.level y k b l);
-}
-  where
-    above : (level y : ℤ) (k : ℕ) → level ≤ℤ y → k ≤ unsigned_abs (y -ℤ level) → (level +ℤ pos k) ≤ℤ y
-    above level y k b l = omega (arith, ints, b, l)
-
-pub ruleset tests = (Within-test)
