@@ -22,11 +22,7 @@ use grid_exact::{Point, excess};
 fn sub_of(runways: &Runways) -> Sub
     ensures { result ≡ sub_of_runways runways.now }
 {
-    if runways.has_long() {
-        Sub::B1
-    } else {
-        Sub::B2
-    }
+    if runways.has_long() { Sub::B1 } else { Sub::B2 }
 }
 
 /// The slope from the runway over the point.
