@@ -1,5 +1,5 @@
 -- The ends of a runway, the centers of its primary surface's ends, and its class: 77.19(c).
-use Rattle.std.specs.Prelude.{ℕ, ℤ, ◌-ℤ◌}
+use Rattle.std.specs.Prelude.{ℤ, ◌-ℤ◌}
 use Rattle.grid_exact.specs.Lines.{Line}
 use Rattle.runway_classes.specs.declared.class.EndClass.{EndClass}
 use Rattle.runway_classes.specs.declared.class.RunwayClass.{RunwayClass}
