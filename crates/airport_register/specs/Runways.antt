@@ -1,5 +1,5 @@
 -- Runways, and the limits of one runway.
-use Rattle.std.specs.Prelude.{ℕ, ◌+◌, ◌*◌, ◌≤◌, ◌≡◌, ◌≢◌, List, ℤ, pos, neg_ℤ, ◌-ℤ◌, ◌≤ℤ◌, int_le, unsigned_abs, Bool, true, false, ◌&&◌, ◌||◌, nat_le}
+use Rattle.std.specs.Prelude.{ℕ, ◌+◌, ◌*◌, ◌≤◌, ◌≡◌, ◌≢◌, List, ℤ, pos, neg_ℤ, ◌-ℤ◌, ◌≤ℤ◌, int_le, unsigned_abs, Bool, true, false, ◌&&◌, ◌||◌, nat_le, nat_lt}
 use Rattle.runway_classes.specs.declared.ApproachKind.{ApproachKind}
 use Rattle.runway_classes.specs.declared.ApproachKind.TheVariants.{Visual, NonprecisionAbove, NonprecisionLow, Precision}
 use Rattle.grid_exact.specs.declared.point.Point.{Point}
@@ -15,6 +15,10 @@ apart a b = unsigned_abs (a -ℤ b)
 -- the square of the length, from end to end
 abbrev pub length_square : Runway → ℕ
 length_square r = apart r.end1.at.x r.end2.at.x * apart r.end1.at.x r.end2.at.x + apart r.end1.at.y r.end2.at.y * apart r.end1.at.y r.end2.at.y
+
+-- a runway of more than 3,200 feet
+abbrev pub is_long : Runway → Bool
+is_long r = nat_lt (32000 * 32000) (length_square r)
 
 -- a runway is 1,000 to 200,000 tenths of a foot long
 pub record IsWithinLength (r : Runway) : Type 0 where

@@ -1,11 +1,11 @@
 //! The runways of one airport.
 
 ghost use Rattle.std.specs.Prelude.{◌≡◌, [], length, slice_get, option_copied, is_some, IfOk};
-ghost use Rattle.std.specs.List.{list_all};
+ghost use Rattle.std.specs.List.{list_all, list_any};
 ghost use Rattle.std.specs.List.Sorted.{IsBinarySearchResult, IsSearchInRange};
 ghost use Rattle.ordered_list.specs.Ordered.{Rises, put_by, removed_by};
 ghost use Rattle.airport_register.specs.Names.{name_cmp};
-ghost use Rattle.airport_register.specs.Runways.{name_of, has_near_ends};
+ghost use Rattle.airport_register.specs.Runways.{name_of, has_near_ends, is_long};
 ghost use Rattle.airport_register.specs.Amendments.{runway_at};
 
 use crate::names::RunwayName;
@@ -13,6 +13,9 @@ use crate::runway::Runway;
 use grid_exact::{NoMemory, Point};
 use std::alloc::Global;
 use std::marker::Model;
+
+/// The square of 3,200 feet.
+const LONG_SQUARE: u64 = 32_000 * 32_000;
 
 /// The runways of one airport, seen as their list in rising order of name.
 #[derive(Drop)]
@@ -88,8 +91,21 @@ impl Runways {
         self.items.iter().all(|runway| runway.has_near_ends(arp))
     }
 
+    /// Whether one of them is longer than 3,200 feet, which 77.9(b) and 77.17(a)(2) ask for.
+    pub fn has_long(&self) -> bool
+        ensures { result ≡ list_any is_long self.now }
+    {
+        self.items
+            .iter()
+            .any(|runway| runway.square_length() > LONG_SQUARE)
+    }
+
     /// A copy.
-    pub(crate) fn copy(&self, alloc: Global) -> Result<Runways, NoMemory>
+    ///
+    /// # Errors
+    ///
+    /// `NoMemory` where memory was refused.
+    pub fn copy(&self, alloc: Global) -> Result<Runways, NoMemory>
         ensures copied { IfOk result (λ r. r ≡ self.now) }
     {
         Ok(Runways {

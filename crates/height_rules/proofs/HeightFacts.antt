@@ -1,5 +1,5 @@
 -- Sums of heights, and the excess over one height.
-use Rattle.std.proofs.Common.{◌≡◌, ℕ, ℤ, pos, neg_ℤ, ◌+ℤ◌, ◌≤ℤ◌, ◌^◌, ◌≤◌, FitsSigned, w64, to_z, of_z, to_z-of_z, arith, refl, sym, ap, ◌∙◌, Option, Bool, true}
+use Rattle.std.proofs.Common.{◌≡◌, ℕ, ℤ, pos, neg_ℤ, ◌+ℤ◌, ◌≤ℤ◌, ◌^◌, ◌≤◌, FitsSigned, w64, to_z, of_z, to_z-of_z, arith, refl, sym, Option, true}
 use Rattle.std.specs.Prelude.{⊤, IfSome}
 use Rattle.std.proofs.lemmas.Int.{ints}
 use Rattle.grid_exact.specs.Excess.{IsExcess, flat_surface, flat_excess_of}

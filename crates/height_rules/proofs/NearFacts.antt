@@ -1,6 +1,6 @@
 -- The limit near an airport: its lowest level, and its excess as the tests compute it.
-use Rattle.std.proofs.Common.{◌≡◌, ℕ, ℤ, pos, ◌+ℤ◌, ◌-ℤ◌, ◌*ℤ◌, ◌≤ℤ◌, ◌<ℤ◌, ◌<◌, ◌≤◌, ◌^◌, arith, refl, sym, ap, ◌∙◌, Option, Some, None, Bool, true, false, cond, inl, inr}
-use Rattle.std.specs.Prelude.{int_le, int_lt, IsTrue, ◌&&◌, IfSome}
+use Rattle.std.proofs.Common.{◌≡◌, ℕ, ℤ, pos, ◌+ℤ◌, ◌≤ℤ◌, ◌<ℤ◌, ◌<◌, ◌≤◌, ◌^◌, arith, refl, sym, Option, Bool, true, false, cond, inl, inr}
+use Rattle.std.specs.Prelude.{int_le, int_lt, ◌&&◌, IfSome}
 use Rattle.std.specs.Bool.{MatchBool}
 use Rattle.std.specs.Int.{int_max}
 use Rattle.std.specs.List.{list_any}
@@ -10,14 +10,15 @@ use Rattle.std.proofs.lemmas.Int.{ints, by_lt_z}
 use Rattle.grid_exact.specs.Root.{signed_square, AtLeastRoot, AboveRoot}
 use Rattle.grid_exact.specs.Excess.{IsExcess, most_excess}
 use Rattle.grid_exact.proofs.IntLaws.{signed_square_le}
-use Rattle.grid_exact.proofs.ExcessLemmas.{Tests, excess_of-is, within_most}
+use Rattle.grid_exact.proofs.ExcessLemmas.{excess_of-is, within_most}
 use Rattle.airport_register.specs.Sites.{Site}
 use Rattle.airport_register.specs.Categories.{is_described}
+use Rattle.airport_register.specs.Runways.{is_long}
 use Rattle.airport_register.specs.declared.airfield.Airport.{Airport}
 use Rattle.height_rules.specs.Heights.{standards_top}
 use Rattle.height_rules.specs.Limits.{IsAtLimit, IsAboveLimit, is_inner, reach_of}
 use Rattle.height_rules.specs.Laws.{above_reaches}
-use Rattle.height_rules.specs.NearAirport.{IsNear, near_surface, near_excess, is_near, is_at_limit, is_above_limit, is_at_least_root, is_above_root, is_long, square_distance, base_of}
+use Rattle.height_rules.specs.NearAirport.{IsNear, near_surface, near_excess, is_near, is_at_limit, is_above_limit, is_at_least_root, is_above_root, square_distance, base_of}
 
 -- beyond three nautical miles
 far_of : (d2 : ℕ) → is_inner d2 ≡ false → 33227092089 < d2

@@ -1,26 +1,20 @@
 -- 77.17(a)(2): heights within six nautical miles of an airport's reference point.
-use Rattle.std.specs.Prelude.{ℕ, ℤ, pos, ◌+ℤ◌, ◌-ℤ◌, ◌*ℤ◌, ◌≤ℤ◌, ◌<ℤ◌, ◌*◌, ◌≡◌, ◌&&◌, Option, Bool, true, int_le, int_lt, nat_lt, nat_le, if◌then◌else◌}
+use Rattle.std.specs.Prelude.{ℕ, ℤ, pos, ◌+ℤ◌, ◌-ℤ◌, ◌*ℤ◌, ◌≡◌, ◌&&◌, Option, Bool, true, int_le, int_lt, if◌then◌else◌}
 use Rattle.std.specs.Int.{int_max}
-use Rattle.std.specs.Bool.{MatchBool}
 use Rattle.std.specs.List.{list_any}
-use Rattle.grid_exact.specs.Root.{AtLeastRoot, AboveRoot, signed_square}
+use Rattle.grid_exact.specs.Root.{AtLeastRoot, signed_square}
 use Rattle.grid_exact.specs.Excess.{Surface, excess_of, most_excess}
 use Rattle.grid_exact.specs.Vector.{length_of}
 use Rattle.airport_register.specs.Categories.{is_described}
-use Rattle.airport_register.specs.Runways.{length_square}
+use Rattle.airport_register.specs.Runways.{is_long}
 use Rattle.airport_register.specs.Sites.{Site}
 use Rattle.airport_register.specs.declared.airfield.Airport.{Airport}
-use Rattle.airport_register.specs.declared.runway.Runway.{Runway}
 use Rattle.height_rules.specs.Heights.{standards_top}
 use Rattle.height_rules.specs.Limits.{IsAtLimit, IsAboveLimit, is_inner, reach_of}
 
 -- the square of the distance to the airport's reference point
 abbrev pub square_distance : Airport → Site → ℕ
 square_distance a s = length_of (s.at.x -ℤ a.arp.x) (s.at.y -ℤ a.arp.y)
-
--- a runway of more than 3,200 feet
-abbrev pub is_long : Runway → Bool
-is_long r = nat_lt (32000 * 32000) (length_square r)
 
 -- the airport is of a described category and has a long runway, and the site is at most 5.99 nautical miles, of 60,761 each,
 -- from its reference point: 100 * d <= 599 * 60,761

@@ -1,21 +1,17 @@
 //! Heights near an airport's reference point.
 
 ghost use Rattle.std.specs.Prelude.{◌≡◌, ◌↔◌, ◌≤◌, ◌^◌, ◌<ℤ◌, pos, IsTrue, IfSome};
-ghost use Rattle.std.specs.List.{list_any};
 ghost use Rattle.grid_exact.specs.Excess.{IsExcess};
 ghost use Rattle.grid_exact.specs.Level.{IsLevel};
 ghost use Rattle.grid_exact.specs.Root.{AtLeastRoot};
 ghost use Rattle.height_rules.specs.Heights.{standards_top};
-ghost use Rattle.height_rules.specs.NearAirport.{IsNear, near_surface, near_excess, square_distance as square_distance_of, base_of, is_long};
+ghost use Rattle.height_rules.specs.NearAirport.{IsNear, near_surface, near_excess, square_distance as square_distance_of, base_of};
 ghost use Rattle.height_rules.specs.Limits.{IsLow};
 
 use crate::heights::top_for_standards;
 use crate::limit::NearLimit;
-use airport_register::{Airport, Filing, Runway};
+use airport_register::{Airport, Filing};
 use grid_exact::{Vector, excess, is_at_least_root};
-
-/// The square of 3,200 feet.
-const LONG_SQUARE: u64 = 32_000 * 32_000;
 
 /// The square of the distance between the structure and the airport's reference point.
 fn square_distance(airport: &Airport, filing: &Filing) -> u128
@@ -23,15 +19,6 @@ fn square_distance(airport: &Airport, filing: &Filing) -> u128
     ensures size { result ≤ 2 ^ 55 }
 {
     Vector::between(&airport.arp, &filing.at).square_length()
-}
-
-/// Whether one of the runways is longer than 3,200 feet.
-fn has_long_runway(runways: &[Runway]) -> bool
-    ensures { result ≡ list_any is_long runways.now }
-{
-    runways
-        .iter()
-        .any(|runway| runway.square_length() > LONG_SQUARE)
 }
 
 /// Whether the limit is asked of this airport and structure.
@@ -44,7 +31,7 @@ fn is_near(airport: &Airport, filing: &Filing) -> bool
     if !airport.category.described() {
         return false;
     }
-    has_long_runway(airport.runways.as_slice())
+    airport.runways.has_long()
 }
 
 /// The higher of the ground at the site and the airport.

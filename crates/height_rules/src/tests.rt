@@ -1,10 +1,13 @@
-use crate::{excess_200, excess_499, excess_near_airport};
+//! Worked values, by exact fractions.
+
+use crate::{allowance, excess_200, excess_499, excess_near_airport};
 use airport_register::{
     Airfield, Amendment, Category, FieldId, Filing, Flags, Register, Runway, RunwayEnd, RunwayName,
     StructureKind,
 };
 use grid_exact::Point;
 use runway_classes::ApproachKind;
+use std::alloc::Global;
 use std::test::Fail;
 
 const NO_FLAGS: Flags = Flags {
@@ -16,18 +19,70 @@ const NO_FLAGS: Flags = Flags {
     temporary: false,
 };
 
+const CONTROLLED: Flags = Flags {
+    controlled: true,
+    ..NO_FLAGS
+};
+
+/// A table asks for what is not there.
+#[derive(Clone, Copy, Debug)]
+struct BadTable;
+
 fn object(x: i64, y: i64, ground: i64, height: i64) -> Result<Filing, Fail> {
     let at = Point::new(x, y)?;
     Ok(Filing::new(at, ground, height, StructureKind::Object, 0, NO_FLAGS, None)?)
 }
 
-fn end(x: i64, z: i64) -> Result<RunwayEnd, Fail> {
+/// A structure at the airport's reference point, on ground as high.
+fn way(kind: StructureKind, height: i64, mobile: i64, flags: Flags) -> Result<Filing, Fail> {
+    let at = Point::new(0, 0)?;
+    Ok(Filing::new(at, 1000, height, kind, mobile, flags, None)?)
+}
+
+fn end(x: i64) -> Result<RunwayEnd, Fail> {
     let at = Point::new(x, 0)?;
     Ok(RunwayEnd {
         at,
-        z,
+        z: 1000,
         kind: ApproachKind::Visual,
     })
+}
+
+fn runway(from: i64, to: i64) -> Result<Runway, Fail> {
+    let name = RunwayName::new(b"09/27")?;
+    Ok(Runway {
+        name,
+        utility: false,
+        hard: true,
+        end1: end(from)?,
+        end2: end(to)?,
+    })
+}
+
+/// A register of one airport of this category with a long runway.
+fn register(alloc: Global, category: Category) -> Result<Register, Fail> {
+    let id = FieldId::new(b"AAA")?;
+    let arp = Point::new(0, 0)?;
+    let runway = runway(-50_000, 50_000)?;
+    let mut register = Register::empty(alloc);
+    let put = Amendment::PutAirport {
+        id,
+        category,
+        arp,
+        elevation: 1000,
+    };
+    register.amend(alloc, &put)?;
+    register.amend(alloc, &Amendment::PutRunway { id, runway })?;
+    Ok(register)
+}
+
+/// How far a structure is above the limit near the airport of the register.
+fn near(register: &Register, filing: &Filing) -> Result<Option<u32>, Fail> {
+    let id = FieldId::new(b"AAA")?;
+    match register.get(&id) {
+        Some(Airfield::Airport(airport)) => Ok(excess_near_airport(airport, filing)),
+        _ => Err(BadTable)?,
+    }
 }
 
 #[test]
@@ -46,46 +101,90 @@ fn heights_above_the_ground(rt: HostRuntime) -> Result<(), Fail> {
 }
 
 #[test]
+fn traverse_ways(rt: HostRuntime) -> Result<(), Fail> {
+    for (kind, mobile, raised, notice, standard) in [
+        (StructureKind::Object, 0, 0, Some(2900), None),
+        (StructureKind::Antenna, 0, 0, Some(2900), None),
+        (StructureKind::Interstate, 0, 170, Some(3070), Some(80)),
+        (StructureKind::Road, 0, 150, Some(3050), Some(60)),
+        (StructureKind::Private, 0, 100, Some(3000), Some(10)),
+        (StructureKind::Private, 99, 100, Some(3000), Some(10)),
+        (StructureKind::Private, 101, 101, Some(3001), Some(11)),
+        (StructureKind::Private, 1000, 1000, Some(3900), Some(910)),
+        (StructureKind::Rail, 0, 230, Some(3130), Some(140)),
+        (StructureKind::Water, 0, 0, Some(2900), None),
+        (StructureKind::Water, 1000, 1000, Some(3900), Some(910)),
+    ] {
+        let open = way(kind, 4900, mobile, NO_FLAGS)?;
+        assert_eq!(rt; allowance(&open), raised, "{kind:?}, {mobile}");
+        assert_eq!(rt; excess_200(&open), notice, "{kind:?}, {mobile}");
+        assert_eq!(rt; excess_499(&open), standard, "{kind:?}, {mobile}");
+        let controlled = way(kind, 4900, mobile, CONTROLLED)?;
+        assert_eq!(rt; excess_200(&controlled), notice, "{kind:?}, {mobile}");
+        assert_eq!(rt; excess_499(&controlled), None, "{kind:?}, {mobile}");
+    }
+    Ok(())
+}
+
+#[test]
+fn traverse_ways_near_an_airport(rt: HostRuntime) -> Result<(), Fail> {
+    let airport = register(rt.alloc(), Category::PublicUse)?;
+    for (kind, height, mobile, excess) in [
+        (StructureKind::Interstate, 1831, 0, 1),
+        (StructureKind::Road, 2000, 0, 150),
+        (StructureKind::Private, 1950, 0, 50),
+        (StructureKind::Rail, 1771, 0, 1),
+        (StructureKind::Water, 1701, 300, 1),
+    ] {
+        let open = way(kind, height, mobile, NO_FLAGS)?;
+        assert_eq!(rt; near(&airport, &open)?, Some(excess), "{kind:?}");
+        let controlled = way(kind, height, mobile, CONTROLLED)?;
+        assert_eq!(rt; near(&airport, &controlled)?, None, "{kind:?}");
+    }
+    Ok(())
+}
+
+#[test]
 fn heights_near_an_airport(rt: HostRuntime) -> Result<(), Fail> {
-    let id = FieldId::new(b"AAA")?;
-    let mut register = Register::empty(rt.alloc());
-    register.amend(
-        rt.alloc(),
-        &Amendment::PutAirport {
-            id,
-            category: Category::PublicUse,
-            arp: Point::new(0, 0)?,
-            elevation: 1000,
-        },
-    )?;
-    let runway = Runway {
-        name: RunwayName::new(b"09/27")?,
-        utility: false,
-        hard: true,
-        end1: end(-50_000, 1000)?,
-        end2: end(50_000, 1000)?,
-    };
-    register.amend(rt.alloc(), &Amendment::PutRunway { id, runway })?;
-    let Some(Airfield::Airport(airport)) = register.get(&id) else {
-        assert!(rt; false);
-        return Ok(());
-    };
-    // Inside 3 nautical miles, at its edge and just outside; at 5.99 and past it; on higher ground.
+    let airport = register(rt.alloc(), Category::PublicUse)?;
+    // Inside 3 nautical miles, at their end and a tenth past it; at 5.99 and a tenth past it; on higher and on lower ground.
     for (x, y, ground, height, excess) in [
         (128_893, 128_893, 1000, 2001, Some(1)),
         (128_894, 128_894, 1000, 2001, Some(0)),
         (182_283, 0, 1000, 2000, None),
+        (182_283, 0, 1500, 2001, Some(1)),
+        (182_283, 0, 500, 2500, None),
+        (182_283, 0, 500, 2501, Some(1)),
+        (182_284, 0, 1500, 2001, Some(0)),
+        (182_284, 0, 500, 2501, Some(0)),
         (363_958, 0, 1000, 4991, Some(1)),
-        (363_959, 0, 1000, 5000, None),
+        (363_958, 0, 1500, 4990, Some(0)),
+        (363_958, 0, 500, 5491, Some(1)),
+        (363_959, 0, 1500, 9000, None),
+        (-257_357, -257_357, 500, 5500, Some(10)),
+        (-257_358, 257_357, 1500, 9000, None),
         (0, 0, 1500, 2000, None),
-        (0, 0, 500, 2501, Some(1)),
     ] {
         let filing = object(x, y, ground, height)?;
-        assert_eq!(rt;
-            excess_near_airport(airport, &filing),
-            excess,
-            "at {x}, {y}"
-        );
+        assert_eq!(rt; near(&airport, &filing)?, excess, "at {x}, {y}");
+    }
+    Ok(())
+}
+
+#[test]
+fn categories_of_airports(rt: HostRuntime) -> Result<(), Fail> {
+    let filing = object(0, 0, 1000, 2001)?;
+    for (category, excess) in [
+        (Category::PublicUse, Some(1)),
+        (Category::PublicBuilding, Some(1)),
+        (Category::MilitaryBuilding, Some(1)),
+        (Category::Federal, Some(1)),
+        (Category::Dod, Some(1)),
+        (Category::Procedure, Some(1)),
+        (Category::OtherPrivate, None),
+    ] {
+        let airport = register(rt.alloc(), category)?;
+        assert_eq!(rt; near(&airport, &filing)?, excess, "{category:?}");
     }
     Ok(())
 }

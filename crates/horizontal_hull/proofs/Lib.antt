@@ -1,0 +1,12 @@
+pub mod SomeFacts
+pub mod Tests
+pub mod Grows
+pub mod Bounds
+pub mod Reach
+pub mod BoxFacts
+pub mod ArcFacts
+pub mod Sizes
+pub mod Caps
+pub mod Worked
+pub mod CloseFacts
+pub mod ConeFacts

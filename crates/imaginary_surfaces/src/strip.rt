@@ -52,6 +52,13 @@ impl Strip {
         }
     }
 
+    /// The runway.
+    pub fn runway(&self) -> &Runway
+        ensures { result.now ≡ self.now }
+    {
+        &self.runway
+    }
+
     /// The approach surface of this end.
     fn approach(&self, end: End) -> &ApproachSurface
         ensures shape { approach_shape result.now ≡ approach_of self.now end }

@@ -1,21 +1,33 @@
 -- How many findings there are at most.
-use Rattle.std.proofs.Common.{arith, ℕ, zero, suc, ◌≡◌, ◌≤◌, ◌<◌, ◌+◌, ◌-◌, ◌*◌, ◌^◌, List, [], ◌∷◌, ◌++◌, length, Option, Some, None, Bool, true, false, min, ap, if◌then◌else◌}
+use Rattle.std.proofs.Common.{arith, ℕ, zero, suc, ℤ, ◌≡◌, ◌≤◌, ◌<◌, ◌+◌, ◌-◌, ◌*◌, ◌^◌, List, [], ◌∷◌, ◌++◌, length, Option, Some, None, Bool, true, false, is_none, min, ap, if◌then◌else◌}
 use Rattle.std.specs.List.{All, flat_map}
+use Rattle.std.specs.Option.{option_map, option_to_list}
 use Rattle.std.proofs.lemmas.List.{length-append}
 use Rattle.std.proofs.Math.Nat.{min-eq_left}
+use Rattle.grid_exact.specs.declared.cap.Cap.{Cap}
+use Rattle.grid_exact.specs.declared.point.Point.{Point}
 use Rattle.airport_register.specs.Airfields.{IsHeld, IsRegister}
-use Rattle.airport_register.specs.Categories.{has_civil_surfaces}
+use Rattle.airport_register.specs.Categories.{has_civil_surfaces, is_described}
 use Rattle.airport_register.specs.Sites.{Site}
 use Rattle.airport_register.specs.declared.airfield.Airport.{Airport}
+use Rattle.airport_register.specs.declared.airfield.Heliport.{Heliport}
 use Rattle.airport_register.specs.declared.airfield.Airfield.{Airfield}
 use Rattle.airport_register.specs.declared.airfield.Airfield.TheVariants.{Airport as AnAirport, Heliport as AHeliport}
 use Rattle.airport_register.specs.declared.runway.Runway.{Runway}
 use Rattle.height_rules.specs.AboveGround.{notice_excess, height_excess}
-use Rattle.height_rules.specs.Heights.{standards_top}
+use Rattle.height_rules.specs.Heights.{notice_top, standards_top}
 use Rattle.height_rules.specs.NearAirport.{near_excess}
-use Rattle.imaginary_surfaces.specs.Strips.{primary_excess, approach_excess}
+use Rattle.horizontal_hull.specs.Arcs.{dome_of}
+use Rattle.horizontal_hull.specs.Within.{horizontal_excess, conical_excess, cap_of}
+use Rattle.imaginary_surfaces.specs.Strips.{primary_excess, approach_excess, primary_transition_excess, approach_transition_excess}
 use Rattle.runway_lines.specs.declared.end.End.TheVariants as ends
-use Rattle.oe_findings.specs.List.{entries, no_key, field_key, runway_key, of_runway, of_runways, of_airfield, findings_of}
+use Rattle.heliport_surfaces.specs.Pads.{pad_primary_excess, pad_approach_excess, pad_transition_excess, pad_notice_excess}
+use Rattle.heliport_surfaces.specs.declared.parts.PadEnd.TheVariants as pad_ends
+use Rattle.heliport_surfaces.specs.declared.parts.Beside.TheVariants as sides
+use Rattle.notice_slopes.specs.Exemptions.{exemption_of}
+use Rattle.notice_slopes.specs.OnAirfields.{is_on_described}
+use Rattle.notice_slopes.specs.Notices.{notice_slope}
+use Rattle.oe_findings.specs.List.{entries, no_key, field_key, runway_key, of_runway, of_civil, of_pad, of_airfield, rule_a, rule_b3, slope_finding, slope_entries, on_airfield, notices_of, notices_if_due, findings_of}
 use Rattle.oe_findings.specs.Verdicts.{tally_of, verdict_of, asks_notice, is_obstruction}
 use Rattle.oe_findings.specs.declared.finding.Finding.{Finding}
 use Rattle.oe_findings.specs.declared.finding.SurfaceKey.{SurfaceKey}
@@ -40,36 +52,88 @@ any_parts : {X A : Type 0} (f : X → List A) (n : ℕ) → ((x : X) → length 
 any_parts f n most [] = omega arith
 any_parts f n most (x ∷ xs) = omega (arith, length-append (f x) (flat_map f xs), most x, any_parts f n most xs)
 
-of_one_runway : (id : List ℕ) (site : Site) (r : Runway) → length (of_runway id site r) ≤ 3
-of_one_runway id site r =
-    let top = standards_top site in
-    let e0 = entries rules.Primary (runway_key id r 0) (primary_excess r site.at top) in
-    let e1 = entries rules.Approach (runway_key id r 1) (approach_excess r ends.One site.at top) in
-    let e2 = entries rules.Approach (runway_key id r 2) (approach_excess r ends.Two site.at top) in
-    two_parts (e0 ++ e1) e2 2 1
-    (two_parts e0 e1 1 1 (one rules.Primary (runway_key id r 0) (primary_excess r site.at top)) (one rules.Approach (runway_key id r 1) (approach_excess r ends.One site.at top)))
-    (one rules.Approach (runway_key id r 2) (approach_excess r ends.Two site.at top))
+six_parts : {A : Type 0} (a b d e f g : List A) → length a ≤ 1 → length b ≤ 1 → length d ≤ 1 → length e ≤ 1 → length f ≤ 1 → length g ≤ 1 → length (a ++ b ++ d ++ e ++ f ++ g) ≤ 6
+six_parts a b d e f g h1 h2 h3 h4 h5 h6 =
+    two_parts (a ++ b ++ d ++ e ++ f) g 5 1 (two_parts (a ++ b ++ d ++ e) f 4 1 (two_parts (a ++ b ++ d) e 3 1 (two_parts (a ++ b) d 2 1 (two_parts a b 1 1 h1 h2) h3) h4) h5) h6
 
-of_all_runways : (site : Site) (a : Airport) → length a.runways ≤ 16 → length (of_runways site a) ≤ 48
-of_all_runways site a few =
-    elim (has_civil_surfaces a.category) as (λ b. length (if b then flat_map (of_runway a.id site) a.runways else []) ≤ 48) [
-      | true ↦ omega (arith, any_parts (of_runway a.id site) 3 (of_one_runway a.id site) a.runways, few)
-      | false ↦ omega arith
-    ]
+of_one_runway : (id : List ℕ) (at : Point) (top : ℤ) (cap : Cap) (r : Runway) → length (of_runway id at top cap r) ≤ 6
+of_one_runway id at top cap r =
+    let k0 = runway_key id r.name 0 in
+    let k1 = runway_key id r.name 1 in
+    let k2 = runway_key id r.name 2 in
+    let x1 = primary_excess r at top in
+    let x2 = approach_excess r ends.One at top in
+    let x3 = approach_excess r ends.Two at top in
+    let x4 = primary_transition_excess r at cap top in
+    let x5 = approach_transition_excess r ends.One at cap top in
+    let x6 = approach_transition_excess r ends.Two at cap top in
+    six_parts (entries rules.Primary k0 x1) (entries rules.Approach k1 x2) (entries rules.Approach k2 x3) (entries rules.Transition k0 x4) (entries rules.Transition k1 x5) (entries rules.Transition k2 x6)
+    (one rules.Primary k0 x1) (one rules.Approach k1 x2) (one rules.Approach k2 x3) (one rules.Transition k0 x4) (one rules.Transition k1 x5) (one rules.Transition k2 x6)
 
-of_one_airfield : (site : Site) (f : Airfield) → IsHeld f → length (of_airfield site f) ≤ 49
+of_all_civil : (at : Point) (top : ℤ) (a : Airport) → length a.runways ≤ 16 → length (of_civil at top a) ≤ 98
+of_all_civil at top a few =
+    let k = field_key a.id 0 in
+    let x1 = horizontal_excess (dome_of a) at top in
+    let x2 = conical_excess (dome_of a) at top in
+    let f = of_runway a.id at top (cap_of (dome_of a) at) in
+    two_parts (entries rules.Horizontal k x1 ++ entries rules.Conical k x2) (flat_map f a.runways) 2 96
+    (two_parts (entries rules.Horizontal k x1) (entries rules.Conical k x2) 1 1 (one rules.Horizontal k x1) (one rules.Conical k x2))
+    (omega (arith, any_parts f 6 (of_one_runway a.id at top (cap_of (dome_of a) at)) a.runways, few))
+
+of_one_pad : (at : Point) (top : ℤ) (h : Heliport) → length (of_pad at top h) ≤ 6
+of_one_pad at top h =
+    let k0 = field_key h.id 0 in
+    let k1 = field_key h.id 1 in
+    let k2 = field_key h.id 2 in
+    let x1 = pad_primary_excess h at top in
+    let x2 = pad_approach_excess h pad_ends.One at top in
+    let x3 = pad_approach_excess h pad_ends.Two at top in
+    let x4 = pad_transition_excess h sides.Primary at top in
+    let x5 = pad_transition_excess h sides.ApproachOne at top in
+    let x6 = pad_transition_excess h sides.ApproachTwo at top in
+    six_parts (entries rules.PadPrimary k0 x1) (entries rules.PadApproach k1 x2) (entries rules.PadApproach k2 x3) (entries rules.PadTransition k0 x4) (entries rules.PadTransition k1 x5) (entries rules.PadTransition k2 x6)
+    (one rules.PadPrimary k0 x1) (one rules.PadApproach k1 x2) (one rules.PadApproach k2 x3) (one rules.PadTransition k0 x4) (one rules.PadTransition k1 x5) (one rules.PadTransition k2 x6)
+
+-- a list that is given, or none
+either : {A : Type 0} (b : Bool) (xs : List A) (n : ℕ) → length xs ≤ n → length (if b then xs else []) ≤ n
+either true xs n h = h
+either false xs n h = omega arith
+
+at_most_one : {A X : Type 0} (f : X → A) (o : Option X) → length (option_to_list (option_map f o)) ≤ 1
+at_most_one f None = omega arith
+at_most_one f (Some x) = omega arith
+
+of_one_airfield : (site : Site) (f : Airfield) → IsHeld f → length (of_airfield site f) ≤ 99
 of_one_airfield site (AnAirport a) held =
-    two_parts (entries rules.Near (field_key a.id) (near_excess a site)) (of_runways site a) 1 48 (one rules.Near (field_key a.id) (near_excess a site)) (of_all_runways site a held.number)
-of_one_airfield site (AHeliport h) held = omega arith
+    let top = standards_top site in
+    two_parts (entries rules.Near (field_key a.id 0) (near_excess a site)) (if has_civil_surfaces a.category then of_civil site.at top a else []) 1 98
+    (one rules.Near (field_key a.id 0) (near_excess a site)) (either (has_civil_surfaces a.category) (of_civil site.at top a) 98 (of_all_civil site.at top a held.number))
+of_one_airfield site (AHeliport h) held =
+    let m = either (is_described h.category) (of_pad site.at (standards_top site) h) 6 (of_one_pad site.at (standards_top site) h) in
+    omega (arith, m)
 
-of_all : (airfields : List Airfield) (site : Site) → IsRegister airfields → length (findings_of airfields site) ≤ 1 + 4096 * 49 + 1
+one_slope : (site : Site) (f : Airfield) → length (slope_entries site f) ≤ 1
+one_slope site (AnAirport a) = at_most_one (slope_finding site a.id) (notice_slope a site.at (notice_top site))
+one_slope site (AHeliport h) =
+    let x = pad_notice_excess h site.at (notice_top site) in
+    either (is_described h.category) (entries (rule_b3 site) (field_key h.id 0) x) 1 (one (rule_b3 site) (field_key h.id 0) x)
+
+all_notices : (airfields : List Airfield) (site : Site) → length airfields ≤ 4096 → length (notices_of airfields site) ≤ 4098
+all_notices airfields site number =
+    let first = entries (rule_a site) no_key (notice_excess site) in
+    let slopes = flat_map (slope_entries site) airfields in
+    let found : List Finding = option_to_list (option_map (λ id. record { rule = rules.NoticeD; key = field_key id 0; excess = 0 }) site.on) in
+    two_parts (first ++ slopes) (on_airfield airfields site) 4097 1
+    (two_parts first slopes 1 4096 (one (rule_a site) no_key (notice_excess site)) (omega (arith, any_parts (slope_entries site) 1 (one_slope site) airfields, number)))
+    (either (is_on_described airfields site) found 1 (at_most_one (λ id. record { rule = rules.NoticeD; key = field_key id 0; excess = 0 }) site.on))
+
+of_all : (airfields : List Airfield) (site : Site) → IsRegister airfields → length (findings_of airfields site) ≤ 1 + 4096 * 99 + 4098
 of_all airfields site register =
     let first = entries rules.H499 no_key (height_excess site) in
     let middle = flat_map (of_airfield site) airfields in
-    let last = entries rules.NoticeA no_key (notice_excess site) in
-    two_parts (first ++ middle) last (1 + 4096 * 49) 1
-    (two_parts first middle 1 (4096 * 49) (one rules.H499 no_key (height_excess site)) (omega (arith, parts IsHeld (of_airfield site) 49 (of_one_airfield site) airfields register.held, register.number)))
-    (one rules.NoticeA no_key (notice_excess site))
+    two_parts (first ++ middle) (notices_if_due airfields site) (1 + 4096 * 99) 4098
+    (two_parts first middle 1 (4096 * 99) (one rules.H499 no_key (height_excess site)) (omega (arith, parts IsHeld (of_airfield site) 99 (of_one_airfield site) airfields register.held, register.number)))
+    (either (is_none (exemption_of site)) (notices_of airfields site) 4098 (all_notices airfields site register.number))
 
 -- the count of a list of findings fits its type
 pub counted : (airfields : List Airfield) (site : Site) → IsRegister airfields → tally_of (findings_of airfields site) ≡ verdict_of (findings_of airfields site)

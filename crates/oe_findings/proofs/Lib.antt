@@ -1,4 +1,5 @@
 pub mod SameFindings
 pub mod ListFacts
-pub mod RunwayFacts
+pub mod EntryFacts
+pub mod SlopeFacts
 pub mod Counts

@@ -4,10 +4,16 @@
 #![tactic(auto)]
 
 mod collector;
+mod entry;
+mod fields;
 mod finding;
 mod findings;
 mod list;
+mod notices;
+mod prepared;
+mod prepared_airport;
 mod sky;
+mod standards;
 mod verdict;
 
 pub use finding::{Finding, Rule, SurfaceKey};

@@ -6,6 +6,7 @@ ghost use Rattle.airport_register.specs.Changes.{IsChange};
 ghost use Rattle.oe_findings.specs.List.{findings_of};
 ghost use Rattle.oe_findings.specs.Verdicts.{verdict_of};
 
+use crate::fields::PreparedFields;
 use crate::findings::Findings;
 use crate::list::put_findings;
 use crate::verdict::Verdict;
@@ -18,15 +19,18 @@ use std::marker::Model;
 #[derive(Drop)]
 pub struct Sky {
     register: Register,
+    fields: PreparedFields,
 }
 
 impl Model for Sky {
-    ghost use Rattle.std.specs.Prelude.{List};
+    ghost use Rattle.std.specs.Prelude.{◌≡◌, List};
     ghost use Rattle.airport_register.specs.declared.airfield.Airfield.{Airfield};
 
     ghost Value = { List Airfield };
 
     ghost view = { λ s. s.register };
+
+    ghost invariant = { λ s. s.fields ≡ s.register };
 }
 
 impl Sky {
@@ -36,6 +40,7 @@ impl Sky {
     {
         Sky {
             register: Register::empty(alloc),
+            fields: PreparedFields::empty(alloc),
         }
     }
 
@@ -49,6 +54,7 @@ impl Sky {
     {
         Ok(Sky {
             register: register.share(alloc)?,
+            fields: PreparedFields::of(alloc, register)?,
         })
     }
 
@@ -72,12 +78,15 @@ impl Sky {
     {
         let mut register = self.register.share(alloc)?;
         let changed = register.amend(alloc, a)?;
-        Ok((Sky { register }, changed))
+        register.limits();
+        let airfield = register.get(&changed.id);
+        let fields = self.fields.replaced(alloc, &changed.id, airfield)?;
+        Ok((Sky { register, fields }, changed))
     }
 
     /// Makes `list` the findings of a structure over all airfields: each standard and notice rule that it exceeds, in order, with
-    /// how far its top is above the surface or limit, in tenths of a foot, rounded down. The rules built so far are 77.17(a)(1) and
-    /// (2), the primary and approach surfaces of 77.19(c) and (d), and 77.9(a).
+    /// how far its top is above the surface or limit, in tenths of a foot, rounded down: 77.17(a)(1) and (2), the surfaces of 77.19 and
+    /// 77.23, and the notice rules of 77.9.
     ///
     /// # Errors
     ///
@@ -86,7 +95,7 @@ impl Sky {
         ensures { OnOk result (list.new ≡ findings_of self.now filing.now) }
     {
         list.clear();
-        put_findings(list, &self.register, filing)
+        put_findings(list, &self.register, self.fields.as_slice(), filing)
     }
 
     /// The same as a list of its own.
@@ -98,7 +107,7 @@ impl Sky {
         ensures { IfOk result (λ list. list ≡ findings_of self.now filing.now) }
     {
         let mut list = Findings::new(alloc);
-        put_findings(&mut list, &self.register, filing)?;
+        put_findings(&mut list, &self.register, self.fields.as_slice(), filing)?;
         Ok(list)
     }
 
@@ -112,7 +121,12 @@ impl Sky {
             obstruction: false,
             entries: 0,
         };
-        match put_findings(&mut verdict, &self.register, filing) {
+        match put_findings(
+            &mut verdict,
+            &self.register,
+            self.fields.as_slice(),
+            filing,
+        ) {
             Ok(()) => verdict,
             Err(NoMemory) => unreachable!(),
         }

@@ -32,6 +32,7 @@ fn plain_form(amendment: &Amendment) -> Plain
         Amendment::PutAirport { .. } => Plain::Airport,
         Amendment::PutRunway { .. } => Plain::Runway,
         Amendment::DropRunway { .. } => Plain::DropRunway,
+        Amendment::PutHeliport(_) => Plain::Heliport,
         Amendment::Drop(_) => Plain::Drop,
     }
 }

@@ -14,6 +14,7 @@ pub first_wanted : (form : Form) → slice_get (shape_of form) 0 ≡ Some (Spell
 first_wanted forms.Airport = refl
 first_wanted forms.Runway = refl
 first_wanted forms.DropRunway = refl
+first_wanted forms.Heliport = refl
 first_wanted forms.Drop = refl
 first_wanted forms.Screen = refl
 first_wanted forms.Verdict = refl

@@ -1,4 +1,5 @@
 pub mod WordFacts
+pub mod LetterFacts
 pub mod LimitFacts
 pub mod FieldFacts
 pub mod FormFacts

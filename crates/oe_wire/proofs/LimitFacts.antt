@@ -1,10 +1,14 @@
 -- Numbers within limits.
-use Rattle.std.proofs.Common.{arith, w64, ℤ, ℕ, to_z, of_z, subst, pos, negsuc, neg_ℤ, ◌<ℤ◌, ◌≡◌, ◌≢◌, ◌^◌, ◌<◌, List, sym, ◌∙◌, FitsSigned}
+use Rattle.std.proofs.Common.{arith, w64, ℤ, ℕ, to_z, of_z, subst, pos, negsuc, neg_ℤ, ◌<ℤ◌, ◌≡◌, ◌≢◌, ◌^◌, ◌<◌, List, Some, refl, sym, ◌∙◌, FitsSigned}
 use Rattle.std.specs.Fmt.{signed_decimal}
 use Rattle.std.proofs.lemmas.Fmt.{signed_decimal_injective}
 use Rattle.std.proofs.lemmas.Int.{ints, to_z-of_z}
 use Rattle.whole_number.specs.Whole.{HasNineDigits}
-use Rattle.oe_wire.specs.Shape.{IsBetween}
+use Rattle.airport_register.specs.Sites.{greatest_mobile}
+use Rattle.airport_register.specs.declared.structure.StructureKind.{StructureKind}
+use Rattle.airport_register.specs.declared.structure.StructureKind.TheVariants as kinds
+use Rattle.oe_wire.specs.Words.{kind_word}
+use Rattle.oe_wire.specs.Shape.{IsBetween, mobile_limit}
 use lib.Signed.{mag}
 
 pub short_mag : (z : ℤ) → HasNineDigits z → mag z < 2 ^ 63
@@ -17,6 +21,25 @@ between_short low high z p q h = omega (arith, ints)
 -- a short number is kept whole
 pub raw_short : (z : ℤ) → HasNineDigits z → to_z w64 (of_z w64 z) ≡ z
 raw_short z h = let f : FitsSigned w64 z = omega (arith, ints) in to_z-of_z w64 z f
+
+-- the limit of a mobile object's height, by the word of a kind
+pub limit_of_kind : (k : StructureKind) → mobile_limit (Some (kind_word k)) ≡ greatest_mobile k
+limit_of_kind kinds.Object = refl
+limit_of_kind kinds.Antenna = refl
+limit_of_kind kinds.Interstate = refl
+limit_of_kind kinds.Road = refl
+limit_of_kind kinds.Private = refl
+limit_of_kind kinds.Rail = refl
+limit_of_kind kinds.Water = refl
+
+pub mobile_short : (k : StructureKind) → HasNineDigits (greatest_mobile k)
+mobile_short kinds.Object = omega (arith, ints)
+mobile_short kinds.Antenna = omega (arith, ints)
+mobile_short kinds.Interstate = omega (arith, ints)
+mobile_short kinds.Road = omega (arith, ints)
+mobile_short kinds.Private = omega (arith, ints)
+mobile_short kinds.Rail = omega (arith, ints)
+mobile_short kinds.Water = omega (arith, ints)
 
 pub terrain_short : (z : ℤ) → IsBetween (neg_ℤ (pos 20000)) (pos 200000) z → HasNineDigits z
 terrain_short z h = omega (arith, ints)

@@ -18,14 +18,15 @@ use Rattle.airport_register.specs.declared.category.Category.TheVariants as cate
 use Rattle.airport_register.specs.declared.structure.StructureKind.{StructureKind}
 use Rattle.airport_register.specs.declared.structure.StructureKind.TheVariants as kinds
 use Rattle.airport_register.specs.declared.structure.Flags.{Flags}
+use Rattle.airport_register.specs.declared.airfield.Heliport.{Heliport}
 use Rattle.airport_register.specs.declared.runway.RunwayEnd.{RunwayEnd}
 use Rattle.airport_register.specs.declared.runway.Runway.{Runway}
 use Rattle.airport_register.specs.declared.amendment.Amendment.{Amendment}
-use Rattle.airport_register.specs.declared.amendment.Amendment.TheVariants.{PutAirport, PutRunway, DropRunway, Drop}
+use Rattle.airport_register.specs.declared.amendment.Amendment.TheVariants.{PutAirport, PutRunway, DropRunway, PutHeliport, Drop}
 use Rattle.csv.specs.Records.{field_at}
-use Rattle.oe_wire.specs.Words.{category_word, approach_word, weight_word, pavement_word, kind_word, flags_text, name_text}
+use Rattle.oe_wire.specs.Words.{category_word, approach_word, weight_word, pavement_word, kind_word, flags_text, name_text, IsAirfieldName}
 use Rattle.oe_wire.specs.Forms.{form_word}
-use Rattle.oe_wire.specs.Requests.{site_spelling, amendment_spelling, query_spelling, query_form, spelling, form_of, act_spelling, act_form, IsAirfieldName, IsValidAmendment, IsValidAct, IsGood}
+use Rattle.oe_wire.specs.Requests.{site_spelling, amendment_spelling, query_spelling, query_form, spelling, form_of, act_spelling, act_form, IsValidAmendment, IsValidAct, IsGood}
 use Rattle.oe_wire.specs.declared.form.Form.{Form}
 use Rattle.oe_wire.specs.declared.form.Form.TheVariants as forms
 use Rattle.oe_wire.specs.declared.request.Request.{Request}
@@ -35,6 +36,7 @@ use Rattle.oe_wire.specs.declared.request.Query.TheVariants as queries
 use Rattle.oe_wire.specs.declared.request.Act.{Act}
 use Rattle.oe_wire.specs.declared.request.Act.TheVariants as acts
 use Rattle.oe_wire.specs.declared.request.Change.{Change}
+use Rattle.oe_wire.proofs.LetterFacts.{one_flags}
 use Rattle.oe_wire.proofs.LimitFacts.{short_mag}
 use Rattle.oe_wire.proofs.FormLaw.{first_good, one_form}
 
@@ -172,22 +174,6 @@ mobile_least kinds.Private = omega (arith, ints)
 mobile_least kinds.Rail = omega (arith, ints)
 mobile_least kinds.Water = omega (arith, ints)
 
-abbrev made_flags : (s d r i g t : Bool) → Flags
-made_flags s d r i g t = record { shielded = s; device = d; other_rule = r; increases = i; controlled = g; temporary = t }
-
--- a dash is written where no flag stands
-no_flag : (s d r i g t : Bool) → flags_text (made_flags s d r i g t) ≡ codes "-" → made_flags s d r i g t ≡ made_flags false false false false false false
-no_flag true _ _ _ _ _ e = absurd (let h : 83 ≡ 45 = ap (λ l. get_or l 0 0) e in omega arith)
-no_flag false true _ _ _ _ e = absurd (let h : 68 ≡ 45 = ap (λ l. get_or l 0 0) e in omega arith)
-no_flag false false true _ _ _ e = absurd (let h : 82 ≡ 45 = ap (λ l. get_or l 0 0) e in omega arith)
-no_flag false false false true _ _ e = absurd (let h : 73 ≡ 45 = ap (λ l. get_or l 0 0) e in omega arith)
-no_flag false false false false true _ e = absurd (let h : 71 ≡ 45 = ap (λ l. get_or l 0 0) e in omega arith)
-no_flag false false false false false true e = absurd (let h : 84 ≡ 45 = ap (λ l. get_or l 0 0) e in omega arith)
-no_flag false false false false false false e = refl
-
-no_flags : (f : Flags) → flags_text f ≡ codes "-" → f ≡ made_flags false false false false false false
-no_flags f e = no_flag f.shielded f.device f.other_rule f.increases f.controlled f.temporary e
-
 made_site : Point → (terrain height : ℤ) → StructureKind → ℤ → Flags → Option (List ℕ) → Site
 made_site at terrain height kind mobile flags on = record { at = at; terrain = terrain; height = height; kind = kind; mobile = mobile; flags = flags; on = on }
 
@@ -195,10 +181,10 @@ same_site : (a b : Site) → a.at ≡ b.at → a.terrain ≡ b.terrain → a.hei
     → made_site a.at a.terrain a.height a.kind a.mobile a.flags a.on ≡ made_site b.at b.terrain b.height b.kind b.mobile b.flags b.on
 same_site a b p t h k m f o = cc
 
-one_site : (a b : Site) → IsSite a → IsSite b → IsAirfieldName a.on → IsAirfieldName b.on → flags_text a.flags ≡ codes "-" → flags_text b.flags ≡ codes "-"
+one_site : (a b : Site) → IsSite a → IsSite b → IsAirfieldName a.on → IsAirfieldName b.on
     → site_spelling a ≡ site_spelling b → a ≡ b
 unfolding made_site
-one_site a b h k m n f g e =
+one_site a b h k m n e =
     let low = mobile_least a.kind in
     let low' = mobile_least b.kind in
     let ta : HasNineDigits a.terrain = omega (arith, ints, h.terrain_least, h.terrain_most) in
@@ -208,7 +194,7 @@ one_site a b h k m n f g e =
     let ma : HasNineDigits a.mobile = omega (arith, ints, h.mobile_least, h.mobile_most) in
     let mb : HasNineDigits b.mobile = omega (arith, ints, k.mobile_least, k.mobile_most) in
     same_site a b (one_point a.at b.at (at 0 e) (at 1 e)) (one_number a.terrain b.terrain ta tb (at 2 e)) (one_number a.height b.height ha hb (at 3 e))
-    (one_kind a.kind b.kind (at 4 e)) (one_number a.mobile b.mobile ma mb (at 5 e)) (no_flags a.flags f ∙ sym (no_flags b.flags g)) (one_name a.on b.on m n (at 7 e))
+    (one_kind a.kind b.kind (at 4 e)) (one_number a.mobile b.mobile ma mb (at 5 e)) (one_flags a.flags b.flags (at 6 e)) (one_name a.on b.on m n (at 7 e))
 
 made_end : Point → ℤ → ApproachKind → RunwayEnd
 made_end at z kind = record { at = at; z = z; kind = kind }
@@ -226,13 +212,20 @@ same_runway : (a b : Runway) → a.name ≡ b.name → a.utility ≡ b.utility �
     → made_runway a.name a.utility a.hard a.end1 a.end2 ≡ made_runway b.name b.utility b.hard b.end1 b.end2
 same_runway a b n u h e f = cc
 
+made_heliport : List ℕ → Category → Point → Point → ℤ → ℤ → Heliport
+made_heliport id category a b width elevation = record { id = id; category = category; a = a; b = b; width = width; elevation = elevation }
+
+same_heliport : (g h : Heliport) → g.id ≡ h.id → g.category ≡ h.category → g.a ≡ h.a → g.b ≡ h.b → g.width ≡ h.width → g.elevation ≡ h.elevation
+    → made_heliport g.id g.category g.a g.b g.width g.elevation ≡ made_heliport h.id h.category h.a h.b h.width h.elevation
+same_heliport g h i c a b w z = cc
+
 -- the first fields of the two forms differ
 two_forms : {A : Type 0} (f g : Form) → form_word f ≡ form_word g → (f ≡ g → ⊥) → A
 two_forms f g e h = absurd (h (one_form f g e))
 
 one_amendment : (caller key name word : List ℕ) (a b : Amendment) → IsValidAmendment a → IsValidAmendment b
     → amendment_spelling caller key a ≡ amendment_spelling name word b → (caller ≡ name) × (key ≡ word) × (a ≡ b)
-unfolding made_runway
+unfolding made_runway made_heliport
 one_amendment caller key name word (PutAirport id c p z) (PutAirport id' c' p' z') h k e =
     let i : id ≡ id' = at 3 e in
     let cs = one_category c c' (at 4 e) in
@@ -248,6 +241,10 @@ one_amendment caller key name word (DropRunway id n) (DropRunway id' m) h k e =
     let i : id ≡ id' = at 3 e in
     let ns : n ≡ m = at 4 e in
     (at 1 e, at 2 e, let same : DropRunway id n ≡ DropRunway id' m = cc in same)
+one_amendment caller key name word (PutHeliport p) (PutHeliport q) h k e =
+    let ps : p ≡ q = same_heliport p q (at 3 e) (one_category p.category q.category (at 4 e)) (one_point p.a q.a (at 5 e) (at 6 e)) (one_point p.b q.b (at 7 e) (at 8 e))
+    (one_number p.width q.width h.0 k.0 (at 9 e)) (one_number p.elevation q.elevation h.1 k.1 (at 10 e)) in
+    (at 1 e, at 2 e, ap (λ x. PutHeliport x) ps)
 one_amendment caller key name word (Drop id) (Drop id') h k e =
     let i : id ≡ id' = at 3 e in
     (at 1 e, at 2 e, let same : Drop id ≡ Drop id' = cc in same)
@@ -263,6 +260,14 @@ one_amendment caller key name word (DropRunway id n) (Drop id') h k e = two_form
 one_amendment caller key name word (Drop id) (PutAirport id' c' p' z') h k e = two_forms forms.Drop forms.Airport (at 0 e) (λ q. cc)
 one_amendment caller key name word (Drop id) (PutRunway id' s) h k e = two_forms forms.Drop forms.Runway (at 0 e) (λ q. cc)
 one_amendment caller key name word (Drop id) (DropRunway id' m) h k e = two_forms forms.Drop forms.DropRunway (at 0 e) (λ q. cc)
+one_amendment caller key name word (PutAirport id c p z) (PutHeliport q) h k e = two_forms forms.Airport forms.Heliport (at 0 e) (λ d. cc)
+one_amendment caller key name word (PutRunway id r) (PutHeliport q) h k e = two_forms forms.Runway forms.Heliport (at 0 e) (λ d. cc)
+one_amendment caller key name word (DropRunway id n) (PutHeliport q) h k e = two_forms forms.DropRunway forms.Heliport (at 0 e) (λ d. cc)
+one_amendment caller key name word (Drop id) (PutHeliport q) h k e = two_forms forms.Drop forms.Heliport (at 0 e) (λ d. cc)
+one_amendment caller key name word (PutHeliport o) (PutAirport id' c' p' z') h k e = two_forms forms.Heliport forms.Airport (at 0 e) (λ d. cc)
+one_amendment caller key name word (PutHeliport o) (PutRunway id' s) h k e = two_forms forms.Heliport forms.Runway (at 0 e) (λ d. cc)
+one_amendment caller key name word (PutHeliport o) (DropRunway id' m) h k e = two_forms forms.Heliport forms.DropRunway (at 0 e) (λ d. cc)
+one_amendment caller key name word (PutHeliport o) (Drop id') h k e = two_forms forms.Heliport forms.Drop (at 0 e) (λ d. cc)
 
 one_act : (caller key name word : List ℕ) (a b : Act) → IsValidAct a → IsValidAct b
     → act_spelling caller key a ≡ act_spelling name word b → (caller ≡ name) × (key ≡ word) × (a ≡ b)
@@ -282,6 +287,7 @@ changes : Form → Bool
 changes forms.Airport = true
 changes forms.Runway = true
 changes forms.DropRunway = true
+changes forms.Heliport = true
 changes forms.Drop = true
 changes forms.Screen = false
 changes forms.Verdict = false
@@ -292,6 +298,7 @@ unfolding changes
 act_changes (acts.Amend (PutAirport id c p z)) = refl
 act_changes (acts.Amend (PutRunway id r)) = refl
 act_changes (acts.Amend (DropRunway id n)) = refl
+act_changes (acts.Amend (PutHeliport p)) = refl
 act_changes (acts.Amend (Drop id)) = refl
 
 query_keeps : (q : Query) → changes (query_form q) ≡ false
@@ -310,11 +317,10 @@ same_form r s g h e =
     one_form (form_of r) (form_of s) (let x : form_word (form_of r) ≡ form_word (form_of s) = cc in x)
 
 one_query : (a b : Query) → IsGood (requests.Query a) → IsGood (requests.Query b) → query_spelling a ≡ query_spelling b → query_form a ≡ query_form b → a ≡ b
-unfolding field_at
 one_query (queries.Screen a) (queries.Screen b) g h e f =
-    ap (λ x. queries.Screen x) (one_site a b g.valid.0 h.valid.0 g.valid.1 h.valid.1 (g.shape.each 7) (h.shape.each 7) (ap (drop 1) e))
+    ap (λ x. queries.Screen x) (one_site a b g.valid.0 h.valid.0 g.valid.1 h.valid.1 (ap (drop 1) e))
 one_query (queries.Verdict a) (queries.Verdict b) g h e f =
-    ap (λ x. queries.Verdict x) (one_site a b g.valid.0 h.valid.0 g.valid.1 h.valid.1 (g.shape.each 7) (h.shape.each 7) (ap (drop 1) e))
+    ap (λ x. queries.Verdict x) (one_site a b g.valid.0 h.valid.0 g.valid.1 h.valid.1 (ap (drop 1) e))
 one_query (queries.Airfield a) (queries.Airfield b) g h e f = ap (λ x. queries.Airfield x) (at 1 e)
 one_query (queries.Screen a) (queries.Verdict b) g h e f = absurd (let n : forms.Screen ≡ forms.Verdict = f in cc)
 one_query (queries.Screen a) (queries.Airfield b) g h e f = absurd (let n : forms.Screen ≡ forms.Airfield = f in cc)

@@ -4,10 +4,12 @@ use Rattle.runway_classes.specs.declared.ApproachKind.{ApproachKind}
 use Rattle.runway_classes.specs.declared.ApproachKind.TheVariants.{Visual, NonprecisionAbove, NonprecisionLow, Precision}
 use Rattle.airport_register.specs.declared.category.Category.{Category}
 use Rattle.airport_register.specs.declared.category.Category.TheVariants.{PublicUse, PublicBuilding, MilitaryBuilding, Federal, Dod, Procedure, OtherPrivate}
+use Rattle.airport_register.specs.declared.structure.StructureKind.{StructureKind}
+use Rattle.airport_register.specs.declared.structure.StructureKind.TheVariants as kinds
 use Rattle.oe_wire.specs.Forms.{form_word}
 use Rattle.oe_wire.specs.declared.form.Form.{Form}
-use Rattle.oe_wire.specs.declared.form.Form.TheVariants.{Airport, Runway, DropRunway, Drop, Screen, Verdict, Airfield}
-use Rattle.oe_wire.specs.Words.{category_word, approach_word, weight_word, pavement_word}
+use Rattle.oe_wire.specs.declared.form.Form.TheVariants.{Airport, Runway, DropRunway, Heliport, Drop, Screen, Verdict, Airfield}
+use Rattle.oe_wire.specs.Words.{category_word, approach_word, weight_word, pavement_word, kind_word}
 
 pub no_category : (word : List ℕ) → word ≢ codes "public" → word ≢ codes "building" → word ≢ codes "military" → word ≢ codes "federal"
     → word ≢ codes "dod" → word ≢ codes "procedure" → word ≢ codes "private" → (category : Category) → word ≢ category_word category
@@ -33,12 +35,23 @@ pub no_pavement : (word : List ℕ) → word ≢ codes "hard" → word ≢ codes
 no_pavement word h s true = h
 no_pavement word h s false = s
 
+pub no_kind : (word : List ℕ) → word ≢ codes "object" → word ≢ codes "antenna" → word ≢ codes "interstate" → word ≢ codes "road"
+    → word ≢ codes "private" → word ≢ codes "rail" → word ≢ codes "water" → (kind : StructureKind) → word ≢ kind_word kind
+no_kind word o a i r p l w kinds.Object = o
+no_kind word o a i r p l w kinds.Antenna = a
+no_kind word o a i r p l w kinds.Interstate = i
+no_kind word o a i r p l w kinds.Road = r
+no_kind word o a i r p l w kinds.Private = p
+no_kind word o a i r p l w kinds.Rail = l
+no_kind word o a i r p l w kinds.Water = w
+
 pub no_form_word : (word : List ℕ) → word ≢ codes "screen" → word ≢ codes "airport" → word ≢ codes "runway" → word ≢ codes "droprunway"
-    → word ≢ codes "drop" → word ≢ codes "verdict" → word ≢ codes "airfield" → (form : Form) → word ≢ form_word form
-no_form_word word s a r n d v f Airport = a
-no_form_word word s a r n d v f Runway = r
-no_form_word word s a r n d v f DropRunway = n
-no_form_word word s a r n d v f Drop = d
-no_form_word word s a r n d v f Screen = s
-no_form_word word s a r n d v f Verdict = v
-no_form_word word s a r n d v f Airfield = f
+    → word ≢ codes "heliport" → word ≢ codes "drop" → word ≢ codes "verdict" → word ≢ codes "airfield" → (form : Form) → word ≢ form_word form
+no_form_word word s a r n h d v f Airport = a
+no_form_word word s a r n h d v f Runway = r
+no_form_word word s a r n h d v f DropRunway = n
+no_form_word word s a r n h d v f Heliport = h
+no_form_word word s a r n h d v f Drop = d
+no_form_word word s a r n h d v f Screen = s
+no_form_word word s a r n h d v f Verdict = v
+no_form_word word s a r n h d v f Airfield = f

@@ -1,4 +1,5 @@
 pub mod Words
+pub mod Letters
 pub mod Shape
 pub mod Forms
 pub mod Requests

@@ -101,6 +101,7 @@ abbrev pub plain_word : Plain → List ℕ
 plain_word plains.Airport = codes "airport"
 plain_word plains.Runway = codes "runway"
 plain_word plains.DropRunway = codes "droprunway"
+plain_word plains.Heliport = codes "heliport"
 plain_word plains.Drop = codes "drop"
 
 abbrev pub outcome_text : Outcome → List ℕ

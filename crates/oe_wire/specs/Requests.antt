@@ -3,11 +3,10 @@ use Rattle.std.specs.Prelude.{ℕ, ◌-◌, ◌≤◌, ◌<◌, take, ◌≡◌,
 use Rattle.std.specs.Fmt.{signed_decimal}
 use Rattle.record_fields.specs.Fields.{one_record}
 use Rattle.whole_number.specs.Whole.{HasNineDigits}
-use Rattle.airport_register.specs.Names.{IsFieldId}
 use Rattle.airport_register.specs.Sites.{Site, IsSite}
 use Rattle.airport_register.specs.declared.amendment.Amendment.{Amendment}
 use Rattle.airport_register.specs.declared.amendment.Amendment.TheVariants as amendments
-use Rattle.oe_wire.specs.Words.{category_word, approach_word, weight_word, pavement_word, kind_word, flags_text, name_text}
+use Rattle.oe_wire.specs.Words.{category_word, approach_word, weight_word, pavement_word, kind_word, flags_text, name_text, IsAirfieldName}
 use Rattle.oe_wire.specs.Shape.{HasShape}
 use Rattle.oe_wire.specs.Forms.{shape_of, FirstWrong}
 use Rattle.oe_wire.specs.declared.form.Form.{Form}
@@ -40,6 +39,9 @@ amendment_spelling caller key (amendments.PutRunway id r) =
     ∷ signed_decimal r.end1.at.x ∷ signed_decimal r.end1.at.y ∷ signed_decimal r.end1.z ∷ approach_word r.end1.kind
     ∷ signed_decimal r.end2.at.x ∷ signed_decimal r.end2.at.y ∷ signed_decimal r.end2.z ∷ approach_word r.end2.kind ∷ []
 amendment_spelling caller key (amendments.DropRunway id name) = codes "droprunway" ∷ caller ∷ key ∷ id ∷ name ∷ []
+amendment_spelling caller key (amendments.PutHeliport h) =
+    codes "heliport" ∷ caller ∷ key ∷ h.id ∷ category_word h.category ∷ signed_decimal h.a.x ∷ signed_decimal h.a.y
+    ∷ signed_decimal h.b.x ∷ signed_decimal h.b.y ∷ signed_decimal h.width ∷ signed_decimal h.elevation ∷ []
 amendment_spelling caller key (amendments.Drop id) = codes "drop" ∷ caller ∷ key ∷ id ∷ []
 
 abbrev pub act_spelling : List ℕ → List ℕ → Act → List (List ℕ)
@@ -54,6 +56,7 @@ abbrev pub amendment_form : Amendment → Form
 amendment_form (amendments.PutAirport id category arp elevation) = forms.Airport
 amendment_form (amendments.PutRunway id r) = forms.Runway
 amendment_form (amendments.DropRunway id name) = forms.DropRunway
+amendment_form (amendments.PutHeliport h) = forms.Heliport
 amendment_form (amendments.Drop id) = forms.Drop
 
 abbrev pub act_form : Act → Form
@@ -69,11 +72,6 @@ abbrev pub form_of : Request → Form
 form_of (requests.Query query) = query_form query
 form_of (requests.Change change) = act_form change.act
 
--- no name, or the name of an airfield
-abbrev pub IsAirfieldName : Option (List ℕ) → Type 0
-IsAirfieldName None = Unit {0}
-IsAirfieldName (Some name) = IsFieldId name
-
 -- a structure that a record can tell
 abbrev pub IsValidSite : Site → Type 0
 IsValidSite site = IsSite site × IsAirfieldName site.on
@@ -87,6 +85,7 @@ abbrev pub IsValidAmendment : Amendment → Type 0
 IsValidAmendment (amendments.PutAirport id category arp elevation) = HasNineDigits elevation
 IsValidAmendment (amendments.PutRunway id r) = HasNineDigits r.end1.z × HasNineDigits r.end2.z
 IsValidAmendment (amendments.DropRunway id name) = Unit {0}
+IsValidAmendment (amendments.PutHeliport h) = HasNineDigits h.width × HasNineDigits h.elevation
 IsValidAmendment (amendments.Drop id) = Unit {0}
 
 abbrev pub IsValidAct : Act → Type 0

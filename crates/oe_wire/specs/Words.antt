@@ -8,6 +8,7 @@ use Rattle.airport_register.specs.declared.category.Category.TheVariants as cate
 use Rattle.airport_register.specs.declared.structure.StructureKind.{StructureKind}
 use Rattle.airport_register.specs.declared.structure.StructureKind.TheVariants as kinds
 use Rattle.airport_register.specs.declared.structure.Flags.{Flags}
+use Rattle.airport_register.specs.Names.{IsFieldId}
 
 -- the code of an ASCII letter, of a digit, of a dot or of an underscore
 abbrev pub IsWordByte : ℕ → Type 0
@@ -59,10 +60,15 @@ abbrev pub or_dash : List ℕ → List ℕ
 or_dash [] = codes "-"
 or_dash (b ∷ bs) = b ∷ bs
 
--- the letters of the flags that stand
+-- a letter before others, where its flag stands
+abbrev pub marked : Bool → List ℕ → List ℕ → List ℕ
+marked stands letter others = if stands then letter ++ others else others
+
+-- the letters of the flags that stand, in their order: shielded (77.9(e)(1)), a device (77.9(e)(2)), another regulation's notice
+-- (77.9(e)(3)), increases another antenna structure (77.9(e)(4)), ground traffic control (77.17(b)), temporary
 abbrev pub flag_letters : Flags → List ℕ
-flag_letters f = (if f.shielded then codes "S" else []) ++ (if f.device then codes "D" else []) ++ (if f.other_rule then codes "R" else [])
-    ++ (if f.increases then codes "I" else []) ++ (if f.controlled then codes "G" else []) ++ (if f.temporary then codes "T" else [])
+flag_letters f = marked f.shielded (codes "S") (marked f.device (codes "D") (marked f.other_rule (codes "R")
+    (marked f.increases (codes "I") (marked f.controlled (codes "G") (marked f.temporary (codes "T") [])))))
 
 abbrev pub flags_text : Flags → List ℕ
 flags_text f = or_dash (flag_letters f)
@@ -71,3 +77,8 @@ flags_text f = or_dash (flag_letters f)
 abbrev pub name_text : Option (List ℕ) → List ℕ
 name_text None = codes "-"
 name_text (Some name) = name
+
+-- no name, or the name of an airfield
+abbrev pub IsAirfieldName : Option (List ℕ) → Type 0
+IsAirfieldName None = Unit {0}
+IsAirfieldName (Some name) = IsFieldId name

@@ -1,17 +1,21 @@
 //! The fields of a record, one after the other.
 
-ghost use Rattle.std.specs.Prelude.{◌≡◌, ◌≢◌, ◌+◌, ◌<◌, Some, None, length, slice_get, IfOk, IfErr, OnOk};
+ghost use Rattle.std.specs.Prelude.{◌≡◌, ◌≢◌, ◌+◌, ◌<◌, pos, Some, None, length, slice_get, IfOk, IfErr, OnOk};
 ghost use Rattle.std.specs.Fmt.{signed_decimal};
 ghost use Rattle.csv.specs.Records.{fields_of, field_at};
 ghost use Rattle.whole_number.specs.Whole.{HasNineDigits};
-ghost use Rattle.oe_wire.specs.Words.{category_word, approach_word, weight_word, pavement_word};
-ghost use Rattle.oe_wire.specs.Shape.{Spelled, Between, FieldIdWanted, RunwayNameWanted, WordWanted, CategoryWanted, WeightWanted, PavementWanted, ApproachWanted, IsBetween, IsField, IsEnd, FitsBefore, HasShape, FirstBad};
+ghost use Rattle.airport_register.specs.Sites.{greatest_mobile};
+ghost use Rattle.oe_wire.specs.Words.{category_word, approach_word, weight_word, pavement_word, kind_word, flags_text, name_text, IsAirfieldName};
+ghost use Rattle.oe_wire.specs.Shape.{Between, FieldIdWanted, RunwayNameWanted, WordWanted, CategoryWanted, WeightWanted, PavementWanted, ApproachWanted};
+ghost use Rattle.oe_wire.specs.Shape.{KindWanted, MobileWanted, FlagsWanted, AirfieldWanted, field_before, IsBetween, IsField, IsEnd, FitsBefore, HasShape, FirstBad};
 ghost use Rattle.oe_wire.specs.Forms.{shape_of};
 
 use crate::form::{BadField, Form};
-use crate::values::{approach_of, category_of, number_within, pavement_of, weight_of};
+use crate::values::{
+    airfield_of, approach_of, category_of, flags_of, kind_of, number_within, pavement_of, weight_of,
+};
 use crate::word::Word;
-use airport_register::{Category, FieldId, RunwayName};
+use airport_register::{Category, FieldId, Flags, RunwayName, StructureKind};
 use csv::ByteRecord;
 use runway_classes::ApproachKind;
 
@@ -35,28 +39,6 @@ fn field(fields: &ByteRecord, form: Form, at: usize) -> Result<&[u8], BadField>
     ensures bad { IfErr result (λ b. FirstBad (shape_of form) (fields_of fields.now) b.number) }
 {
     fields.get(at).ok_or(bad_field(at))
-}
-
-// A field that is one word.
-#[tactic(auto, using(crate::proofs::FieldFacts::same_field, crate::proofs::FieldFacts::fits_more, crate::proofs::FieldFacts::bad_field))]
-pub(crate) fn spelled(
-    fields: &ByteRecord,
-    form: Form,
-    at: usize,
-    word: &[u8],
-) -> Result<(), BadField>
-    requires small { at < 32 }
-    requires wants { slice_get (shape_of form) at ≡ Some (Spelled word.now) }
-    requires before { FitsBefore (shape_of form) (fields_of fields.now) at }
-    ensures read { OnOk result (IsField (fields_of fields.now) at word.now) }
-    ensures fits { OnOk result (FitsBefore (shape_of form) (fields_of fields.now) (at + 1)) }
-    ensures bad { IfErr result (λ b. FirstBad (shape_of form) (fields_of fields.now) b.number) }
-{
-    let text = field(fields, form, at)?;
-    if text != word {
-        return Err(bad_field(at));
-    }
-    Ok(())
 }
 
 // A field that is a whole number within limits.
@@ -212,6 +194,88 @@ pub(crate) fn approach(fields: &ByteRecord, form: Form, at: usize) -> Result<App
     match approach_of(text) {
         Some(kind) => Ok(kind),
         None => Err(bad_field(at)),
+    }
+}
+
+// A field that is the kind of a structure.
+#[tactic(auto, using(crate::proofs::FieldFacts::same_field, crate::proofs::FieldFacts::before_next, crate::proofs::FieldFacts::no_kind_fits))]
+pub(crate) fn kind(fields: &ByteRecord, form: Form, at: usize) -> Result<StructureKind, BadField>
+    requires small { at < 32 }
+    requires wants { slice_get (shape_of form) at ≡ Some KindWanted }
+    requires before { FitsBefore (shape_of form) (fields_of fields.now) at }
+    ensures read { IfOk result (λ kind. IsField (fields_of fields.now) at (kind_word kind)) }
+    ensures next { IfOk result (λ kind. field_before (fields_of fields.now) (at + 1) ≡ Some (kind_word kind)) }
+    ensures fits { OnOk result (FitsBefore (shape_of form) (fields_of fields.now) (at + 1)) }
+    ensures bad { IfErr result (λ b. FirstBad (shape_of form) (fields_of fields.now) b.number) }
+{
+    let text = field(fields, form, at)?;
+    match kind_of(text) {
+        Some(kind) => Ok(kind),
+        None => Err(bad_field(at)),
+    }
+}
+
+// A field that is the height of the highest mobile object on a structure of this kind, which the field before tells.
+#[tactic(auto, using(crate::proofs::FieldFacts::same_field, crate::proofs::LimitFacts::mobile_short))]
+pub(crate) fn mobile(
+    fields: &ByteRecord,
+    form: Form,
+    at: usize,
+    kind: StructureKind,
+) -> Result<i64, BadField>
+    requires small { at < 32 }
+    requires kind { field_before (fields_of fields.now) at ≡ Some (kind_word kind) }
+    requires wants { slice_get (shape_of form) at ≡ Some MobileWanted }
+    requires before { FitsBefore (shape_of form) (fields_of fields.now) at }
+    ensures read { IfOk result (λ z. IsField (fields_of fields.now) at (signed_decimal z)) }
+    ensures within { IfOk result (λ z. IsBetween (pos 0) (greatest_mobile kind) z) }
+    ensures short { IfOk result (λ z. HasNineDigits z) }
+    ensures fits { OnOk result (FitsBefore (shape_of form) (fields_of fields.now) (at + 1)) }
+    ensures bad { IfErr result (λ b. FirstBad (shape_of form) (fields_of fields.now) b.number) }
+{
+    let text = field(fields, form, at)?;
+    match number_within(text, 0, kind.mobile_most()) {
+        Some(z) => Ok(z),
+        None => Err(bad_field(at)),
+    }
+}
+
+// A field that is the flags of a notice.
+#[tactic(auto, using(crate::proofs::FieldFacts::same_field, crate::proofs::FieldFacts::no_flags_fit))]
+pub(crate) fn flags(fields: &ByteRecord, form: Form, at: usize) -> Result<Flags, BadField>
+    requires small { at < 32 }
+    requires wants { slice_get (shape_of form) at ≡ Some FlagsWanted }
+    requires before { FitsBefore (shape_of form) (fields_of fields.now) at }
+    ensures read { IfOk result (λ flags. IsField (fields_of fields.now) at (flags_text flags)) }
+    ensures fits { OnOk result (FitsBefore (shape_of form) (fields_of fields.now) (at + 1)) }
+    ensures bad { IfErr result (λ b. FirstBad (shape_of form) (fields_of fields.now) b.number) }
+{
+    let text = field(fields, form, at)?;
+    match flags_of(text) {
+        Some(flags) => Ok(flags),
+        None => Err(bad_field(at)),
+    }
+}
+
+// A field that is the name of the airfield that a structure is on, or a dash.
+#[tactic(auto, using(crate::proofs::FieldFacts::same_field, crate::proofs::FieldFacts::no_airfield_fits))]
+pub(crate) fn on_airfield(
+    fields: &ByteRecord,
+    form: Form,
+    at: usize,
+) -> Result<Option<FieldId>, BadField>
+    requires small { at < 32 }
+    requires wants { slice_get (shape_of form) at ≡ Some AirfieldWanted }
+    requires before { FitsBefore (shape_of form) (fields_of fields.now) at }
+    ensures read { IfOk result (λ on. IsField (fields_of fields.now) at (name_text on)) }
+    ensures name { IfOk result (λ on. IsAirfieldName on) }
+    ensures fits { OnOk result (FitsBefore (shape_of form) (fields_of fields.now) (at + 1)) }
+    ensures bad { IfErr result (λ b. FirstBad (shape_of form) (fields_of fields.now) b.number) }
+{
+    let text = field(fields, form, at)?;
+    match airfield_of(text) {
+        Ok(on) => Ok(on),
+        Err(_) => Err(bad_field(at)),
     }
 }
 

@@ -6,6 +6,7 @@ pub(crate) enum Form {
     Airport,
     Runway,
     DropRunway,
+    Heliport,
     Drop,
     Screen,
     Verdict,

@@ -10,12 +10,13 @@ ghost use Rattle.oe_wire.specs.Forms.{form_word, shape_of, site_shape, coordinat
 ghost use Rattle.oe_wire.specs.Requests.{site_spelling, spelling, form_of, IsValidSite, IsValid};
 
 use crate::fields::{
-    approach, category, end, field_id, number, pavement, runway_name, spelled, weight, word,
+    approach, category, end, field_id, flags, kind, mobile, number, on_airfield, pavement,
+    runway_name, weight, word,
 };
 use crate::form::{BadField, Form};
 use crate::request::{Act, Change, Query, Request};
 use crate::values::form_of;
-use airport_register::{Amendment, Filing, Flags, Runway, RunwayEnd, StructureKind};
+use airport_register::{Amendment, Filing, Heliport, Runway, RunwayEnd};
 use csv::ByteRecord;
 use grid_exact::Point;
 
@@ -46,32 +47,6 @@ pub(crate) fn point(fields: &ByteRecord, form: Form, at: usize) -> Result<Point,
     let x = number(fields, form, at, -20_000_000, 20_000_000)?;
     let y = number(fields, form, at + 1, -20_000_000, 20_000_000)?;
     Ok(Point { x, y })
-}
-
-// The filing of an object with no mobile objects, flags or airfield.
-fn plain_filing(at: Point, terrain: i64, height: i64) -> Filing
-    requires terrain { IsBetween (neg_ℤ (pos 20000)) (pos 200000) terrain }
-    requires height { IsBetween (pos 0) (pos 100000) height }
-    ensures spelled { site_spelling result ≡ signed_decimal at.x ∷ signed_decimal at.y ∷ signed_decimal terrain ∷ signed_decimal height
-        ∷ codes "object" ∷ codes "0" ∷ codes "-" ∷ codes "-" ∷ [] }
-    ensures valid { IsValidSite result }
-{
-    Filing {
-        at,
-        ground: terrain,
-        height,
-        kind: StructureKind::Object,
-        mobile: 0,
-        flags: Flags {
-            shielded: false,
-            device: false,
-            other_rule: false,
-            increases: false,
-            controlled: false,
-            temporary: false,
-        },
-        on: None,
-    }
 }
 
 // Four fields that are an end of a runway.
@@ -109,12 +84,20 @@ fn structure(fields: &ByteRecord, form: Form) -> Result<Filing, BadField>
     let at = point(fields, form, 1)?;
     let terrain = number(fields, form, 3, -20_000, 200_000)?;
     let height = number(fields, form, 4, 0, 100_000)?;
-    spelled(fields, form, 5, b"object")?;
-    spelled(fields, form, 6, b"0")?;
-    spelled(fields, form, 7, b"-")?;
-    spelled(fields, form, 8, b"-")?;
+    let kind = kind(fields, form, 5)?;
+    let mobile = mobile(fields, form, 6, kind)?;
+    let flags = flags(fields, form, 7)?;
+    let on = on_airfield(fields, form, 8)?;
     end(fields, form, 9)?;
-    Ok(plain_filing(at, terrain, height))
+    Ok(Filing {
+        at,
+        ground: terrain,
+        height,
+        kind,
+        mobile,
+        flags,
+        on,
+    })
 }
 
 // The fields of a screening.
@@ -232,6 +215,36 @@ pub(crate) fn drop_runway(fields: &ByteRecord) -> Result<Request, BadField>
     let name = runway_name(fields, Form::DropRunway, 4)?;
     end(fields, Form::DropRunway, 5)?;
     let act = Act::Amend(Amendment::DropRunway { id, name });
+    Ok(Request::Change(Change { caller, key, act }))
+}
+
+// The fields of a heliport.
+pub(crate) fn heliport(fields: &ByteRecord) -> Result<Request, BadField>
+    requires named { IsField (fields_of fields.now) 0 (codes "heliport") }
+    requires begun { FitsBefore (shape_of Form.Heliport) (fields_of fields.now) 1 }
+    ensures read { IfOk result (λ r. fields_of fields.now ≡ spelling r) }
+    ensures form { IfOk result (λ r. form_of r ≡ Form.Heliport) }
+    ensures valid { IfOk result (λ r. IsValid r) }
+    ensures fits { OnOk result (HasShape (shape_of Form.Heliport) (fields_of fields.now)) }
+    ensures bad { IfErr result (λ b. FirstBad (shape_of Form.Heliport) (fields_of fields.now) b.number) }
+{
+    let caller = word(fields, Form::Heliport, 1)?;
+    let key = word(fields, Form::Heliport, 2)?;
+    let id = field_id(fields, Form::Heliport, 3)?;
+    let category = category(fields, Form::Heliport, 4)?;
+    let a = point(fields, Form::Heliport, 5)?;
+    let b = point(fields, Form::Heliport, 7)?;
+    let width = number(fields, Form::Heliport, 9, -999_999_999, 999_999_999)?;
+    let elevation = number(fields, Form::Heliport, 10, -999_999_999, 999_999_999)?;
+    end(fields, Form::Heliport, 11)?;
+    let act = Act::Amend(Amendment::PutHeliport(Heliport {
+        id,
+        category,
+        a,
+        b,
+        width,
+        elevation,
+    }));
     Ok(Request::Change(Change { caller, key, act }))
 }
 

@@ -24,4 +24,6 @@ pub use request::{Act, Change, Query, ReadRefusal, Request};
 pub use word::Word;
 
 #[cfg(test)]
+mod structure_tests;
+#[cfg(test)]
 mod tests;

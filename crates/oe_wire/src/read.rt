@@ -6,7 +6,9 @@ ghost use Rattle.oe_wire.specs.Forms.{FirstWrong};
 ghost use Rattle.oe_wire.specs.Requests.{spelling, IsGood, IsRecord, IsRefusal};
 
 use crate::form::{BadField, Form};
-use crate::forms::{airfield, airport, drop_airfield, drop_runway, form, runway, screen, verdict};
+use crate::forms::{
+    airfield, airport, drop_airfield, drop_runway, form, heliport, runway, screen, verdict,
+};
 use crate::request::{ReadRefusal, Request};
 use csv::ByteRecord;
 use record_fields::find_fields;
@@ -24,6 +26,7 @@ fn request(fields: &ByteRecord) -> Result<Request, BadField>
         Some(Form::Airport) => airport(fields),
         Some(Form::Runway) => runway(fields),
         Some(Form::DropRunway) => drop_runway(fields),
+        Some(Form::Heliport) => heliport(fields),
         Some(Form::Drop) => drop_airfield(fields),
         Some(Form::Verdict) => verdict(fields),
         Some(Form::Airfield) => airfield(fields),

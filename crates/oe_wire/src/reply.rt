@@ -13,6 +13,8 @@ pub enum Plain {
     Runway,
     /// A runway was dropped.
     DropRunway,
+    /// A heliport was put into the register.
+    Heliport,
     /// An airfield was taken out of the register.
     Drop,
 }

@@ -19,6 +19,7 @@ fn plain_word(plain: Plain) -> &'static str
         Plain::Airport => "airport",
         Plain::Runway => "runway",
         Plain::DropRunway => "droprunway",
+        Plain::Heliport => "heliport",
         Plain::Drop => "drop",
     }
 }

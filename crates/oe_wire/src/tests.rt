@@ -14,7 +14,7 @@ use runway_classes::ApproachKind;
 use std::alloc::Global;
 
 // The field at which a line is malformed.
-fn bad_field(alloc: Global, line: &[u8]) -> Option<u32> {
+pub(crate) fn bad_field(alloc: Global, line: &[u8]) -> Option<u32> {
     match read_record(alloc, line) {
         Err(ReadRefusal::Malformed { field }) => Some(field),
         _ => None,
@@ -49,7 +49,7 @@ fn lines_of_no_form(rt: HostRuntime) {
 
 #[test]
 fn bad_screenings(rt: HostRuntime) {
-    let table: [(&[u8], u32); 23] = [
+    let table: [(&[u8], u32); 18] = [
         (b"screen,", 2),
         (b"screen,0", 3),
         (b"screen,0,0,0,0,object,0,-", 9),
@@ -68,11 +68,6 @@ fn bad_screenings(rt: HostRuntime) {
         (b"screen,0,0,-20001,0,object,0,-,-", 4),
         (b"screen,0,0,0,100001,object,0,-,-", 5),
         (b"screen,0,0,0,-1,object,0,-,-", 5),
-        (b"screen,0,0,0,0,Object,0,-,-", 6),
-        (b"screen,0,0,0,0,antenna,0,-,-", 6),
-        (b"screen,0,0,0,0,object,00,-,-", 7),
-        (b"screen,0,0,0,0,object,0,S,-", 8),
-        (b"screen,0,0,0,0,object,0,-,AAA", 9),
     ];
     for (line, field) in table {
         assert_eq!(rt;
@@ -136,6 +131,35 @@ fn bad_runways(rt: HostRuntime) {
 }
 
 #[test]
+fn bad_heliports(rt: HostRuntime) {
+    let table: [(&[u8], u32); 15] = [
+        (b"heliport", 2),
+        (b"heliport,u-v,1,H1,dod,0,0,1000,0,1000,500", 2),
+        (b"heliport,u,,H1,dod,0,0,1000,0,1000,500", 3),
+        (b"heliport,u,1,h1,dod,0,0,1000,0,1000,500", 4),
+        (b"heliport,u,1,H1,Dod,0,0,1000,0,1000,500", 5),
+        (b"heliport,u,1,H1,dod,20000001,0,1000,0,1000,500", 6),
+        (b"heliport,u,1,H1,dod,0,-20000001,1000,0,1000,500", 7),
+        (b"heliport,u,1,H1,dod,0,0,20000001,0,1000,500", 8),
+        (b"heliport,u,1,H1,dod,0,0,1000,-20000001,1000,500", 9),
+        (b"heliport,u,1,H1,dod,0,0,1000,0,1000000000,500", 10),
+        (b"heliport,u,1,H1,dod,0,0,1000,0,0100,500", 10),
+        (b"heliport,u,1,H1,dod,0,0,1000,0,1000,-1000000000", 11),
+        (b"heliport,u,1,H1,dod,0,0,1000,0,1000", 11),
+        (b"heliport,u,1,H1,dod,0,0,1000,0,1000,500,", 12),
+        (b"heliports,u,1,H1,dod,0,0,1000,0,1000,500", 1),
+    ];
+    for (line, field) in table {
+        assert_eq!(rt;
+            bad_field(rt.alloc(), line),
+            Some(field),
+            "at {}",
+            line.escape_ascii()
+        );
+    }
+}
+
+#[test]
 fn bad_drops(rt: HostRuntime) {
     let table: [(&[u8], u32); 14] = [
         (b"droprunway", 2),
@@ -171,10 +195,10 @@ fn bad_questions(rt: HostRuntime) {
         (b"verdict,0,-20000001,0,0,object,0,-,-", 3),
         (b"verdict,0,0,200001,0,object,0,-,-", 4),
         (b"verdict,0,0,0,-1,object,0,-,-", 5),
-        (b"verdict,0,0,0,0,antenna,0,-,-", 6),
+        (b"verdict,0,0,0,0,antennas,0,-,-", 6),
         (b"verdict,0,0,0,0,object,1,-,-", 7),
-        (b"verdict,0,0,0,0,object,0,S,-", 8),
-        (b"verdict,0,0,0,0,object,0,-,AAA", 9),
+        (b"verdict,0,0,0,0,object,0,s,-", 8),
+        (b"verdict,0,0,0,0,object,0,-,aaa", 9),
         (b"verdict,0,0,0,0,object,0,-,-,", 10),
         (b"airfield", 2),
         (b"airfield,", 2),
@@ -316,6 +340,29 @@ fn a_runway(rt: HostRuntime) {
     assert_eq!(rt; amendment, Amendment::PutRunway { id, runway });
 }
 
+// The limits of a heliport's width and elevation are no matter of its record.
+#[test]
+fn a_heliport(rt: HostRuntime) {
+    let line = b"heliport,u,k,H1,dod,-5,7,20000000,-20000000,999999999,-999999999";
+    let change = change_of(rt.alloc(), line).expect(&rt, "it is a record");
+    let Change { caller, key, act } = change;
+    let Act::Amend(amendment) = act;
+    let want = Heliport {
+        id: FieldId::new(b"H1").expect(&rt, "it is a name"),
+        category: Category::Dod,
+        a: Point { x: -5, y: 7 },
+        b: Point {
+            x: 20_000_000,
+            y: -20_000_000,
+        },
+        width: 999_999_999,
+        elevation: -999_999_999,
+    };
+    assert_eq!(rt; caller.as_bytes(), b"u".as_slice());
+    assert_eq!(rt; key.as_bytes(), b"k".as_slice());
+    assert_eq!(rt; amendment, Amendment::PutHeliport(want));
+}
+
 #[test]
 fn drops(rt: HostRuntime) {
     let id = FieldId::new(b"AAA").expect(&rt, "it is a name");
@@ -378,7 +425,7 @@ fn short_replies(rt: HostRuntime) {
         published,
         outcome: Outcome::Plain(plain),
     };
-    let table: [(Reply, &[u8]); 10] = [
+    let table: [(Reply, &[u8]); 11] = [
         (plain(1, true, Plain::Airport), b"ok,1,published,airport\n"),
         (
             plain(1234567, false, Plain::Runway),
@@ -387,6 +434,10 @@ fn short_replies(rt: HostRuntime) {
         (
             plain(3, true, Plain::DropRunway),
             b"ok,3,published,droprunway\n",
+        ),
+        (
+            plain(1, true, Plain::Heliport),
+            b"ok,1,published,heliport\n",
         ),
         (plain(4, true, Plain::Drop), b"ok,4,published,drop\n"),
         (
@@ -487,6 +538,23 @@ fn entries_without_names(rt: HostRuntime) {
         (Rule::WayB1, b"found,7,1,9c-b1 - - 4000000000\n"),
         (Rule::WayB2, b"found,7,1,9c-b2 - - 4000000000\n"),
         (Rule::WayB3, b"found,7,1,9c-b3 - - 4000000000\n"),
+    ];
+    for (rule, want) in table {
+        let text = entry_of(rt.alloc(), rule, &key).expect(&rt, "there is memory");
+        assert_eq!(rt; text.as_slice(), want);
+    }
+}
+
+#[test]
+fn entries_beside_primary_surfaces(rt: HostRuntime) {
+    let key = SurfaceKey {
+        field: FieldId::new(b"AAA").ok(),
+        runway: RunwayName::new(b"09/27").ok(),
+        part: 0,
+    };
+    let table: [(Rule, &[u8]); 2] = [
+        (Rule::Transition, b"found,7,1,19e AAA 09/27.0 4000000000\n"),
+        (Rule::PadTransition, b"found,7,1,23t AAA 0 4000000000\n"),
     ];
     for (rule, want) in table {
         let text = entry_of(rt.alloc(), rule, &key).expect(&rt, "there is memory");

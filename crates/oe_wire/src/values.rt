@@ -1,17 +1,20 @@
 //! Values from their one spelling.
 
-ghost use Rattle.std.specs.Prelude.{◌≡◌, ◌≢◌, ℤ, Bool, IfSome, IfNone};
+ghost use Rattle.std.specs.Prelude.{◌≡◌, ◌≢◌, ℤ, ℕ, List, Option, Bool, IfSome, IfNone, IfOk, OnErr};
 ghost use Rattle.std.specs.Fmt.{signed_decimal};
 ghost use Rattle.whole_number.specs.Whole.{HasNineDigits};
 ghost use Rattle.runway_classes.specs.declared.ApproachKind.{ApproachKind};
 ghost use Rattle.airport_register.specs.declared.category.Category.{Category};
-ghost use Rattle.oe_wire.specs.Words.{category_word, approach_word, weight_word, pavement_word};
+ghost use Rattle.airport_register.specs.declared.structure.StructureKind.{StructureKind as SomeKind};
+ghost use Rattle.airport_register.specs.declared.structure.Flags.{Flags as SomeFlags};
+ghost use Rattle.oe_wire.specs.Words.{category_word, approach_word, weight_word, pavement_word, kind_word, flag_letters, flags_text, name_text, IsAirfieldName};
+ghost use Rattle.oe_wire.specs.Letters.{begins_with, behind};
 ghost use Rattle.oe_wire.specs.Shape.{IsBetween};
 ghost use Rattle.oe_wire.specs.Forms.{form_word};
 ghost use Rattle.oe_wire.specs.declared.form.Form.{Form as SomeForm};
 
 use crate::form::Form;
-use airport_register::Category;
+use airport_register::{BadName, Category, FieldId, Flags, StructureKind};
 use runway_classes::ApproachKind;
 
 // The whole number within the limits that some bytes spell.
@@ -94,6 +97,102 @@ pub(crate) fn pavement_of(word: &[u8]) -> Option<bool>
     }
 }
 
+// The kind of structure of a word.
+#[tactic(auto, using(crate::proofs::WordFacts::no_kind))]
+pub(crate) fn kind_of(word: &[u8]) -> Option<StructureKind>
+    ensures some { IfSome result (λ kind. word.now ≡ kind_word kind) }
+    ensures none { IfNone result ((kind : SomeKind) → word.now ≢ kind_word kind) }
+{
+    match word {
+        b"object" => Some(StructureKind::Object),
+        b"antenna" => Some(StructureKind::Antenna),
+        b"interstate" => Some(StructureKind::Interstate),
+        b"road" => Some(StructureKind::Road),
+        b"private" => Some(StructureKind::Private),
+        b"rail" => Some(StructureKind::Rail),
+        b"water" => Some(StructureKind::Water),
+        _ => None,
+    }
+}
+
+// The letters of flags that are still to be read.
+#[derive(Drop)]
+struct Letters<'a> {
+    rest: &'a [u8],
+}
+
+impl Letters<'_> {
+    // Whether the first of the letters is this one, which is then read.
+    fn takes(&mut self, letter: u8) -> bool
+        ensures read { result ≡ begins_with letter self.old.rest.now }
+        ensures rest { self.new.rest.now ≡ behind letter self.old.rest.now }
+    {
+        match self.rest.split_first() {
+            Some((first, others)) if *first == letter => {
+                self.rest = others;
+                true
+            }
+            _ => false,
+        }
+    }
+}
+
+// The flags of letters, each of which stands once and in its order.
+fn lettered_flags(text: &[u8]) -> Option<Flags>
+    ensures some { IfSome result (λ flags. text.now ≡ flag_letters flags) }
+    ensures none { IfNone result ((flags : SomeFlags) → text.now ≢ flag_letters flags) }
+{
+    let mut letters = Letters { rest: text };
+    let flags = Flags {
+        shielded: letters.takes(b'S'),
+        device: letters.takes(b'D'),
+        other_rule: letters.takes(b'R'),
+        increases: letters.takes(b'I'),
+        controlled: letters.takes(b'G'),
+        temporary: letters.takes(b'T'),
+    };
+    if letters.rest.is_empty() {
+        Some(flags)
+    } else {
+        None
+    }
+}
+
+// The flags of a field.
+pub(crate) fn flags_of(text: &[u8]) -> Option<Flags>
+    ensures some { IfSome result (λ flags. text.now ≡ flags_text flags) }
+    ensures none { IfNone result ((flags : SomeFlags) → text.now ≢ flags_text flags) }
+{
+    if text.is_empty() {
+        return None;
+    }
+    if text == b"-".as_slice() {
+        return Some(Flags {
+            shielded: false,
+            device: false,
+            other_rule: false,
+            increases: false,
+            controlled: false,
+            temporary: false,
+        });
+    }
+    lettered_flags(text)
+}
+
+// The airfield that a field names, or none where it is a dash.
+pub(crate) fn airfield_of(text: &[u8]) -> Result<Option<FieldId>, BadName>
+    ensures some { IfOk result (λ on. text.now ≡ name_text on) }
+    ensures name { IfOk result (λ on. IsAirfieldName on) }
+    ensures none { OnErr result ((on : Option (List ℕ)) → IsAirfieldName on → text.now ≢ name_text on) }
+{
+    if text == b"-".as_slice() {
+        return Ok(None);
+    }
+    let name = FieldId::new(text)?;
+    let _bytes = name.as_bytes(); // tells what the name is made of
+    Ok(Some(name))
+}
+
 // The form of a first field.
 #[tactic(auto, using(crate::proofs::WordFacts::no_form_word))]
 pub(crate) fn form_of(word: &[u8]) -> Option<Form>
@@ -105,6 +204,7 @@ pub(crate) fn form_of(word: &[u8]) -> Option<Form>
         b"airport" => Some(Form::Airport),
         b"runway" => Some(Form::Runway),
         b"droprunway" => Some(Form::DropRunway),
+        b"heliport" => Some(Form::Heliport),
         b"drop" => Some(Form::Drop),
         b"verdict" => Some(Form::Verdict),
         b"airfield" => Some(Form::Airfield),

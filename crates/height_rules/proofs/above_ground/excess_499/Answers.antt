@@ -1,5 +1,5 @@
-use Rattle.std.proofs.Common.{◌≡◌, ◌+ℤ◌, pos, ap, arith, sym, ◌∙◌, FitsSigned, w64, to_z-of_z, subst, ℤ, ℕ, Option}
-use Rattle.std.specs.Prelude.{⊤, IfSome}
+use Rattle.std.proofs.Common.{◌≡◌, ◌+ℤ◌, pos, ap, arith, FitsSigned, w64, to_z-of_z, subst, ℤ}
+use Rattle.std.specs.Prelude.{⊤}
 use Rattle.std.proofs.lemmas.Int.{ints}
 use Rattle.grid_exact.specs.Excess.{IsExcess, flat_surface}
 use Rattle.height_rules.specs.Heights.{standards_top}

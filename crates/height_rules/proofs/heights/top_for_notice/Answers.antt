@@ -1,4 +1,4 @@
-use Rattle.std.proofs.Common.{◌≡◌, ◌+ℤ◌, ◌≤ℤ◌, ap, arith, ◌∙◌, sym}
+use Rattle.std.proofs.Common.{◌≡◌, ap, arith, ◌∙◌}
 use Rattle.std.proofs.lemmas.Int.{ints}
 use Rattle.height_rules.specs.Heights.{allowance_of}
 use Rattle.height_rules.proofs.HeightFacts.{IsPart, three_parts}

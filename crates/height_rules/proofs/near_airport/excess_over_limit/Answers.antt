@@ -1,12 +1,11 @@
-use Rattle.std.proofs.Common.{◌≡◌, ◌+ℤ◌, ◌≤ℤ◌, ◌<ℤ◌, ℤ, ℕ, pos, neg_ℤ, ap, arith, sym, ◌∙◌, FitsSigned, w64, to_z, of_z, to_z-of_z, subst}
+use Rattle.std.proofs.Common.{◌≤ℤ◌, ℤ, ℕ, arith, FitsSigned, w64, to_z-of_z, subst}
 use Rattle.std.proofs.lemmas.Int.{ints}
-use Rattle.std.specs.Int.{int_max}
 use Rattle.grid_exact.specs.Excess.{IsExcess, covering}
 use Rattle.grid_exact.proofs.ExcessLemmas.{IsExcess-covered}
-use Rattle.height_rules.specs.Limits.{IsLow, IsAtLimit, IsAboveLimit}
+use Rattle.height_rules.specs.Limits.{IsAtLimit, IsAboveLimit}
 use Rattle.height_rules.specs.NearAirport.{near_surface, base_of, square_distance}
 use Rattle.height_rules.specs.Heights.{standards_top}
-use Rattle.height_rules.proofs.NearFacts.{floor_of, low_top, max_right}
+use Rattle.height_rules.proofs.NearFacts.{low_top, max_right}
 use Rattle.height_rules.proofs.near_airport.excess_over_limit.Goals as goal
 
 pub returns-then-airport-top-clause-exact : goal.returns-then-airport-top-clause-exact

@@ -4,7 +4,7 @@ use Rattle.oe_wire.proofs.forms.structure.Goals as goal
 
 pub returns-clause-read : goal.returns-clause-read
 returns-clause-read c =
-    rw (c.plain_filing.ensures.spelled, raw_short c.in_ok-terrain.terrain c.in_ok-terrain.ensures.short, raw_short c.in_ok-height.height c.in_ok-height.ensures.short)
+    rw (raw_short c.in_ok-terrain.terrain c.in_ok-terrain.ensures.short, raw_short c.in_ok-height.height c.in_ok-height.ensures.short, raw_short c.in_ok-mobile.mobile c.in_ok-mobile.ensures.short)
     (all_read _ _ (
       c.requires.named,
       (
@@ -15,7 +15,7 @@ returns-clause-read c =
             c.in_ok-terrain.ensures.read,
             (
               c.in_ok-height.ensures.read,
-              (c.in_ok-spelled.ensures.read, (c.in_ok-spelled-2.ensures.read, (c.in_ok-spelled-3.ensures.read, (c.in_ok-spelled-4.ensures.read, c.in_ok-end.ensures.read)))),
+              (c.in_ok-kind.ensures.read, (c.in_ok-mobile.ensures.read, (c.in_ok-flags.ensures.read, (c.in_ok-on.ensures.read, c.in_ok-end.ensures.read)))),
             ),
           ),
         ),

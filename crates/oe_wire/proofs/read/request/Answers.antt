@@ -36,3 +36,8 @@ pub returns-in-Some-Airfield-clause-bad : goal.returns-in-Some-Airfield-clause-b
 returns-in-Some-Airfield-clause-bad c =
     let named = rw c.in-Some-Airfield.field-0-is at c.in-Some-Airfield.ensures.named in
     in_form forms.Airfield _ c.airfield.result named c.airfield.ensures.bad
+
+pub returns-in-Some-Heliport-clause-bad : goal.returns-in-Some-Heliport-clause-bad
+returns-in-Some-Heliport-clause-bad c =
+    let named = rw c.in-Some-Heliport.field-0-is at c.in-Some-Heliport.ensures.named in
+    in_form forms.Heliport _ c.heliport.result named c.heliport.ensures.bad

@@ -1,0 +1,4 @@
+pub mod PadSizes
+pub mod Corners
+pub mod NoticeFacts
+pub mod PadFacts

@@ -1,0 +1,9 @@
+pub mod Sizes
+pub mod Axes
+pub mod Landings
+pub mod Approaches
+pub mod Shapes
+pub mod Notices
+pub mod Laws
+pub mod Pads
+pub mod Prepared

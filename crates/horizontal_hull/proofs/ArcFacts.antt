@@ -1,0 +1,49 @@
+-- The arcs of an airport's runways are near its reference point.
+use Rattle.std.proofs.Common.{◌≤◌, ℕ, ℤ, ◌-ℤ◌, unsigned_abs, List, [], ◌∷◌, Bool, true, false, arith}
+use Rattle.std.specs.List.{All, flat_map}
+use Rattle.std.proofs.lemmas.Int.{ints}
+use Rattle.std.proofs.lemmas.List.Elements.{All-append, All-cons, All-head, All-nil, All-tail}
+use Rattle.grid_exact.specs.declared.point.Point.{Point}
+use Rattle.runway_classes.specs.declared.ApproachKind.{ApproachKind}
+use Rattle.runway_classes.specs.declared.ApproachKind.TheVariants.{Visual, NonprecisionAbove, NonprecisionLow, Precision}
+use Rattle.runway_classes.specs.Class.{more_precise, radius}
+use Rattle.airport_register.specs.declared.runway.Runway.{Runway}
+use Rattle.airport_register.specs.Runways.{HasNearEnds, apart, length_square}
+use Rattle.runway_lines.specs.Centers.{center}
+use Rattle.runway_lines.specs.declared.end.End.TheVariants.{One, Two}
+use Rattle.runway_lines.proofs.CenterFacts.{extended_near}
+use Rattle.horizontal_hull.specs.Arcs.{ArcShape, arc, arcs_of_runway}
+use Rattle.horizontal_hull.specs.Close.{IsNearReference}
+
+center_near : (hard : Bool) (here there arp : ℤ) (n : ℕ) → apart here arp ≤ 400000 → unsigned_abs (center hard here there n -ℤ arp) ≤ 402000
+center_near true here there arp n h = let e = extended_near here there n in omega (arith, ints, h, e.0, e.1)
+center_near false here there arp n h = omega (arith, h)
+
+radius_most : (utility : Bool) (most : ApproachKind) → unsigned_abs (radius utility most) ≤ 100000
+radius_most true most = omega arith
+radius_most false Visual = omega arith
+radius_most false NonprecisionAbove = omega arith
+radius_most false NonprecisionLow = omega arith
+radius_most false Precision = omega arith
+
+first_near : (arp : Point) (r : Runway) → HasNearEnds arp r → IsNearReference arp (arc r One)
+first_near arp r h = record {
+  x = center_near r.hard r.end1.at.x r.end2.at.x arp.x (length_square r) h.end1.x;
+  y = center_near r.hard r.end1.at.y r.end2.at.y arp.y (length_square r) h.end1.y;
+  radius = radius_most r.utility (more_precise r.end1.kind r.end2.kind);
+}
+
+second_near : (arp : Point) (r : Runway) → HasNearEnds arp r → IsNearReference arp (arc r Two)
+second_near arp r h = record {
+  x = center_near r.hard r.end2.at.x r.end1.at.x arp.x (length_square r) h.end2.x;
+  y = center_near r.hard r.end2.at.y r.end1.at.y arp.y (length_square r) h.end2.y;
+  radius = radius_most r.utility (more_precise r.end1.kind r.end2.kind);
+}
+
+pub arcs_near : (arp : Point) (runways : List Runway) → All (HasNearEnds arp) runways → All (IsNearReference arp) (flat_map arcs_of_runway runways)
+arcs_near arp [] h = All-nil (IsNearReference arp)
+arcs_near arp (r ∷ rs) h =
+    let ends = All-head (HasNearEnds arp) r rs h in
+    All-append (IsNearReference arp) (arcs_of_runway r) (flat_map arcs_of_runway rs)
+    (All-cons (IsNearReference arp) (arc r One) (arc r Two ∷ []) (first_near arp r ends) (All-cons (IsNearReference arp) (arc r Two) [] (second_near arp r ends) (All-nil (IsNearReference arp))))
+    (arcs_near arp rs (All-tail (HasNearEnds arp) r rs h))

@@ -1,0 +1,78 @@
+//! Arcs about the ends of primary surfaces.
+
+ghost use Rattle.std.specs.Prelude.{◌≡◌, ◌≤◌, ◌-ℤ◌};
+ghost use Rattle.airport_register.specs.Runways.{IsProper};
+ghost use Rattle.horizontal_hull.specs.Arcs.{arc as arc_of};
+
+use airport_register::Runway;
+use grid_exact::{Point, Start, Vector};
+use runway_lines::{End, center, class};
+use std::marker::Model;
+
+/// An arc of a radius about the center at an end of a runway's primary surface, 77.19(a).
+#[derive(Drop)]
+pub(crate) struct Arc {
+    center: Start,
+    radius: u32,
+}
+
+impl Model for Arc {
+    ghost use Rattle.horizontal_hull.specs.Arcs.{ArcShape};
+
+    ghost Value = { ArcShape };
+
+    ghost view = { λ a. record { x = a.center.x; y = a.center.y; radius = a.radius } };
+}
+
+impl Arc {
+    /// The arc at this end of a runway.
+    pub(crate) fn of(runway: &Runway, end: End) -> Arc
+        requires proper { IsProper runway.now }
+        ensures shape { result ≡ arc_of runway.now end }
+        ensures radius { result.radius ≤ 100000 }
+    {
+        Arc {
+            center: center(runway, end),
+            radius: class(runway).radius as u32,
+        }
+    }
+
+    /// Its center.
+    pub(crate) fn center(&self) -> Start
+        ensures x { result.x ≡ self.now.x }
+        ensures y { result.y ≡ self.now.y }
+    {
+        self.center
+    }
+
+    /// Its radius.
+    pub(crate) fn radius(&self) -> u32
+        ensures { result ≡ self.now.radius }
+    {
+        self.radius
+    }
+
+    /// The way from its center to a point.
+    pub(crate) fn to_point(&self, x: &Point) -> Vector
+        ensures x { result.x ≡ x.now.x -ℤ self.now.x }
+        ensures y { result.y ≡ x.now.y -ℤ self.now.y }
+    {
+        self.center.to_point(x)
+    }
+
+    /// The way from its center to another arc's.
+    pub(crate) fn to_arc(&self, other: &Arc) -> Vector
+        ensures x { result.x ≡ other.now.x -ℤ self.now.x }
+        ensures y { result.y ≡ other.now.y -ℤ self.now.y }
+    {
+        self.center.to_start(&other.center)
+    }
+
+    /// The way to its center from a point.
+    pub(crate) fn from_point(&self, x: &Point) -> Vector
+        ensures x { result.x ≡ self.now.x -ℤ x.now.x }
+        ensures y { result.y ≡ self.now.y -ℤ x.now.y }
+    {
+        Start::at(x).to_start(&self.center)
+    }
+}

@@ -1,0 +1,122 @@
+//! What lies between the tangents of two arcs.
+
+ghost use Rattle.std.specs.Prelude.{◌≡◌, ◌↔◌, ◌+◌, ◌-◌, ◌*◌, ◌^◌, ◌<◌, ◌≤◌, ◌+ℤ◌, ◌-ℤ◌, ◌*ℤ◌, neg_ℤ, pos, unsigned_abs, IsTrue};
+ghost use Rattle.grid_exact.specs.Root.{AtMostRoot};
+ghost use Rattle.horizontal_hull.specs.Bands.{IsBand, ReachesRoot};
+ghost use Rattle.horizontal_hull.specs.Capsules.{ahead, aside, flare, span};
+ghost use Rattle.horizontal_hull.specs.Close.{IsNearBoth};
+
+use crate::arc::Arc;
+use crate::edge::Edge;
+use grid_exact::{Point, is_above_root, is_at_least_root, is_at_most_root, plus, scale};
+
+/// A point beside the line from the center of an arc to the center of another one, whose radius is not the smaller.
+#[derive(Clone, Copy)]
+pub(crate) struct Band {
+    /// The square of the distance between the centers.
+    square: u64,
+    /// How far the point lies along the line, times that distance.
+    along: i128,
+    /// How far it lies beside the line, times that distance.
+    across: u64,
+    /// How much greater the second radius is.
+    growth: u32,
+    /// The first radius, raised.
+    radius: u32,
+    ghost sized: { IsBand square along across growth radius },
+}
+
+impl Band {
+    /// The point `x` beside two arcs with radii raised by `c`.
+    pub(crate) fn of(a: &Arc, b: &Arc, x: &Point, c: u32) -> Band
+        requires near { IsNearBoth a.now b.now x.now }
+        requires order { a.now.radius ≤ b.now.radius }
+        requires run { c ≤ 40000 }
+        ensures square { result.square ≡ span a.now b.now }
+        ensures along { result.along ≡ ahead a.now b.now x.now }
+        ensures across { result.across ≡ aside a.now b.now x.now }
+        ensures growth { result.growth ≡ flare a.now b.now }
+        ensures radius { result.radius ≡ a.now.radius + c }
+    {
+        let way = a.to_arc(b);
+        let seen = a.to_point(x);
+        Band {
+            square: way.square_length() as u64,
+            along: way.dot(&seen),
+            across: way.cross(&seen).unsigned_abs() as u64,
+            growth: b.radius() - a.radius(),
+            radius: a.radius() + c,
+        }
+    }
+
+    /// Whether the larger disc does not hold the smaller one.
+    pub(crate) fn is_open(&self) -> bool
+        ensures { IsTrue result ↔ (self.now.growth * self.now.growth < self.now.square) }
+    {
+        let growth = self.growth as u64;
+        growth * growth < self.square
+    }
+
+    /// The square of the length of a tangent.
+    fn tangent(&self) -> u64
+        ensures value { result ≡ self.now.square - self.now.growth * self.now.growth }
+        ensures size { result ≤ 2 ^ 41 }
+    {
+        let growth = self.growth as u64;
+        self.square.saturating_sub(growth * growth)
+    }
+
+    /// How far beside the line the point lies, times how much greater the second radius is.
+    fn tilt(&self) -> u64
+        ensures value { result ≡ self.now.growth * self.now.across }
+        ensures size { result < 2 ^ 59 }
+    {
+        self.growth as u64 * self.across
+    }
+
+    /// Whether the point is not before where the tangents touch the first arc.
+    #[tactic(auto, using(crate::proofs::Sizes::bands))]
+    pub(crate) fn is_after(&self) -> bool
+        ensures { IsTrue result ↔ AtMostRoot (neg_ℤ (pos (self.now.growth * self.now.across))) self.now.along (self.now.square - self.now.growth * self.now.growth) }
+    {
+        is_at_most_root(-(self.tilt() as i128), self.along, self.tangent() as u128)
+    }
+
+    /// Whether the point is not past where the tangents touch the second arc.
+    #[tactic(auto, using(crate::proofs::Sizes::bands))]
+    pub(crate) fn is_before(&self) -> bool
+        ensures { IsTrue result ↔ AtMostRoot (pos (self.now.growth * self.now.across)) (pos self.now.square -ℤ self.now.along) (self.now.square - self.now.growth * self.now.growth) }
+    {
+        is_at_most_root(
+            self.tilt() as i128,
+            self.square as i128 - self.along,
+            self.tangent() as u128,
+        )
+    }
+
+    /// How far beside the line a tangent passes, times the distance between the centers and times the length of the tangent.
+    #[tactic(auto, using(crate::proofs::Sizes::bands))]
+    fn width(&self) -> i128
+        ensures value { result ≡ pos (self.now.radius * self.now.square) +ℤ pos self.now.growth *ℤ self.now.along }
+        ensures size { unsigned_abs result < 2 ^ 62 }
+    {
+        plus(
+            (self.radius as u64 * self.square) as i128,
+            scale(self.growth as i64, self.along),
+        )
+    }
+
+    /// Whether the point is not beyond a tangent.
+    #[tactic(auto, using(crate::proofs::Sizes::bands))]
+    pub(crate) fn is_under(&self, edge: Edge) -> bool
+        ensures { IsTrue result ↔ ReachesRoot edge (pos (self.now.radius * self.now.square) +ℤ pos self.now.growth *ℤ self.now.along) self.now.across (self.now.square - self.now.growth * self.now.growth) }
+    {
+        let width = self.width();
+        let across = self.across as i128;
+        let tangent = self.tangent() as u128;
+        match edge {
+            Edge::Closed => is_at_least_root(width, across, tangent),
+            Edge::Open => is_above_root(width, across, tangent),
+        }
+    }
+}

@@ -1,0 +1,33 @@
+//! Which exemption a structure has.
+
+ghost use Rattle.std.specs.Prelude.{◌≡◌};
+ghost use Rattle.notice_slopes.specs.Exemptions.{exemption_of, is_low_antenna as is_low_antenna_of};
+
+use crate::exemption::Exemption;
+use airport_register::{Filing, StructureKind};
+
+/// Whether it is an antenna structure of at most 20 feet that increases the height of no other one.
+fn is_low_antenna(filing: &Filing) -> bool
+    ensures { result ≡ is_low_antenna_of filing.now }
+{
+    match filing.kind {
+        StructureKind::Antenna => filing.height <= 200 && !filing.flags.increases,
+        _ => false,
+    }
+}
+
+/// Why the structure needs no notice: the first exemption of 77.9(e) that it has, in the order of the paragraph.
+pub fn exempt(f: &Filing) -> Option<Exemption>
+    ensures { result ≡ exemption_of f.now }
+{
+    if f.flags.shielded {
+        return Some(Exemption::Shielded);
+    }
+    if f.flags.device {
+        return Some(Exemption::Device);
+    }
+    if f.flags.other_rule {
+        return Some(Exemption::OtherRule);
+    }
+    is_low_antenna(f).then_some(Exemption::Antenna)
+}
