@@ -42,7 +42,7 @@ impl ApproachSurface {
     ghost use Rattle.grid_exact.specs.declared.cap.Cap.TheVariants.{Level, Beyond};
     ghost use Rattle.imaginary_surfaces.specs.Approaches.{outside as outside_of, slope_at};
     ghost use Rattle.imaginary_surfaces.specs.Shapes.{approach_shape};
-    ghost use Rattle.imaginary_surfaces.specs.Transitions.{ReachesBesideApproach, EndsBeyond, beside_approach, left_beside_approach, factor_beside_approach, shift_beside_approach};
+    ghost use Rattle.imaginary_surfaces.specs.Transitions.{ReachesBesideApproach, beside_approach, left_beside_approach, factor_beside_approach, shift_beside_approach};
 
     /// Whether a point is at least the half width there from the line.
     fn is_from_side(&self, point: &Point) -> bool
@@ -71,13 +71,6 @@ impl ApproachSurface {
             plus(product(20, self.width), 2_000_000),
             self.axis.square(),
         )
-    }
-
-    /// Whether the transitional surface extends to a point where neither the horizontal nor the conical surface lies over it.
-    fn ends_beyond(&self, point: &Point) -> bool
-        ensures { IsTrue result ↔ EndsBeyond (approach_shape self.now) point.now }
-    {
-        self.precision && self.is_near(point)
     }
 
     /// The number that the slope of the transitional surface compares with a root: how far the point is along the line and outside
@@ -135,10 +128,13 @@ impl ApproachSurface {
         ensures exact { IsExcess (beside_approach (approach_shape self.now) point.now Beyond) top result }
         ensures size { IfSome result (λ e. e ≤ 2 ^ 26) }
     {
-        if !self.ends_beyond(point) {
+        if !self.precision {
             return None;
         }
         if !self.reaches_beside(point) {
+            return None;
+        }
+        if !self.is_near(point) {
             return None;
         }
         self.slope_beside(point).excess(top)

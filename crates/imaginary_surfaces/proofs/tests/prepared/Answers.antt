@@ -1,4 +1,4 @@
-use Rattle.std.proofs.Common.{◌≡◌, inl, inr, ℤ, pos, negsuc, neg_ℤ, ◌≤ℤ◌, false, int_lt, FitsSigned, w64, to_z-of_z, arith}
+use Rattle.std.proofs.Common.{◌≡◌, inl, inr, ℤ, pos, negsuc, false, int_lt, FitsSigned, w64, to_z-of_z, arith}
 use Rattle.std.proofs.lemmas.Int.{ints}
 use Rattle.airport_register.specs.Runways.{IsElevation}
 use Rattle.imaginary_surfaces.proofs.tests.prepared.Goals as goal

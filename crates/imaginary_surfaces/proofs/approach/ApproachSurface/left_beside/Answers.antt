@@ -1,11 +1,10 @@
-use Rattle.std.proofs.Common.{◌≡◌, ◌≤◌, ◌*◌, ◌+◌, ◌^◌, ℤ, pos, ◌+ℤ◌, ◌*ℤ◌, ◌<ℤ◌, unsigned_abs, FitsSigned, w64, to_z-of_z, arith, ap, ◌∙◌}
+use Rattle.std.proofs.Common.{◌≡◌, ◌≤◌, ◌*◌, ◌+◌, ◌^◌, pos, ◌+ℤ◌, ◌*ℤ◌, ◌<ℤ◌, unsigned_abs, FitsSigned, w64, to_z-of_z, arith, ◌∙◌}
 use Rattle.std.specs.Int.{w128}
 use Rattle.std.proofs.lemmas.Int.{ints}
 use Rattle.std.proofs.lemmas.Nat.{mul-le}
-use Rattle.grid_exact.specs.Lines.{along, aside, square}
-use Rattle.imaginary_surfaces.specs.Approaches.{outside, slope_at}
+use Rattle.grid_exact.specs.Lines.{along, aside}
+use Rattle.imaginary_surfaces.specs.Approaches.{slope_at}
 use Rattle.imaginary_surfaces.specs.Shapes.{approach_shape}
-use Rattle.imaginary_surfaces.specs.Transitions.{left_beside_approach}
 use Rattle.imaginary_surfaces.proofs.TransitionFacts.{left_is, left_positive, outside_positive}
 use Rattle.imaginary_surfaces.proofs.approach.ApproachSurface.left_beside.Goals as goal
 use Rattle.imaginary_surfaces.proofs.approach.ApproachSurface.left_beside.Goals.{After-scale-2, After-plus}

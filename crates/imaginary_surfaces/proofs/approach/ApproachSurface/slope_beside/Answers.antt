@@ -1,4 +1,4 @@
-use Rattle.std.proofs.Common.{◌≡◌, pos, ◌-ℤ◌, ◌*ℤ◌, FitsSigned, w64, to_z-of_z, arith, ◌∙◌}
+use Rattle.std.proofs.Common.{◌≡◌, FitsSigned, w64, to_z-of_z, arith, ◌∙◌}
 use Rattle.std.specs.Int.{w128}
 use Rattle.std.proofs.lemmas.Int.{ints}
 use Rattle.imaginary_surfaces.specs.Shapes.{approach_shape}

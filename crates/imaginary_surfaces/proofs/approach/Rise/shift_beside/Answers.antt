@@ -1,7 +1,6 @@
-use Rattle.std.proofs.Common.{◌≡◌, ◌≤◌, ◌*◌, ◌^◌, pos, ◌-ℤ◌, ◌*ℤ◌, unsigned_abs, FitsSigned, w64, to_z-of_z, arith, ap}
+use Rattle.std.proofs.Common.{◌≡◌, ◌*◌, pos, ◌*ℤ◌, unsigned_abs, FitsSigned, w64, to_z-of_z, arith}
 use Rattle.std.specs.Int.{w128}
-use Rattle.std.proofs.lemmas.Int.{ints, unsigned_abs-mul}
-use Rattle.std.proofs.lemmas.Nat.{mul-le}
+use Rattle.std.proofs.lemmas.Int.{ints}
 use Rattle.imaginary_surfaces.proofs.TransitionFacts.{ShiftParts, shift_parts}
 use Rattle.imaginary_surfaces.proofs.approach.Rise.shift_beside.Goals as goal
 use Rattle.imaginary_surfaces.proofs.approach.Rise.shift_beside.Goals.{After-product-2}

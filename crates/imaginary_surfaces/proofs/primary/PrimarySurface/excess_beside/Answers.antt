@@ -1,8 +1,7 @@
-use Rattle.std.proofs.Common.{◌≤◌, ◌^◌, unsigned_abs, FitsSigned, w64, to_z-of_z, arith, subst}
+use Rattle.std.proofs.Common.{FitsSigned, w64, to_z-of_z, arith}
 use Rattle.std.proofs.lemmas.Int.{ints}
 use Rattle.grid_exact.specs.Caps.{IsSmallCap}
 use Rattle.grid_exact.specs.Excess.{IsExcess}
-use Rattle.grid_exact.specs.declared.cap.Cap.{Cap}
 use Rattle.grid_exact.specs.declared.cap.Cap.TheVariants.{Level}
 use Rattle.imaginary_surfaces.specs.Shapes.{primary_shape}
 use Rattle.imaginary_surfaces.specs.Transitions.{beside_primary}
