@@ -3,3 +3,5 @@ pub mod Order
 pub mod NearestFacts
 pub mod LimitFacts
 pub mod NoticeFacts
+pub mod FarFacts
+pub mod FarAirports

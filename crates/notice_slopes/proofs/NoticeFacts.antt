@@ -56,7 +56,7 @@ same_named runways r s rises (i, l, e) (j, m, f) h k =
 not_after : (runways : List Runway) (x : Point) (r s : Runway) → IsNearest runways x r → Contains runways s → taking_cmp x r s ≢ Greater
 not_after runways x r s n (k, l, e) = subst (λ (t : Runway). taking_cmp x r t ≢ Greater) e (n.first k s l)
 
-kept : (P : Runway → Type 0) (runways : List Runway) (r : Runway) → All P runways → Contains runways r → P r
+pub kept : (P : Runway → Type 0) (runways : List Runway) (r : Runway) → All P runways → Contains runways r → P r
 kept P runways r all (k, l, e) = subst P e (all k r l)
 
 nearest_only : (runways : List Runway) (x : Point) (r s : Runway) → Rises name_cmp name_of runways → All IsProper runways → IsNearest runways x r → IsNearest runways x s → r ≡ s

@@ -6,7 +6,7 @@ use Rattle.std.proofs.lemmas.Int.{ints}
 use Rattle.grid_exact.specs.Laws.{mul-le_left}
 use Rattle.notice_slopes.specs.Distances.{Fraction, IsAtLeastRootOf, IsAboveRootOf, run_of}
 
-at_least_more : (d : Fraction) (b c : ℤ) → b ≤ℤ c → IsAtLeastRootOf d b → IsAtLeastRootOf d c
+pub at_least_more : (d : Fraction) (b c : ℤ) → b ≤ℤ c → IsAtLeastRootOf d b → IsAtLeastRootOf d c
 at_least_more d b c h k =
     let s : unsigned_abs b ≤ unsigned_abs c = omega (arith, ints, h, k.not_negative) in
     let m : unsigned_abs b * unsigned_abs b * d.whole ≤ unsigned_abs c * unsigned_abs c * d.whole = mul-le-mul_right d.whole (mul-le-mul s s) in

@@ -8,3 +8,4 @@ pub mod Surfaces
 pub mod Notices
 pub mod Exemptions
 pub mod OnAirfields
+pub mod Areas

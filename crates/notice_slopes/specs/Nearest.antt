@@ -27,12 +27,13 @@ nearness_cmp x r s = ordering_then (fraction_cmp (distance_of x r) (distance_of 
 abbrev pub taking_cmp : Point → Runway → Runway → Ordering
 taking_cmp x r s = ordering_then (nearness_cmp x r s) (name_cmp r.name s.name)
 
--- the runway that is taken as the nearest one: no other comes before it
+-- the runway that is taken as the nearest one: in that order no other comes before it
 pub record IsNearest (runways : List Runway) (x : Point) (r : Runway) : Type 0 where
   pub one_of : Contains runways r
   pub first : All (λ s. taking_cmp x r s ≢ Greater) runways
 
--- ---- the same as a function, over runways in order of name
+-- ---- the same as a function, over runways in order of name: a later one takes the place of the best so far where it is nearer, or as
+-- near where its centerline is lower
 
 abbrev pub nearer : Point → Runway → Runway → Runway
 nearer x best r = if is_lt (nearness_cmp x r best) then r else best

@@ -9,7 +9,7 @@ use Rattle.notice_slopes.specs.Slopes.{sub_of}
 use Rattle.notice_slopes.specs.Surfaces.{slope_surface, slope_excess}
 use Rattle.notice_slopes.specs.declared.slope.Slope.{Slope}
 
--- the top exceeds the surface from the nearest runway, by that excess
+-- the top exceeds the surface from the nearest runway by that excess
 pub record ExceedsSlope (a : Airport) (x : Point) (top : ℤ) (s : Slope) : Type 0 where
   pub nearest_one : Runway
   pub is_nearest : IsNearest a.runways x nearest_one
@@ -17,7 +17,7 @@ pub record ExceedsSlope (a : Airport) (x : Point) (top : ℤ) (s : Slope) : Type
   pub named : s.runway ≡ nearest_one.name
   pub by_sub : s.sub ≡ sub_of a.runways
 
--- there is none exactly where no runway is nearest, since there is none, or the surface from the nearest one is not exceeded
+-- there is none exactly where there is no runway, or the surface from the nearest one does not cover the point or is not exceeded
 abbrev pub IsNoticeSlope : Airport → Point → ℤ → Option Slope → Type 0
 IsNoticeSlope a x top None = (r : Runway) → IsNearest a.runways x r → IsExcess (slope_surface a r x) top None
 IsNoticeSlope a x top (Some s) = ExceedsSlope a x top s

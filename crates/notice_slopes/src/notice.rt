@@ -5,6 +5,7 @@ ghost use Rattle.grid_exact.specs.Excess.{IsExcess};
 ghost use Rattle.grid_exact.specs.Level.{IsLevel};
 ghost use Rattle.airport_register.specs.Airfields.{IsHeldAirport};
 ghost use Rattle.airport_register.specs.Categories.{is_described};
+ghost use Rattle.notice_slopes.specs.Areas.{is_far as is_far_from};
 ghost use Rattle.notice_slopes.specs.Candidates.{IsCandidate};
 ghost use Rattle.notice_slopes.specs.Nearest.{elevation_of};
 ghost use Rattle.notice_slopes.specs.Slopes.{ratio_of, sub_of as sub_of_runways};
@@ -23,6 +24,13 @@ fn sub_of(runways: &Runways) -> Sub
     ensures { result ≡ sub_of_runways runways.now }
 {
     if runways.has_long() { Sub::B1 } else { Sub::B2 }
+}
+
+/// Whether the point is so far from the airport's reference point that no slope from a runway of the airport comes to it.
+fn is_far(arp: &Point, point: &Point) -> bool
+    ensures { result ≡ is_far_from arp.now point.now }
+{
+    point.x.abs_diff(arp.x) > 600_000 || point.y.abs_diff(arp.y) > 600_000
 }
 
 /// The slope from the runway over the point.
@@ -72,6 +80,9 @@ pub fn excess_notice(a: &Airport, x: &Point, top: i64) -> Option<Slope>
     ensures value { result ≡ notice_slope a.now x.now top }
 {
     if !a.category.described() {
+        return None;
+    }
+    if is_far(&a.arp, x) {
         return None;
     }
     let nearest = nearest(a.runways.as_slice(), x)?;

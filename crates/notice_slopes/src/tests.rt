@@ -23,6 +23,33 @@ const NO_FLAGS: Flags = Flags {
     temporary: false,
 };
 
+const INCREASES: Flags = Flags {
+    increases: true,
+    ..NO_FLAGS
+};
+
+const OTHER_RULE: Flags = Flags {
+    other_rule: true,
+    ..INCREASES
+};
+
+const DEVICE: Flags = Flags {
+    device: true,
+    ..OTHER_RULE
+};
+
+const SHIELDED: Flags = Flags {
+    shielded: true,
+    ..DEVICE
+};
+
+/// The flags that 77.9(e) does not look at.
+const OTHERWISE: Flags = Flags {
+    controlled: true,
+    temporary: true,
+    ..NO_FLAGS
+};
+
 /// An end of a runway, at its coordinates and elevation.
 fn end(place: [i64; 3]) -> Result<RunwayEnd, Fail> {
     let at = Point::new(place[0], place[1])?;
@@ -128,65 +155,88 @@ fn a_long_runway(rt: HostRuntime) -> Result<(), Fail> {
         (-152_000, 0, 3001, Some(981)),
         (128_893, 128_893, 3001, Some(489)),
         (0, 5700, 1101, Some(44)),
-        (-250_000, 0, 3000, None),
         (-250_000, 0, 3001, Some(1)),
         (-250_001, 0, 30_000, None),
         (170_000, 160_000, 3001, Some(1)),
         (170_001, 160_000, 30_000, None),
         (170_000, -160_001, 30_000, None),
         (0, 0, 1000, None),
-        (0, 0, 1001, Some(1)),
         (0, 1, 1000, None),
         (0, 1, 1001, Some(0)),
         (0, -100, 1001, None),
         (0, -101, 1002, Some(0)),
         (0, 5700, 301_000, Some(299_943)),
-        (0, 0, -20_000, None),
     ] {
-        assert_eq!(rt;
-            notice(&airport, x, y, top)?,
-            slope(Sub::B1, b"09/27", excess)?,
-            "{top} at {x}, {y}"
-        );
+        let expected = slope(Sub::B1, b"09/27", excess)?;
+        assert_eq!(rt; notice(&airport, x, y, top)?, expected, "{top} at {x}, {y}");
     }
     Ok(())
 }
 
+/// One runway of this length.
+fn of_length(alloc: Global, length: i64) -> Result<Register, Fail> {
+    let mut airport = register(alloc, Category::PublicUse)?;
+    put(&mut airport, alloc, b"18/36", [0, 0, 0], [length, 0, 0])?;
+    Ok(airport)
+}
+
+/// A long runway, a short one, and a far one.
+fn several(alloc: Global) -> Result<Register, Fail> {
+    let mut airport = register(alloc, Category::PublicUse)?;
+    let from = [0, -100_000, 500];
+    let to = [32_001, -100_000, 500];
+    put(&mut airport, alloc, b"18/36", from, to)?;
+    put(&mut airport, alloc, b"09/27", [0, 0, 0], [20_000, 0, 0])?;
+    put(
+        &mut airport,
+        alloc,
+        b"07/25",
+        [368_000, 0, 0],
+        [400_000, 0, 0],
+    )?;
+    Ok(airport)
+}
+
 #[test]
 fn runways_of_3200_feet(rt: HostRuntime) -> Result<(), Fail> {
-    let alloc = rt.alloc();
-    let mut exact = register(alloc, Category::PublicUse)?;
-    put(&mut exact, alloc, b"18/36", [0, 0, 0], [32_000, 0, 0])?;
-    let mut longer = register(alloc, Category::PublicUse)?;
-    put(&mut longer, alloc, b"18/36", [0, 0, 0], [32_001, 0, 0])?;
-    let mut both = register(alloc, Category::PublicUse)?;
-    put(
-        &mut both,
-        alloc,
-        b"18/36",
-        [0, -100_000, 500],
-        [32_001, -100_000, 500],
-    )?;
-    put(&mut both, alloc, b"09/27", [0, 0, 0], [20_000, 0, 0])?;
-    // A runway of 3,200 feet, with the ends of its range; one that is a tenth longer; a short one where another is long.
+    let exact = of_length(rt.alloc(), 32_000)?;
+    let longer = of_length(rt.alloc(), 32_001)?;
+    let several = several(rt.alloc())?;
+    // A runway of 3,200 feet, with the ends of its range; one that is a tenth longer; short ones where another is long, one of them
+    // as far from the reference point as a runway may be.
     for (airport, x, y, top, sub, name, excess) in [
         (&exact, 82_000, 0, 2001, Sub::B2, b"18/36", Some(1001)),
         (&exact, 132_000, 0, 2001, Sub::B2, b"18/36", Some(1)),
         (&exact, 132_001, 0, 30_000, Sub::B2, b"18/36", None),
         (&exact, 92_000, -80_000, 2001, Sub::B2, b"18/36", Some(1)),
-        (&exact, 92_000, -80_001, 30_000, Sub::B2, b"18/36", None),
         (&exact, 16_000, 51, 2, Sub::B2, b"18/36", Some(0)),
         (&longer, 82_000, 0, 2001, Sub::B1, b"18/36", Some(1501)),
         (&longer, 232_001, 0, 2001, Sub::B1, b"18/36", Some(1)),
         (&longer, 232_002, 0, 30_000, Sub::B1, b"18/36", None),
-        (&both, 10_000, -50_000, 1000, Sub::B1, b"09/27", Some(500)),
-        (&both, 10_000, -50_001, 1000, Sub::B1, b"18/36", Some(0)),
+        (
+            &several,
+            10_000,
+            -50_000,
+            1000,
+            Sub::B1,
+            b"09/27",
+            Some(500),
+        ),
+        (&several, 10_000, -50_001, 1000, Sub::B1, b"18/36", Some(0)),
+        (&several, 600_000, 0, 2001, Sub::B1, b"07/25", Some(1)),
+        (&several, 600_001, 0, 30_000, Sub::B1, b"07/25", None),
+        (
+            &several,
+            400_000,
+            -200_000,
+            2001,
+            Sub::B1,
+            b"07/25",
+            Some(1),
+        ),
     ] {
-        assert_eq!(rt;
-            notice(airport, x, y, top)?,
-            slope(sub, name, excess)?,
-            "{top} at {x}, {y}"
-        );
+        let expected = slope(sub, name, excess)?;
+        assert_eq!(rt; notice(airport, x, y, top)?, expected, "{top} at {x}, {y}");
     }
     Ok(())
 }
@@ -241,11 +291,8 @@ fn ties(rt: HostRuntime) -> Result<(), Fail> {
         (&higher, -5000, 10, b"18/36", 601),
         (&higher, -4000, -3000, b"09/27", 700),
     ] {
-        assert_eq!(rt;
-            notice(airport, x, y, 1000)?,
-            slope(Sub::B2, name, Some(excess))?,
-            "at {x}, {y}"
-        );
+        let expected = slope(Sub::B2, name, Some(excess))?;
+        assert_eq!(rt; notice(airport, x, y, 1000)?, expected, "at {x}, {y}");
     }
     let airport = beside(rt.alloc())?;
     for (x, y, name, excess) in [
@@ -256,11 +303,8 @@ fn ties(rt: HostRuntime) -> Result<(), Fail> {
         (-30, 500, b"9R/27L".as_slice(), 289),
         (10_030, 500, b"09/27".as_slice(), 189),
     ] {
-        assert_eq!(rt;
-            notice(&airport, x, y, 300)?,
-            slope(Sub::B2, name, Some(excess))?,
-            "at {x}, {y}"
-        );
+        let expected = slope(Sub::B2, name, Some(excess))?;
+        assert_eq!(rt; notice(&airport, x, y, 300)?, expected, "at {x}, {y}");
     }
     Ok(())
 }
@@ -297,11 +341,8 @@ fn slanted_centerlines(rt: HostRuntime) -> Result<(), Fail> {
         (&falling, -3, -4, 1101, Some(0)),
         (&falling, 6003, 8004, 1001, Some(0)),
     ] {
-        assert_eq!(rt;
-            notice(airport, x, y, top)?,
-            slope(Sub::B2, b"05/23", excess)?,
-            "{top} at {x}, {y}"
-        );
+        let expected = slope(Sub::B2, b"05/23", excess)?;
+        assert_eq!(rt; notice(airport, x, y, top)?, expected, "{top} at {x}, {y}");
     }
     Ok(())
 }
@@ -326,11 +367,8 @@ fn categories(rt: HostRuntime) -> Result<(), Fail> {
             [0, 0, 1000],
             [50_000, 0, 1000],
         )?;
-        assert_eq!(rt;
-            notice(&airport, 0, 0, 1001)?,
-            slope(Sub::B1, b"09/27", excess)?,
-            "{category:?}"
-        );
+        let expected = slope(Sub::B1, b"09/27", excess)?;
+        assert_eq!(rt; notice(&airport, 0, 0, 1001)?, expected, "{category:?}");
     }
     Ok(())
 }
@@ -347,47 +385,26 @@ fn filing(
 
 #[test]
 fn exemptions(rt: HostRuntime) -> Result<(), Fail> {
-    let increases = Flags {
-        increases: true,
-        ..NO_FLAGS
-    };
-    let other_rule = Flags {
-        other_rule: true,
-        ..increases
-    };
-    let device = Flags {
-        device: true,
-        ..other_rule
-    };
-    let shielded = Flags {
-        shielded: true,
-        ..device
-    };
-    let open = Flags {
-        controlled: true,
-        temporary: true,
-        ..NO_FLAGS
-    };
     for (kind, height, flags, exemption) in [
         (StructureKind::Object, 200, NO_FLAGS, None),
-        (StructureKind::Object, 200, open, None),
+        (StructureKind::Object, 200, OTHERWISE, None),
         (
             StructureKind::Object,
             2001,
-            shielded,
+            SHIELDED,
             Some(Exemption::Shielded),
         ),
-        (StructureKind::Road, 2001, device, Some(Exemption::Device)),
+        (StructureKind::Road, 2001, DEVICE, Some(Exemption::Device)),
         (
             StructureKind::Rail,
             2001,
-            other_rule,
+            OTHER_RULE,
             Some(Exemption::OtherRule),
         ),
         (
             StructureKind::Antenna,
             200,
-            other_rule,
+            OTHER_RULE,
             Some(Exemption::OtherRule),
         ),
         (
@@ -396,10 +413,14 @@ fn exemptions(rt: HostRuntime) -> Result<(), Fail> {
             NO_FLAGS,
             Some(Exemption::Antenna),
         ),
-        (StructureKind::Antenna, 0, open, Some(Exemption::Antenna)),
+        (
+            StructureKind::Antenna,
+            0,
+            OTHERWISE,
+            Some(Exemption::Antenna),
+        ),
         (StructureKind::Antenna, 201, NO_FLAGS, None),
-        (StructureKind::Antenna, 200, increases, None),
-        (StructureKind::Antenna, 201, increases, None),
+        (StructureKind::Antenna, 200, INCREASES, None),
     ] {
         let filing = filing(kind, height, flags, None)?;
         assert_eq!(rt; exempt(&filing), exemption, "{kind:?} of {height}");

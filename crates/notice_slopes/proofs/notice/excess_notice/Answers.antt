@@ -9,6 +9,7 @@ use Rattle.notice_slopes.specs.Nearest.{nearest}
 use Rattle.notice_slopes.specs.Slopes.{sub_of}
 use Rattle.notice_slopes.specs.Surfaces.{slope_surface}
 use Rattle.notice_slopes.specs.Notices.{ExceedsSlope, IsNoticeSlope, slope_by}
+use Rattle.notice_slopes.proofs.FarAirports.{far_exact, far_value}
 use Rattle.notice_slopes.proofs.NoticeFacts.{exceeded, from_nearest, no_runway, not_exceeded, slope_listed, undescribed, without_runways}
 use Rattle.notice_slopes.proofs.notice.excess_notice.Goals as goal
 
@@ -18,6 +19,12 @@ found o p xs ys d e f h = rw (← e, ← h, d) refl
 
 pub returns-then-not-described-clause-value : goal.returns-then-not-described-clause-value
 returns-then-not-described-clause-value c = sym (undescribed c.args.a.now c.args.x.now c.args.top (sym c.described.ensures ∙ c.if-not-described.true))
+
+pub returns-then-is_far-clause-exact : goal.returns-then-is_far-clause-exact
+returns-then-is_far-clause-exact c = far_exact c.args.a.now c.args.x.now c.args.top c.requires.held (sym c.is_far.ensures ∙ c.if-is_far.true)
+
+pub returns-then-is_far-clause-value : goal.returns-then-is_far-clause-value
+returns-then-is_far-clause-value c = sym (far_value c.args.a.now c.args.x.now c.args.top c.requires.held (sym c.is_far.ensures ∙ c.if-is_far.true))
 
 pub returns-in_err-nearest-clause-value : goal.returns-in_err-nearest-clause-value
 returns-in_err-nearest-clause-value c =
