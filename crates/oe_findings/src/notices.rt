@@ -14,8 +14,8 @@ use crate::prepared::Prepared;
 use crate::prepared_airport::PreparedAirport;
 use airport_register::{Filing, Register};
 use grid_exact::NoMemory;
-use heliport_surfaces::Pad;
 use height_rules::{excess_200, top_for_notice};
+use heliport_surfaces::Pad;
 use notice_slopes::{Sub, excess_notice, rule_d};
 use std::sync::Arc;
 
@@ -74,11 +74,7 @@ fn put_airport_slope<C: Collector>(
 }
 
 /// Puts the entry of the notice slope of a heliport behind the others.
-fn put_heliport_slope<C: Collector>(
-    out: &mut C,
-    filing: &Filing,
-    pad: &Pad,
-) -> Result<(), NoMemory>
+fn put_heliport_slope<C: Collector>(out: &mut C, filing: &Filing, pad: &Pad) -> Result<(), NoMemory>
     ensures taken { OnOk result ((list : List AFinding) → C.taken out.old list → C.taken out.new (list ++ slope_entries filing.now (AHeliport pad.now))) }
     ensures fails { OnErr result C.fails }
 {
@@ -121,7 +117,7 @@ fn put_slopes<C: Collector>(
 }
 
 /// Puts the entry of construction on an airfield behind the others, 77.9(d).
-fn put_on_airfield<C: Collector>(
+pub(crate) fn put_on_airfield<C: Collector>(
     out: &mut C,
     register: &Register,
     filing: &Filing,

@@ -121,12 +121,7 @@ impl Sky {
             obstruction: false,
             entries: 0,
         };
-        match put_findings(
-            &mut verdict,
-            &self.register,
-            self.fields.as_slice(),
-            filing,
-        ) {
+        match put_findings(&mut verdict, &self.register, self.fields.as_slice(), filing) {
             Ok(()) => verdict,
             Err(NoMemory) => unreachable!(),
         }

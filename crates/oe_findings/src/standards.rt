@@ -17,8 +17,8 @@ use crate::prepared::Prepared;
 use crate::prepared_airport::PreparedAirport;
 use airport_register::{FieldId, Filing};
 use grid_exact::{Cap, NoMemory, Point};
-use heliport_surfaces::{Beside, Pad, PadEnd};
 use height_rules::{excess_near_airport, top_for_standards};
+use heliport_surfaces::{Beside, Pad, PadEnd};
 use imaginary_surfaces::{End, Strip};
 
 /// Puts the entries of the surfaces of one runway behind the others.
@@ -36,9 +36,30 @@ fn put_runway<C: Collector>(
     ensures fails { OnErr result C.fails }
 {
     let name = strip.runway().name;
-    put_on_runway(out, Rule::Primary, field, name, 0, strip.excess_primary(at, top))?;
-    put_on_runway(out, Rule::Approach, field, name, 1, strip.excess_approach(End::One, at, top))?;
-    put_on_runway(out, Rule::Approach, field, name, 2, strip.excess_approach(End::Two, at, top))?;
+    put_on_runway(
+        out,
+        Rule::Primary,
+        field,
+        name,
+        0,
+        strip.excess_primary(at, top),
+    )?;
+    put_on_runway(
+        out,
+        Rule::Approach,
+        field,
+        name,
+        1,
+        strip.excess_approach(End::One, at, top),
+    )?;
+    put_on_runway(
+        out,
+        Rule::Approach,
+        field,
+        name,
+        2,
+        strip.excess_approach(End::Two, at, top),
+    )?;
     let beside = strip.excess_transition_primary(at, top, cap);
     put_on_runway(out, Rule::Transition, field, name, 0, beside)?;
     let first = strip.excess_transition_approach(End::One, at, top, cap);
@@ -82,27 +103,40 @@ fn put_civil<C: Collector>(
 {
     let field = prepared.airport().id;
     let hull = prepared.hull();
-    put_on_field(out, Rule::Horizontal, field, 0, hull.excess_horizontal(at, top))?;
+    put_on_field(
+        out,
+        Rule::Horizontal,
+        field,
+        0,
+        hull.excess_horizontal(at, top),
+    )?;
     put_on_field(out, Rule::Conical, field, 0, hull.excess_conical(at, top))?;
     put_runways(out, field, at, top, &hull.cap(at), prepared.strips())?;
     Ok(())
 }
 
 /// Puts the entries of the surfaces of a heliport behind the others.
-fn put_pad<C: Collector>(
-    out: &mut C,
-    at: &Point,
-    top: i64,
-    pad: &Pad,
-) -> Result<(), NoMemory>
+fn put_pad<C: Collector>(out: &mut C, at: &Point, top: i64, pad: &Pad) -> Result<(), NoMemory>
     requires top { IsLevel top }
     ensures taken { OnOk result ((list : List AFinding) → C.taken out.old list → C.taken out.new (list ++ of_pad at.now top pad.now)) }
     ensures fails { OnErr result C.fails }
 {
     let field = pad.heliport().id;
     put_on_field(out, Rule::PadPrimary, field, 0, pad.excess_primary(at, top))?;
-    put_on_field(out, Rule::PadApproach, field, 1, pad.excess_approach(PadEnd::One, at, top))?;
-    put_on_field(out, Rule::PadApproach, field, 2, pad.excess_approach(PadEnd::Two, at, top))?;
+    put_on_field(
+        out,
+        Rule::PadApproach,
+        field,
+        1,
+        pad.excess_approach(PadEnd::One, at, top),
+    )?;
+    put_on_field(
+        out,
+        Rule::PadApproach,
+        field,
+        2,
+        pad.excess_approach(PadEnd::Two, at, top),
+    )?;
     let beside = pad.excess_transition(Beside::Primary, at, top);
     put_on_field(out, Rule::PadTransition, field, 0, beside)?;
     let first = pad.excess_transition(Beside::ApproachOne, at, top);
@@ -122,7 +156,13 @@ fn put_airport<C: Collector>(
     ensures fails { OnErr result C.fails }
 {
     let airport = prepared.airport();
-    put_on_field(out, Rule::Near, airport.id, 0, excess_near_airport(airport, filing))?;
+    put_on_field(
+        out,
+        Rule::Near,
+        airport.id,
+        0,
+        excess_near_airport(airport, filing),
+    )?;
     if airport.category.civil_surfaces() {
         put_civil(out, &filing.at, top_for_standards(filing), prepared)?;
     }
@@ -130,11 +170,7 @@ fn put_airport<C: Collector>(
 }
 
 /// Puts the entries of a heliport behind the others.
-fn put_heliport<C: Collector>(
-    out: &mut C,
-    filing: &Filing,
-    pad: &Pad,
-) -> Result<(), NoMemory>
+fn put_heliport<C: Collector>(out: &mut C, filing: &Filing, pad: &Pad) -> Result<(), NoMemory>
     ensures taken { OnOk result ((list : List AFinding) → C.taken out.old list → C.taken out.new (list ++ of_airfield filing.now (AHeliport pad.now))) }
     ensures fails { OnErr result C.fails }
 {

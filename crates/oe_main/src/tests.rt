@@ -44,6 +44,32 @@ fn records_without_a_register(rt: HostRuntime) -> Result<(), Fail> {
             "screen,0,0,1000,4991,object,0,-,-\r\n",
             "found,0,2,17a1 - - 1,9a - - 2991\n",
         ),
+        ("screen,0,0,1000,2001,object,0,S,-\n", "found,0,0\n"),
+        (
+            "screen,0,0,1000,4991,object,0,D,-\n",
+            "found,0,1,17a1 - - 1\n",
+        ),
+        ("screen,0,0,1000,2001,object,5,-,-\n", "no,13,Malformed,7\n"),
+        (
+            "verdict,0,0,1000,2001,object,0,-,-\n",
+            "verdict,0,yes,no,1\n",
+        ),
+        (
+            "screen,0,0,1000,1901,private,80,-,-\n",
+            "found,0,1,9c-a - - 1\n",
+        ),
+        (
+            "screen,0,0,1000,1901,private,120,-,-\n",
+            "found,0,1,9c-a - - 21\n",
+        ),
+        (
+            "screen,0,0,1000,4871,private,120,-,-\n",
+            "found,0,2,17a1 - - 1,9c-a - - 2991\n",
+        ),
+        (
+            "screen,0,0,1000,4871,private,120,G,-\n",
+            "found,0,1,9c-a - - 2991\n",
+        ),
         ("\n\r\n", ""),
         ("day,u,3,2026-01-15", "no,13,Malformed,1\n"),
         (
@@ -68,11 +94,11 @@ fn records_over_one_airport(rt: HostRuntime) -> Result<(), Fail> {
     let table = [
         (
             "screen,128893,128893,1000,2001,object,0,-,-\n",
-            "found,2,2,17a2 AAA - 1,9a - - 1\n",
+            "found,2,3,17a2 AAA - 1,9a - - 1,9b1 AAA 09/27 489\n",
         ),
         (
             "screen,128894,128894,1000,2001,object,0,-,-\n",
-            "found,2,2,17a2 AAA - 0,9a - - 1\n",
+            "found,2,3,17a2 AAA - 0,9a - - 1,9b1 AAA 09/27 489\n",
         ),
         (
             "runway,u,3,ZZZ,09/27,other,soft,0,0,0,V,1000,0,0,V\n",
@@ -100,19 +126,39 @@ fn surfaces_of_a_runway(rt: HostRuntime) -> Result<(), Fail> {
     let table = [
         (
             "screen,-152000,0,1000,2001,object,0,-,-\n",
-            "found,2,3,17a2 AAA - 1,19d AAA 09/27.1 1,9a - - 1\n",
+            "found,2,5,17a2 AAA - 1,19a AAA - 501,19d AAA 09/27.1 1,9a - - 1,9b1 AAA 09/27 981\n",
+        ),
+        (
+            "screen,-152000,0,1000,2000,object,0,-,-\n",
+            "found,2,2,19a AAA - 500,9b1 AAA 09/27 980\n",
         ),
         (
             "verdict,-152000,0,1000,2001,object,0,-,-\n",
-            "verdict,2,yes,yes,3\n",
+            "verdict,2,yes,yes,5\n",
         ),
         (
             "screen,0,5000,1000,1,object,0,-,-\n",
-            "found,2,1,19c AAA 09/27 1\n",
+            "found,2,2,19c AAA 09/27 1,19e AAA 09/27.0 1\n",
+        ),
+        (
+            "screen,0,5700,1000,101,object,0,-,-\n",
+            "found,2,2,19e AAA 09/27.0 1,9b1 AAA 09/27 44\n",
         ),
         (
             "verdict,0,5000,1000,1,object,0,-,-\n",
-            "verdict,2,no,yes,1\n",
+            "verdict,2,no,yes,2\n",
+        ),
+        (
+            "screen,-252000,35700,5501,100,object,0,-,-\n",
+            "found,2,1,19e AAA 09/27.1 1\n",
+        ),
+        (
+            "screen,-252000,85000,12543,100,object,0,-,-\n",
+            "found,2,1,19e AAA 09/27.1 0\n",
+        ),
+        (
+            "screen,-252000,85001,12543,100,object,0,-,-\n",
+            "found,2,0\n",
         ),
     ];
     for (record, reply) in table {
@@ -121,6 +167,87 @@ fn surfaces_of_a_runway(rt: HostRuntime) -> Result<(), Fail> {
         let (status, output) = desk(rt.alloc(), text.as_str(), 4096)?;
         assert_eq!(rt; status, Status::Done);
         assert_eq!(rt; output.bytes(), wanted.as_bytes());
+    }
+    Ok(())
+}
+
+// An antenna of 20 feet and one of more, traverse ways, and an airfield that the record names.
+#[test]
+fn structures_near_a_runway(rt: HostRuntime) -> Result<(), Fail> {
+    let table = [
+        (
+            "screen,0,5700,1000,200,antenna,0,-,-\n",
+            "found,2,1,19e AAA 09/27.0 100\n",
+        ),
+        (
+            "screen,0,5700,1000,200,antenna,0,I,-\n",
+            "found,2,2,19e AAA 09/27.0 100,9b1 AAA 09/27 143\n",
+        ),
+        (
+            "screen,0,5700,1000,201,antenna,0,-,-\n",
+            "found,2,2,19e AAA 09/27.0 101,9b1 AAA 09/27 144\n",
+        ),
+        (
+            "screen,0,5700,1000,1,rail,0,-,-\n",
+            "found,2,2,19e AAA 09/27.0 131,9c-b1 AAA 09/27 174\n",
+        ),
+        (
+            "screen,0,5700,1000,1,rail,0,G,-\n",
+            "found,2,1,9c-b1 AAA 09/27 174\n",
+        ),
+        (
+            "screen,5280000,0,1000,100,object,0,-,AAA\n",
+            "found,2,1,9d AAA - 0\n",
+        ),
+        ("screen,5280000,0,1000,100,object,0,R,AAA\n", "found,2,0\n"),
+        ("screen,5280000,0,1000,100,object,0,-,ZZZ\n", "found,2,0\n"),
+    ];
+    for (record, reply) in table {
+        let text = format!(in rt.alloc(); "{AIRPORT}{RUNWAY}{record}")?;
+        let wanted = format!(in rt.alloc(); "{PUBLISHED}{reply}")?;
+        let (status, output) = desk(rt.alloc(), text.as_str(), 4096)?;
+        assert_eq!(rt; status, Status::Done);
+        assert_eq!(rt; output.bytes(), wanted.as_bytes());
+    }
+    Ok(())
+}
+
+// What each category has: the surfaces of an airport and of a heliport.
+#[test]
+fn categories(rt: HostRuntime) -> Result<(), Fail> {
+    let civil =
+        "17a2 AAA - 1,19a AAA - 501,19d AAA 09/27.1 1,9a - - 1,9b1 AAA 09/27 981,9d AAA - 0";
+    let military = "17a2 AAA - 1,9a - - 1,9b1 AAA 09/27 981,9d AAA - 0";
+    let steep = "23a HHH 2 1,23t HHH 2 1,9b3 HHH - 3399";
+    let flat = "23a HHH 2 1001,23t HHH 2 1001,9b3 HHH - 3399";
+    let table = [
+        ("public", 6, civil, 3, steep),
+        ("building", 6, civil, 3, steep),
+        ("military", 4, military, 3, flat),
+        ("federal", 6, civil, 3, steep),
+        ("dod", 4, military, 3, flat),
+        ("procedure", 6, civil, 3, steep),
+    ];
+    for (category, number, entries, pad_number, pad_entries) in table {
+        let alloc = rt.alloc();
+        let airport = format!(in alloc;
+            "airport,u,1,AAA,{category},0,0,1000\n{RUNWAY}screen,-152000,0,1000,2001,object,0,-,AAA\n"
+        )?;
+        let found = format!(in alloc; "{PUBLISHED}found,2,{number},{entries}\n")?;
+        assert_eq!(rt;
+            desk(alloc, airport.as_str(), 4096)?.1.bytes(),
+            found.as_bytes()
+        );
+        let heliport = format!(in alloc;
+            "heliport,u,1,HHH,{category},0,0,1000,0,1000,500\nscreen,41000,2500,5401,100,object,0,-,-\n"
+        )?;
+        let found = format!(in alloc;
+            "ok,1,published,heliport\nfound,1,{pad_number},{pad_entries}\n"
+        )?;
+        assert_eq!(rt;
+            desk(alloc, heliport.as_str(), 4096)?.1.bytes(),
+            found.as_bytes()
+        );
     }
     Ok(())
 }
@@ -147,6 +274,15 @@ fn airfields_put_and_taken_out(rt: HostRuntime) -> Result<(), Fail> {
             "runway,u,3,AAA,01/19,utility,hard,-50000,0,1000,P,50000,0,1000,V\n",
             "no,2,PrecisionOnUtility\n",
         ),
+        (
+            "heliport,u,3,HHH,public,0,0,1000,0,1000,500\nairfield,HHH\nairport,u,4,HHH,public,0,0,500\n",
+            "ok,3,published,heliport\nairfield,heliport,public,0,0,1000,0,1000,500\nno,11,WrongKind\n",
+        ),
+        (
+            "heliport,u,4,KKK,public,0,0,1000,0,5001,500\n",
+            "no,10,HeliportShape\n",
+        ),
+        ("airport,u,5,bbb,public,0,0,0\n", "no,13,Malformed,4\n"),
     ];
     for (records, replies) in table {
         let text = format!(in rt.alloc(); "{AIRPORT}{RUNWAY}{records}")?;
@@ -154,6 +290,39 @@ fn airfields_put_and_taken_out(rt: HostRuntime) -> Result<(), Fail> {
         let (status, output) = desk(rt.alloc(), text.as_str(), 4096)?;
         assert_eq!(rt; status, Status::Done);
         assert_eq!(rt; output.bytes(), wanted.as_bytes());
+    }
+    Ok(())
+}
+
+// The longest runway at 3,200 feet, a slanted tangent, a heliport's approach corner, and the greatest spans.
+#[test]
+fn sessions_of_their_own(rt: HostRuntime) -> Result<(), Fail> {
+    let table = [
+        (
+            "airport,u,1,BBB,public,0,0,0\nrunway,u,2,BBB,09/27,other,soft,0,0,0,V,32000,0,0,V\nscreen,82000,0,0,2001,object,0,-,-\nrunway,u,3,BBB,09/27,other,soft,0,0,0,V,32001,0,0,V\nscreen,82000,0,0,2001,object,0,-,-\n",
+            "ok,1,published,airport\nok,2,published,runway\nfound,2,3,19a BBB - 501,9a - - 1,9b2 BBB 09/27 1001\nok,3,published,runway\nfound,3,4,17a2 BBB - 1,19a BBB - 501,9a - - 1,9b1 BBB 09/27 1501\n",
+        ),
+        (
+            "airport,u,1,CCC,public,0,0,0\nrunway,u,2,CCC,A,utility,soft,0,0,0,V,1000,0,0,V\nrunway,u,3,CCC,B,other,soft,130000,0,0,NA,131000,0,0,NA\nscreen,50000,75000,0,1501,object,0,-,-\nscreen,50000,75001,0,1501,object,0,-,-\n",
+            "ok,1,published,airport\nok,2,published,runway\nok,3,published,runway\nfound,3,1,19a CCC - 1\nfound,3,1,19b CCC - 0\n",
+        ),
+        (
+            "heliport,u,1,HHH,public,0,0,1000,0,1000,500\nscreen,41000,2500,5401,99,object,0,-,-\nscreen,41000,2500,5401,100,object,0,-,-\n",
+            "ok,1,published,heliport\nfound,1,1,9b3 HHH - 3398\nfound,1,3,23a HHH 2 1,23t HHH 2 1,9b3 HHH - 3399\n",
+        ),
+        (
+            "airport,u,1,DDD,public,0,0,0\nrunway,u,2,DDD,A,other,soft,400000,400000,0,NA,300000,300000,0,NA\nrunway,u,3,DDD,B,other,soft,-400000,-400000,0,NA,-300000,-300000,0,NA\nrunway,u,4,DDD,C,other,soft,400001,400000,0,NA,300000,300000,0,NA\nscreen,70710,-70710,0,1501,object,0,-,-\nscreen,70711,-70711,0,1501,object,0,-,-\nscreen,20000000,20000000,200000,100000,object,0,-,-\nscreen,-20000000,-20000000,200000,100000,object,0,-,-\n",
+            "ok,1,published,airport\nok,2,published,runway\nok,3,published,runway\nno,6,RunwayFar\nfound,3,1,19a DDD - 1\nfound,3,1,19b DDD - 0\nfound,3,2,17a1 - - 95010,9a - - 98000\nfound,3,2,17a1 - - 95010,9a - - 98000\n",
+        ),
+        (
+            "airport,u,1,AAA,private,0,0,1000\nrunway,u,2,AAA,09/27,other,hard,-50000,0,1000,P,50000,0,1000,NA\nscreen,-152000,0,1000,2000,object,0,-,AAA\nheliport,u,3,HHH,private,0,0,1000,0,1000,500\nscreen,41000,2500,5401,100,object,0,-,HHH\n",
+            "ok,1,published,airport\nok,2,published,runway\nfound,2,0\nok,3,published,heliport\nfound,3,0\n",
+        ),
+    ];
+    for (text, replies) in table {
+        let (status, output) = desk(rt.alloc(), text, 4096)?;
+        assert_eq!(rt; status, Status::Done);
+        assert_eq!(rt; output.bytes(), replies.as_bytes());
     }
     Ok(())
 }
