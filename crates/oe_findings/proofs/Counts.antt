@@ -1,5 +1,5 @@
 -- How many findings there are at most.
-use Rattle.std.proofs.Common.{arith, ℕ, zero, suc, ℤ, ◌≡◌, ◌≤◌, ◌<◌, ◌+◌, ◌-◌, ◌*◌, ◌^◌, List, [], ◌∷◌, ◌++◌, length, Option, Some, None, Bool, true, false, is_none, min, ap, if◌then◌else◌}
+use Rattle.std.proofs.Common.{arith, ℕ, suc, ℤ, ◌≡◌, ◌≤◌, ◌+◌, ◌-◌, ◌*◌, ◌^◌, List, [], ◌∷◌, ◌++◌, length, Option, Some, None, Bool, true, false, is_none, ap, if◌then◌else◌}
 use Rattle.std.specs.List.{All, flat_map}
 use Rattle.std.specs.Option.{option_map, option_to_list}
 use Rattle.std.proofs.lemmas.List.{length-append}
@@ -33,7 +33,6 @@ use Rattle.oe_findings.specs.declared.finding.Finding.{Finding}
 use Rattle.oe_findings.specs.declared.finding.SurfaceKey.{SurfaceKey}
 use Rattle.oe_findings.specs.declared.finding.Rule.{Rule}
 use Rattle.oe_findings.specs.declared.finding.Rule.TheVariants as rules
-use Rattle.oe_findings.specs.declared.verdict.Verdict.{Verdict}
 
 one : (rule : Rule) (key : SurfaceKey) (x : Option ℕ) → length (entries rule key x) ≤ 1
 one rule key None = omega arith

@@ -1,5 +1,5 @@
 -- What a list of findings comes to.
-use Rattle.std.specs.Prelude.{ℕ, ◌-◌, ◌^◌, List, length, min, Bool, true, false, not}
+use Rattle.std.specs.Prelude.{◌-◌, ◌^◌, List, length, min, Bool, true, false, not}
 use Rattle.std.specs.List.{list_any}
 use Rattle.oe_findings.specs.declared.finding.Finding.{Finding}
 use Rattle.oe_findings.specs.declared.finding.Rule.{Rule}

@@ -24,7 +24,9 @@ pub use verdict::Verdict;
 #[cfg(test)]
 mod tests {
     use crate::{Finding, Findings, Rule, Sky, SurfaceKey};
-    use airport_register::{Amendment, Category, FieldId, Filing, Flags, Register, StructureKind};
+    use airport_register::{
+        Amendment, Category, FieldId, Filing, Flags, Heliport, Register, StructureKind,
+    };
     use grid_exact::Point;
     use std::test::Fail;
 
@@ -88,6 +90,28 @@ mod tests {
         assert!(rt; list.equal(&sky.findings(alloc, &filing)?));
         assert_eq!(rt; sky.verdict(&filing).entries, 2);
         assert!(rt; Sky::empty(alloc).verdict(&filing).notice);
+        Ok(())
+    }
+
+    #[test]
+    fn a_heliport_comes_and_goes(rt: HostRuntime) -> Result<(), Fail> {
+        let alloc = rt.alloc();
+        let id = FieldId::new(b"HHH")?;
+        let heliport = Heliport {
+            id,
+            category: Category::PublicUse,
+            a: Point::new(0, 0)?,
+            b: Point::new(1000, 0)?,
+            width: 1000,
+            elevation: 500,
+        };
+        let at = Point::new(41_000, 2_500)?;
+        let filing = Filing::new(at, 5401, 100, StructureKind::Object, 0, NO_FLAGS, None)?;
+        let (sky, _) = Sky::empty(alloc).amended(alloc, &Amendment::PutHeliport(heliport))?;
+        assert_eq!(rt; sky.findings(alloc, &filing)?.len(), 3);
+        assert!(rt; sky.verdict(&filing).obstruction);
+        let (sky, _) = sky.amended(alloc, &Amendment::Drop(id))?;
+        assert_eq!(rt; sky.verdict(&filing).entries, 0);
         Ok(())
     }
 }

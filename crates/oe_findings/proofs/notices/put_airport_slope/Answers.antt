@@ -1,4 +1,4 @@
-use Rattle.std.proofs.Common.{◌≡◌, ℤ, List, ap, ◌∙◌, FitsSigned, w64, to_z-of_z, arith}
+use Rattle.std.proofs.Common.{ap, FitsSigned, w64, to_z-of_z, arith}
 use Rattle.std.proofs.lemmas.Int.{ints}
 use Rattle.airport_register.specs.Sites.{Site}
 use Rattle.oe_findings.proofs.SlopeFacts.{slope_put}

@@ -1,4 +1,4 @@
-use Rattle.std.proofs.Common.{◌≡◌, ℕ, List, Option, ◌++◌, ap, ◌∙◌, subst, FitsSigned, w64, to_z-of_z}
+use Rattle.std.proofs.Common.{◌≡◌, ℕ, List, ap, ◌∙◌, subst, FitsSigned, w64, to_z-of_z}
 use Rattle.std.specs.List.{flat_map}
 use Rattle.grid_exact.specs.declared.cap.Cap.{Cap}
 use Rattle.airport_register.specs.declared.runway.Runway.{Runway}
@@ -6,8 +6,6 @@ use Rattle.airport_register.specs.declared.airfield.Airport.{Airport}
 use Rattle.horizontal_hull.specs.Arcs.{Dome, dome_of}
 use Rattle.horizontal_hull.specs.Within.{horizontal_excess, conical_excess, cap_of}
 use Rattle.oe_findings.specs.List.{entries, field_key, of_runway}
-use Rattle.oe_findings.specs.declared.finding.Finding.{Finding}
-use Rattle.oe_findings.specs.declared.finding.SurfaceKey.{SurfaceKey}
 use Rattle.oe_findings.specs.declared.finding.Rule.TheVariants as rules
 use Rattle.oe_findings.proofs.EntryFacts.{Puts, named, three}
 use Rattle.oe_findings.proofs.standards.put_civil.Goals as goal

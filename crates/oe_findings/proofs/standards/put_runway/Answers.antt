@@ -1,9 +1,8 @@
-use Rattle.std.proofs.Common.{◌≡◌, ℕ, List, ap, FitsSigned, w64, to_z-of_z}
+use Rattle.std.proofs.Common.{◌≡◌, ℕ, ap, FitsSigned, w64, to_z-of_z}
 use Rattle.airport_register.specs.declared.runway.Runway.{Runway}
 use Rattle.imaginary_surfaces.specs.Strips.{primary_excess, approach_excess, primary_transition_excess, approach_transition_excess}
 use Rattle.runway_lines.specs.declared.end.End.TheVariants as ends
 use Rattle.oe_findings.specs.List.{entries, runway_key}
-use Rattle.oe_findings.specs.declared.finding.Finding.{Finding}
 use Rattle.oe_findings.specs.declared.finding.SurfaceKey.{SurfaceKey}
 use Rattle.oe_findings.specs.declared.finding.Rule.TheVariants as rules
 use Rattle.oe_findings.proofs.EntryFacts.{named, six}

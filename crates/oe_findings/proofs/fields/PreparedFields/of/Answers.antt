@@ -1,4 +1,4 @@
-use Rattle.std.proofs.Common.{◌≡◌, ap, sym, ◌∙◌, take}
+use Rattle.std.proofs.Common.{ap, sym, ◌∙◌, take}
 use Rattle.oe_findings.specs.Prepared.{airfield_of, shared_airfield}
 use Rattle.oe_findings.proofs.ListFacts.{image_more, taken_more}
 use Rattle.oe_findings.proofs.fields.PreparedFields.of.Goals as goal

@@ -1,8 +1,6 @@
-use Rattle.std.proofs.Common.{◌≡◌, refl, ap, subst, ◌∙◌, map, set, List}
-use Rattle.std.specs.Arc.{arc_value}
-use Rattle.airport_register.specs.Airfields.{id_of, IsRegister}
+use Rattle.std.proofs.Common.{◌≡◌, refl, ap, ◌∙◌, map, set}
+use Rattle.airport_register.specs.Airfields.{id_of}
 use Rattle.airport_register.specs.Names.{name_cmp}
-use Rattle.airport_register.specs.declared.airfield.Airfield.{Airfield}
 use Rattle.ordered_list.specs.Ordered.{put_by}
 use Rattle.oe_findings.specs.Prepared.{airfield_of, shared_airfield}
 use Rattle.airport_register.proofs.Fields.{field_set, field_insert}

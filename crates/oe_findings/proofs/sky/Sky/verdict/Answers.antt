@@ -1,4 +1,4 @@
-use Rattle.std.proofs.Common.{◌≡◌, ◌∙◌, ap, List, subst}
+use Rattle.std.proofs.Common.{◌∙◌, ap, List}
 use Rattle.airport_register.specs.declared.airfield.Airfield.{Airfield}
 use Rattle.oe_findings.specs.List.{findings_of}
 use Rattle.oe_findings.specs.Verdicts.{verdict_of}
