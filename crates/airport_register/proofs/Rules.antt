@@ -1,7 +1,7 @@
 -- What an amendment that breaks no rule leaves in the register.
-use Rattle.std.proofs.Common.{◌≡◌, ◌≢◌, ℕ, ℤ, ◌<◌, List, [], ◌++◌, length, Option, Some, None, Bool, true, false, not, refl, sym, ◌∙◌, arith}
+use Rattle.std.proofs.Common.{◌≡◌, ◌≢◌, ℕ, ℤ, ◌<◌, ◌≤◌, List, [], ◌∷◌, length, Option, Some, None, Bool, true, false, refl, sym, ◌∙◌, arith, cond}
 use Rattle.std.specs.Prelude.{◌&&◌, is_none, nat_le}
-use Rattle.std.specs.List.{All, list_all, slice_get}
+use Rattle.std.specs.List.{All, list_all}
 use Rattle.std.specs.Ordering.{is_eq}
 use Rattle.std.specs.declared.cmp.Ordering.TheVariants.{Equal}
 use Rattle.std.proofs.lemmas.Cmp.{nat_list_cmp_total}
@@ -12,25 +12,26 @@ use Rattle.std.proofs.lemmas.Bool.Decides.{nat_tests}
 use Rattle.std.proofs.lemmas.List.Elements.{All-nil}
 use Rattle.ordered_list.specs.Ordered.{put_by, removed_by}
 use Rattle.ordered_list.proofs.Finding.{found_by-put_other, found_by-removed_other}
-use Rattle.ordered_list.proofs.Rising.{Rises-put, All-put, Rises-removed, All-removed, found_key}
+use Rattle.ordered_list.proofs.Rising.{Rises-put, All-put, Rises-removed, All-removed, found_key, length-put_room, length-removed}
 use Rattle.grid_exact.specs.declared.point.Point.{Point}
-use Rattle.airport_register.specs.Names.{name_cmp}
-use Rattle.airport_register.specs.Runways.{name_of, IsElevation, is_elevation, IsProper, HasNearEnds, has_near_ends, has_elevations, is_within_length, is_precision_on_utility}
-use Rattle.airport_register.specs.Airfields.{id_of, IsHeld, IsHeldAirport, IsHeldHeliport, IsRegister, has_heliport_shape}
-use Rattle.airport_register.specs.Amendments.{airfield_at, runway_at, first_broken, when, airport_rules, runway_rules, drop_runway_rules, heliport_rules, is_heliport, is_airport, runways_in, put_runway, drop_runway, with_runways, with_runway, without_runway, put_airport, after_amendment, amended_id}
-use Rattle.airport_register.specs.declared.category.Category.{Category}
-use Rattle.airport_register.specs.declared.runway.Runway.{Runway}
-use Rattle.airport_register.specs.declared.airfield.Airport.{Airport}
-use Rattle.airport_register.specs.declared.airfield.Heliport.{Heliport}
-use Rattle.airport_register.specs.declared.airfield.Airfield.{Airfield}
-use Rattle.airport_register.specs.declared.airfield.Airfield.TheVariants.{Airport as AnAirport, Heliport as AHeliport}
+use Rattle.airfields.specs.Names.{name_cmp}
+use Rattle.airfields.specs.Runways.{name_of, runway_at, IsElevation, is_elevation, IsProper, HasNearEnds, has_near_ends, has_elevations, is_within_length}
+use Rattle.airfields.specs.Airfields.{id_of, IsHeld, IsHeldAirport, IsHeldHeliport, has_heliport_shape}
+use Rattle.airport_register.specs.Registers.{IsRegister}
+use Rattle.airfields.specs.declared.runways.TheConstants.{MOST_RUNWAYS}
+use Rattle.airport_register.specs.declared.register.TheConstants.{MOST_AIRFIELDS}
+use Rattle.airport_register.specs.Amendments.{airfield_at, Rule, first_of, first_broken, airport_rules, runway_rules, drop_runway_rules, heliport_rules, drop_rules, runways_in, put_runway, drop_runway, with_runways, with_runway, without_runway, put_airport, after_amendment, amended_id}
+use Rattle.airfields.specs.declared.category.Category.{Category}
+use Rattle.airfields.specs.declared.runway.Runway.{Runway}
+use Rattle.airfields.specs.declared.airfield.Airport.{Airport}
+use Rattle.airfields.specs.declared.airfield.Heliport.{Heliport}
+use Rattle.airfields.specs.declared.airfield.Airfield.{Airfield}
+use Rattle.airfields.specs.declared.airfield.Airfield.TheVariants.{Airport as AnAirport, Heliport as AHeliport}
 use Rattle.airport_register.specs.declared.amendment.Amendment.{Amendment}
 use Rattle.airport_register.specs.declared.amendment.Amendment.TheVariants.{PutAirport, PutRunway, DropRunway, PutHeliport, Drop}
 use Rattle.airport_register.specs.declared.amendment.AmendRefusal.{AmendRefusal}
-use Rattle.airport_register.specs.declared.amendment.AmendRefusal.TheVariants.{PrecisionOnUtility, UnknownAirfield, RunwayLength, RunwayFar, TooManyRunways, RegisterFull, ElevationRange, HeliportShape, WrongKind}
 use Rattle.airport_register.proofs.Fields.{found_held}
-use Rattle.airport_register.proofs.Numbers.{number_put, number_removed}
-use Rattle.airport_register.proofs.WithinLimits.{elevation_told, heliport_told, proper_told, near_ends_told, all_near_told}
+use Rattle.airfields.proofs.WithinLimits.{elevation_told, heliport_told, proper_told, near_ends_told, all_near_told}
 
 -- names that stand equal in their order are one
 pub same_name : (j k : List ℕ) → name_cmp j k ≡ Equal → j ≡ k
@@ -44,20 +45,17 @@ found_named k v xs e = sym (same_name k (id_of v) (found_key name_cmp nat_list_c
 
 -- ---- no rule is broken: where there is no first broken one, none of them is
 
-four_kept : (a b d f : Bool) (w x y z : AmendRefusal) → slice_get (when a w ++ when b x ++ when d y ++ when f z) 0 ≡ None → (a ≡ false) × (b ≡ false) × (d ≡ false) × (f ≡ false)
-four_kept true b d f w x y z e = absurd cc
-four_kept false true d f w x y z e = absurd cc
-four_kept false false true f w x y z e = absurd cc
-four_kept false false false true w x y z e = absurd cc
-four_kept false false false false w x y z e = (refl, refl, refl, refl)
+abbrev AllKept : List Rule → Type 0
+AllKept [] = Unit {0}
+AllKept (rule ∷ rules) = (rule.is_broken ≡ false) × AllKept rules
 
-five_kept : (a b d f g : Bool) (v w x y z : AmendRefusal) → slice_get (when a v ++ when b w ++ when d x ++ when f y ++ when g z) 0 ≡ None → (a ≡ false) × (b ≡ false) × (d ≡ false) × (f ≡ false) × (g ≡ false)
-five_kept true b d f g v w x y z e = absurd cc
-five_kept false true d f g v w x y z e = absurd cc
-five_kept false false true f g v w x y z e = absurd cc
-five_kept false false false true g v w x y z e = absurd cc
-five_kept false false false false true v w x y z e = absurd cc
-five_kept false false false false false v w x y z e = (refl, refl, refl, refl, refl)
+all_kept_step : (b : Bool) (refusal : AmendRefusal) (rules : List Rule) → (first_of rules ≡ None → AllKept rules) → cond b (Some refusal) (first_of rules) ≡ None → (b ≡ false) × AllKept rules
+all_kept_step true refusal rules r e = absurd cc
+all_kept_step false refusal rules r e = (refl, r e)
+
+all_kept : (rules : List Rule) → first_of rules ≡ None → AllKept rules
+all_kept [] e = tt
+all_kept (rule ∷ rules) e = all_kept_step rule.is_broken rule.refusal rules (all_kept rules) e
 
 -- there is room: nothing is there under the name, and the list is not full
 room_told : {T : Type 0} (o : Option T) (n most : ℕ) → (is_none o && nat_le most n) ≡ false → o ≡ None → n < most
@@ -68,63 +66,61 @@ room_told (Some x) n most e m = absurd cc
 pub record IsAllowedAirport (xs : List Airfield) (field : Option Airfield) (arp : Point) (z : ℤ) : Type 0 where
   pub elevation : IsElevation z
   pub near : All (HasNearEnds arp) (runways_in field)
-  pub room : field ≡ None → length xs < 4096
+  pub room : field ≡ None → length xs < MOST_AIRFIELDS
 
-pub airport_allowed : (xs : List Airfield) (field : Option Airfield) (arp : Point) (z : ℤ) → slice_get (airport_rules xs field arp z) 0 ≡ None → IsAllowedAirport xs field arp z
+pub airport_allowed : (xs : List Airfield) (field : Option Airfield) (arp : Point) (z : ℤ) → first_of (airport_rules xs field arp z) ≡ None → IsAllowedAirport xs field arp z
 airport_allowed xs field arp z e =
-    let near : Bool = list_all (has_near_ends arp) (runways_in field) in
-    let k = four_kept (is_heliport field) (not (is_elevation z)) (not near) (is_none field && nat_le 4096 (length xs)) WrongKind ElevationRange RunwayFar RegisterFull e in
+    let k = all_kept (airport_rules xs field arp z) e in
     record {
-      elevation = elevation_told z (not-false (is_elevation z) k.1);
-      near = all_near_told arp (runways_in field) (not-false near k.2);
-      room = room_told field (length xs) 4096 k.3;
+      elevation = elevation_told z (not-false (is_elevation z) k.1.0);
+      near = all_near_told arp (runways_in field) (not-false (list_all (has_near_ends arp) (runways_in field)) k.1.1.0);
+      room = room_told field (length xs) MOST_AIRFIELDS k.1.1.1.0;
     }
 
 -- a heliport that breaks no rule
 pub record IsAllowedHeliport (xs : List Airfield) (field : Option Airfield) (h : Heliport) : Type 0 where
   pub held : IsHeldHeliport h
-  pub room : field ≡ None → length xs < 4096
+  pub room : field ≡ None → length xs < MOST_AIRFIELDS
 
-pub heliport_allowed : (xs : List Airfield) (field : Option Airfield) (h : Heliport) → slice_get (heliport_rules xs field h) 0 ≡ None → IsAllowedHeliport xs field h
+pub heliport_allowed : (xs : List Airfield) (field : Option Airfield) (h : Heliport) → first_of (heliport_rules xs field h) ≡ None → IsAllowedHeliport xs field h
 heliport_allowed xs field h e =
-    let k = four_kept (is_airport field) (not (is_elevation h.elevation)) (not (has_heliport_shape h)) (is_none field && nat_le 4096 (length xs)) WrongKind ElevationRange HeliportShape RegisterFull e in
+    let k = all_kept (heliport_rules xs field h) e in
     record {
-      held = heliport_told h (not-false (is_elevation h.elevation) k.1) (not-false (has_heliport_shape h) k.2);
-      room = room_told field (length xs) 4096 k.3;
+      held = heliport_told h (not-false (is_elevation h.elevation) k.1.0) (not-false (has_heliport_shape h) k.1.1.0);
+      room = room_told field (length xs) MOST_AIRFIELDS k.1.1.1.0;
     }
 
 -- a runway that an airport may have
 pub record IsAllowedRunway (a : Airport) (r : Runway) : Type 0 where
   pub proper : IsProper r
   pub near : HasNearEnds a.arp r
-  pub room : runway_at a.runways r.name ≡ None → length a.runways < 16
+  pub room : runway_at a.runways r.name ≡ None → length a.runways < MOST_RUNWAYS
 
-pub runway_allowed : (a : Airport) (r : Runway) → slice_get (runway_rules (Some (AnAirport a)) r) 0 ≡ None → IsAllowedRunway a r
+pub runway_allowed : (a : Airport) (r : Runway) → first_of (runway_rules (Some (AnAirport a)) r) ≡ None → IsAllowedRunway a r
 runway_allowed a r e =
-    let full : Bool = is_none (runway_at a.runways r.name) && nat_le 16 (length a.runways) in
-    let k =
-    five_kept (is_precision_on_utility r) (not (has_elevations r)) (not (is_within_length r)) (not (has_near_ends a.arp r)) full PrecisionOnUtility ElevationRange RunwayLength RunwayFar TooManyRunways e in
+    let k = all_kept (runway_rules (Some (AnAirport a)) r) e in
+    let own = k.1.1 in  -- the rules after those on whether there is such an airport
     record {
-      proper = proper_told r k.0 (not-false (has_elevations r) k.1) (not-false (is_within_length r) k.2);
-      near = near_ends_told a.arp r (not-false (has_near_ends a.arp r) k.3);
-      room = room_told (runway_at a.runways r.name) (length a.runways) 16 k.4;
+      proper = proper_told r own.0 (not-false (has_elevations r) own.1.0) (not-false (is_within_length r) own.1.1.0);
+      near = near_ends_told a.arp r (not-false (has_near_ends a.arp r) own.1.1.1.0);
+      room = room_told (runway_at a.runways r.name) (length a.runways) MOST_RUNWAYS own.1.1.1.1.0;
     }
 
 -- no rule is broken, so there is an airfield
-runway_known : (o : Option Airfield) (r : Runway) → slice_get (runway_rules o r) 0 ≡ None → o ≡ None → ⊥
+runway_known : (o : Option Airfield) (r : Runway) → first_of (runway_rules o r) ≡ None → o ≡ None → ⊥
 runway_known None r e m = absurd cc
 runway_known (Some f) r e m = absurd cc
 
-drop_known : (o : Option Airfield) (name : List ℕ) → slice_get (drop_runway_rules o name) 0 ≡ None → o ≡ None → ⊥
+drop_known : (o : Option Airfield) (name : List ℕ) → first_of (drop_runway_rules o name) ≡ None → o ≡ None → ⊥
 drop_known None name e m = absurd cc
 drop_known (Some f) name e m = absurd cc
 
-field_known : (o : Option Airfield) → slice_get (when (is_none o) UnknownAirfield) 0 ≡ None → o ≡ None → ⊥
+field_known : (o : Option Airfield) → first_of (drop_rules o) ≡ None → o ≡ None → ⊥
 field_known None e m = absurd cc
 field_known (Some f) e m = absurd cc
 
 -- where no rule is broken and no airfield of the name is there, the register has room for it
-pub amendment_room : (xs : List Airfield) (a : Amendment) → first_broken xs a ≡ None → airfield_at xs (amended_id a) ≡ None → length xs < 4096
+pub amendment_room : (xs : List Airfield) (a : Amendment) → first_broken xs a ≡ None → airfield_at xs (amended_id a) ≡ None → length xs < MOST_AIRFIELDS
 amendment_room xs (PutAirport id category arp elevation) e m = (airport_allowed xs (airfield_at xs id) arp elevation e).room m
 amendment_room xs (PutRunway id r) e m = absurd (runway_known (airfield_at xs id) r e m)
 amendment_room xs (DropRunway id name) e m = absurd (drop_known (airfield_at xs id) name e m)
@@ -166,7 +162,7 @@ held_with xs id a rs r reg b f e =
     let l : IsAllowedRunway a r = runway_allowed a r (rw f at b) in
     record {
       elevation = h.elevation;
-      number = rw e (number_put name_of 16 r a.runways h.rises h.number l.room);
+      number = rw e (length-put_room name_cmp nat_list_cmp_total name_of MOST_RUNWAYS r a.runways h.rises h.number l.room);
       rises = rw e (Rises-put name_cmp nat_list_cmp_total name_of r a.runways h.rises);
       proper = rw e (All-put name_cmp nat_list_cmp_total name_of IsProper r a.runways l.proper h.proper);
       near = rw e (All-put name_cmp nat_list_cmp_total name_of (HasNearEnds a.arp) r a.runways l.near h.near);
@@ -176,9 +172,10 @@ held_with xs id a rs r reg b f e =
 pub held_without : (xs : List Airfield) (id : List ℕ) (a : Airport) (rs : List Runway) (k : List ℕ) → IsRegister xs → airfield_at xs id ≡ Some (AnAirport a) → rs ≡ removed_by name_cmp name_of k a.runways → IsHeldAirport (with_runways rs a)
 held_without xs id a rs k reg f e =
     let h : IsHeldAirport a = found_held id (AnAirport a) xs reg f in
+    let n : length (removed_by name_cmp name_of k a.runways) ≤ length a.runways = length-removed name_cmp nat_list_cmp_total name_of k a.runways in
     record {
       elevation = h.elevation;
-      number = rw e (number_removed name_of 16 k a.runways h.number);
+      number = rw e (omega (arith, h.number));
       rises = rw e (Rises-removed name_cmp nat_list_cmp_total name_of k a.runways h.rises);
       proper = rw e (All-removed name_cmp nat_list_cmp_total name_of IsProper k a.runways h.proper);
       near = rw e (All-removed name_cmp nat_list_cmp_total name_of (HasNearEnds a.arp) k a.runways h.near);

@@ -1,17 +1,19 @@
 -- What an amendment does to the airfields of a register, and when it is refused.
-use Rattle.std.specs.Prelude.{ℕ, ℤ, List, [], ◌∷◌, ◌++◌, length, Option, Some, None, is_none, Bool, true, false, not, ◌&&◌, cond, nat_le, slice_get}
+use Rattle.std.specs.Prelude.{ℕ, ℤ, List, [], ◌∷◌, length, Option, Some, None, is_none, Bool, true, false, not, ◌&&◌, cond, nat_le}
 use Rattle.std.specs.List.{list_all}
 use Rattle.ordered_list.specs.Ordered.{found_by, put_by, removed_by}
 use Rattle.grid_exact.specs.declared.point.Point.{Point}
-use Rattle.airport_register.specs.Names.{name_cmp}
-use Rattle.airport_register.specs.Runways.{name_of, is_within_length, is_elevation, has_elevations, is_precision_on_utility, has_near_ends}
-use Rattle.airport_register.specs.Airfields.{id_of, has_heliport_shape}
-use Rattle.airport_register.specs.declared.category.Category.{Category}
-use Rattle.airport_register.specs.declared.runway.Runway.{Runway}
-use Rattle.airport_register.specs.declared.airfield.Airport.{Airport}
-use Rattle.airport_register.specs.declared.airfield.Heliport.{Heliport}
-use Rattle.airport_register.specs.declared.airfield.Airfield.{Airfield}
-use Rattle.airport_register.specs.declared.airfield.Airfield.TheVariants.{Airport as AnAirport, Heliport as AHeliport}
+use Rattle.airfields.specs.Names.{name_cmp}
+use Rattle.airfields.specs.Runways.{name_of, runway_at, is_within_length, is_elevation, has_elevations, is_precision_on_utility, has_near_ends}
+use Rattle.airfields.specs.Airfields.{id_of, has_heliport_shape}
+use Rattle.airfields.specs.declared.category.Category.{Category}
+use Rattle.airfields.specs.declared.runway.Runway.{Runway}
+use Rattle.airfields.specs.declared.airfield.Airport.{Airport}
+use Rattle.airfields.specs.declared.airfield.Heliport.{Heliport}
+use Rattle.airfields.specs.declared.airfield.Airfield.{Airfield}
+use Rattle.airfields.specs.declared.airfield.Airfield.TheVariants.{Airport as AnAirport, Heliport as AHeliport}
+use Rattle.airfields.specs.declared.runways.TheConstants.{MOST_RUNWAYS}
+use Rattle.airport_register.specs.declared.register.TheConstants.{MOST_AIRFIELDS}
 use Rattle.airport_register.specs.declared.amendment.Amendment.{Amendment}
 use Rattle.airport_register.specs.declared.amendment.Amendment.TheVariants.{PutAirport, PutRunway, DropRunway, PutHeliport, Drop}
 use Rattle.airport_register.specs.declared.amendment.AmendRefusal.{AmendRefusal}
@@ -20,10 +22,6 @@ use Rattle.airport_register.specs.declared.amendment.AmendRefusal.TheVariants.{P
 -- the airfield of this name
 abbrev pub airfield_at : List Airfield → List ℕ → Option Airfield
 airfield_at airfields id = found_by name_cmp id_of id airfields
-
--- the runway of this name
-abbrev pub runway_at : List Runway → List ℕ → Option Runway
-runway_at runways name = found_by name_cmp name_of name runways
 
 -- the name of the airfield that the amendment is about
 abbrev pub amended_id : Amendment → List ℕ
@@ -57,55 +55,76 @@ is_far_from (Some (AHeliport h)) runway = false
 
 -- ---- when an amendment is refused
 
--- the refusal, if its rule is broken
-abbrev pub when : Bool → AmendRefusal → List AmendRefusal
-when b refusal = cond b (refusal ∷ []) []
+-- a rule: whether it is broken, and the refusal that comes then
+pub record Rule : Type 0 where
+  pub is_broken : Bool
+  pub refusal : AmendRefusal
 
--- the rules that an airport of this name breaks, where field is the airfield of this name that is there
-abbrev pub airport_rules : List Airfield → Option Airfield → Point → ℤ → List AmendRefusal
+abbrev pub when : Bool → AmendRefusal → Rule
+when b refusal = record { is_broken = b; refusal = refusal }
+
+-- the refusal of the first rule that is broken
+abbrev pub first_of : List Rule → Option AmendRefusal
+first_of [] = None
+first_of (rule ∷ rules) = cond rule.is_broken (Some rule.refusal) (first_of rules)
+
+-- the name is new, and the register has as many airfields as it may have
+abbrev pub is_register_full : List Airfield → Option Airfield → Bool
+is_register_full airfields field = is_none field && nat_le MOST_AIRFIELDS (length airfields)
+
+-- the rules for an airport of a name, where field is the airfield of this name that is there
+abbrev pub airport_rules : List Airfield → Option Airfield → Point → ℤ → List Rule
 airport_rules airfields field arp elevation =
     when (is_heliport field) WrongKind
-    ++ when (not (is_elevation elevation)) ElevationRange
-    ++ when (not (list_all (has_near_ends arp) (runways_in field))) RunwayFar
-    ++ when (is_none field && nat_le 4096 (length airfields)) RegisterFull
+    ∷ when (not (is_elevation elevation)) ElevationRange
+    ∷ when (not (list_all (has_near_ends arp) (runways_in field))) RunwayFar
+    ∷ when (is_register_full airfields field) RegisterFull
+    ∷ []
 
--- the rules that a runway breaks which that airfield is to have
-abbrev pub runway_rules : Option Airfield → Runway → List AmendRefusal
+-- the rules for a runway that this airfield is to have
+abbrev pub runway_rules : Option Airfield → Runway → List Rule
 runway_rules field runway =
     when (is_none field) UnknownAirfield
-    ++ when (is_heliport field) WrongKind
-    ++ when (is_precision_on_utility runway) PrecisionOnUtility
-    ++ when (not (has_elevations runway)) ElevationRange
-    ++ when (not (is_within_length runway)) RunwayLength
-    ++ when (is_far_from field runway) RunwayFar
-    ++ when (is_none (runway_at (runways_in field) runway.name) && nat_le 16 (length (runways_in field))) TooManyRunways
+    ∷ when (is_heliport field) WrongKind
+    ∷ when (is_precision_on_utility runway) PrecisionOnUtility
+    ∷ when (not (has_elevations runway)) ElevationRange
+    ∷ when (not (is_within_length runway)) RunwayLength
+    ∷ when (is_far_from field runway) RunwayFar
+    ∷ when (is_none (runway_at (runways_in field) runway.name) && nat_le MOST_RUNWAYS (length (runways_in field))) TooManyRunways
+    ∷ []
 
--- the rules that are broken where that airfield is to lose its runway of this name
-abbrev pub drop_runway_rules : Option Airfield → List ℕ → List AmendRefusal
+-- the rules where this airfield is to lose its runway of this name
+abbrev pub drop_runway_rules : Option Airfield → List ℕ → List Rule
 drop_runway_rules field name =
     when (is_none field) UnknownAirfield
-    ++ when (is_heliport field) WrongKind
-    ++ when (is_none (runway_at (runways_in field) name)) UnknownRunway
+    ∷ when (is_heliport field) WrongKind
+    ∷ when (is_none (runway_at (runways_in field) name)) UnknownRunway
+    ∷ []
 
--- the rules that a heliport breaks, where field is the airfield of its name that is there
-abbrev pub heliport_rules : List Airfield → Option Airfield → Heliport → List AmendRefusal
+-- the rules for a heliport, where field is the airfield of its name that is there
+abbrev pub heliport_rules : List Airfield → Option Airfield → Heliport → List Rule
 heliport_rules airfields field heliport =
     when (is_airport field) WrongKind
-    ++ when (not (is_elevation heliport.elevation)) ElevationRange
-    ++ when (not (has_heliport_shape heliport)) HeliportShape
-    ++ when (is_none field && nat_le 4096 (length airfields)) RegisterFull
+    ∷ when (not (is_elevation heliport.elevation)) ElevationRange
+    ∷ when (not (has_heliport_shape heliport)) HeliportShape
+    ∷ when (is_register_full airfields field) RegisterFull
+    ∷ []
 
--- the rules that the amendment breaks, in the order in which they are tested
-abbrev pub broken_rules : List Airfield → Amendment → List AmendRefusal
-broken_rules airfields (PutAirport id category arp elevation) = airport_rules airfields (airfield_at airfields id) arp elevation
-broken_rules airfields (PutRunway id runway) = runway_rules (airfield_at airfields id) runway
-broken_rules airfields (DropRunway id name) = drop_runway_rules (airfield_at airfields id) name
-broken_rules airfields (PutHeliport heliport) = heliport_rules airfields (airfield_at airfields heliport.id) heliport
-broken_rules airfields (Drop id) = when (is_none (airfield_at airfields id)) UnknownAirfield
+-- the rules where this airfield is to be taken out
+abbrev pub drop_rules : Option Airfield → List Rule
+drop_rules field = when (is_none field) UnknownAirfield ∷ []
 
--- the first of them
+-- the rules for the amendment, in the order in which they are tested
+abbrev pub rules_of : List Airfield → Amendment → List Rule
+rules_of airfields (PutAirport id category arp elevation) = airport_rules airfields (airfield_at airfields id) arp elevation
+rules_of airfields (PutRunway id runway) = runway_rules (airfield_at airfields id) runway
+rules_of airfields (DropRunway id name) = drop_runway_rules (airfield_at airfields id) name
+rules_of airfields (PutHeliport heliport) = heliport_rules airfields (airfield_at airfields heliport.id) heliport
+rules_of airfields (Drop id) = drop_rules (airfield_at airfields id)
+
+-- the refusal of the first rule that the amendment breaks
 abbrev pub first_broken : List Airfield → Amendment → Option AmendRefusal
-first_broken airfields a = slice_get (broken_rules airfields a) 0
+first_broken airfields a = first_of (rules_of airfields a)
 
 -- ---- what an amendment does
 

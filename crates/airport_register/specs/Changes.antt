@@ -2,7 +2,7 @@
 use Rattle.std.specs.Prelude.{ℕ, List, ◌≡◌, option_map}
 use Rattle.std.specs.Arc.{arc_value}
 use Rattle.airport_register.specs.Amendments.{airfield_at}
-use Rattle.airport_register.specs.declared.airfield.Airfield.{Airfield}
+use Rattle.airfields.specs.declared.airfield.Airfield.{Airfield}
 use Rattle.airport_register.specs.declared.amendment.Changed.{Changed}
 
 -- the airfield of this name, in the register before and in the register after

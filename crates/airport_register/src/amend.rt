@@ -2,16 +2,15 @@
 
 ghost use Rattle.std.specs.Prelude.{◌≡◌, ◌≢◌, IfOk, IfErr, OnErr, None, Some, IfSome, option_copied, option_map};
 ghost use Rattle.std.specs.Arc.{arc_value};
-ghost use Rattle.airport_register.specs.Airfields.{id_of, IsHeld};
+ghost use Rattle.airfields.specs.Airfields.{id_of, IsHeld};
 ghost use Rattle.airport_register.specs.Amendments.{airfield_at, amended_id, first_broken, after_amendment, replaced};
-ghost use Rattle.airport_register.specs.Amendments.{runways_in, with_runways};
+ghost use Rattle.airport_register.specs.Amendments.{runways_in, with_runways as with_runways_of};
 ghost use Rattle.airport_register.specs.Changes.{IsChange};
-ghost use Rattle.airport_register.specs.declared.airfield.Airfield.TheVariants.{Airport as AnAirport};
+ghost use Rattle.airfields.specs.declared.airfield.Airfield.TheVariants.{Airport as AnAirport};
 
-use crate::airfield::{Airfield, Airport};
 use crate::amendment::{AmendRefusal, Amendment, Changed};
 use crate::register::Register;
-use crate::runways::Runways;
+use airfields::{Airfield, Airport, Runways};
 use grid_exact::NoMemory;
 use std::alloc::Global;
 
@@ -36,19 +35,17 @@ fn runways_of(alloc: Global, field: Option<&Airfield>) -> Result<Runways, NoMemo
     }
 }
 
-impl Airport {
-    /// The airport with these runways instead of its own.
-    fn with_runways(&self, runways: Runways) -> Airfield
-        ensures { result ≡ AnAirport (with_runways runways self.now) }
-    {
-        Airfield::Airport(Airport {
-            id: self.id,
-            category: self.category,
-            arp: self.arp,
-            elevation: self.elevation,
-            runways,
-        })
-    }
+/// The airport with these runways instead of its own.
+fn with_runways(airport: &Airport, runways: Runways) -> Airfield
+    ensures { result ≡ AnAirport (with_runways_of runways airport.now) }
+{
+    Airfield::Airport(Airport {
+        id: airport.id,
+        category: airport.category,
+        arp: airport.arp,
+        elevation: airport.elevation,
+        runways,
+    })
 }
 
 impl Register {
@@ -79,14 +76,14 @@ impl Register {
             Amendment::PutRunway { id, runway } => match self.get(id) {
                 Some(Airfield::Airport(airport)) => {
                     let runways = airport.runways.with(alloc, runway)?;
-                    Ok(Some(airport.with_runways(runways)))
+                    Ok(Some(with_runways(airport, runways)))
                 }
                 _ => unreachable!(),
             },
             Amendment::DropRunway { id, name } => match self.get(id) {
                 Some(Airfield::Airport(airport)) => {
                     let runways = airport.runways.without(alloc, name)?;
-                    Ok(Some(airport.with_runways(runways)))
+                    Ok(Some(with_runways(airport, runways)))
                 }
                 _ => unreachable!(),
             },

@@ -1,9 +1,6 @@
 //! Amendments of the register, and what they change.
 
-use crate::airfield::{Airfield, Heliport};
-use crate::category::Category;
-use crate::names::{FieldId, RunwayName};
-use crate::runway::Runway;
+use airfields::{Airfield, Category, FieldId, Heliport, Runway, RunwayName};
 use grid_exact::Point;
 use std::sync::Arc;
 
@@ -42,15 +39,15 @@ pub enum AmendRefusal {
     UnknownAirfield,
     /// The airport has no runway of this name.
     UnknownRunway,
-    /// The runway is not 1,000 to 200,000 tenths of a foot long.
+    /// The runway's length is outside its limits.
     RunwayLength,
-    /// An end of the runway, or of one that is kept, is more than 400,000 tenths of a foot from the reference point in a coordinate.
+    /// An end of the runway, or of one that is kept, is too far from the reference point in a coordinate.
     RunwayFar,
-    /// The runway's name is new, and the airport has 16 runways.
+    /// The runway's name is new, and the airport has as many runways as it may have.
     TooManyRunways,
-    /// The airfield's name is new, and the register has 4,096 airfields.
+    /// The airfield's name is new, and the register has as many airfields as it may have.
     RegisterFull,
-    /// An elevation is not -20,000 to 200,000 tenths of a foot.
+    /// An elevation is outside its limits.
     ElevationRange,
     /// The axis or the width of a heliport is outside its limit.
     HeliportShape,
@@ -63,7 +60,10 @@ pub enum AmendRefusal {
 /// What an amendment changed: the airfield of this name, as it was before and as it is now.
 #[derive(Drop)]
 pub struct Changed {
+    /// The name that the amendment is about.
     pub id: FieldId,
+    /// The airfield of this name before; `None` where there was none.
     pub before: Option<Arc<Airfield>>,
+    /// The airfield of this name as it is now; `None` where it was taken out.
     pub after: Option<Arc<Airfield>>,
 }

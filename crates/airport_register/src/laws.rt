@@ -2,7 +2,7 @@
 
 ghost use Rattle.std.specs.Prelude.{◌≡◌, ◌≢◌, ℕ, List};
 ghost use Rattle.airport_register.specs.Amendments.{airfield_at, amended_id, after_amendment};
-ghost use Rattle.airport_register.specs.declared.airfield.Airfield.{Airfield};
+ghost use Rattle.airfields.specs.declared.airfield.Airfield.{Airfield};
 ghost use Rattle.airport_register.specs.declared.amendment.Amendment.{Amendment};
 
 /// An amendment leaves every airfield but the one that it names as it was.

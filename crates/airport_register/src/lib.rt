@@ -1,33 +1,22 @@
-//! The register of airfields: names, categories, runways, airports and heliports, filings, and amendments of the register.
+//! The register of airfields, and its amendments.
 //!
-//! Lengths, coordinates and elevations are whole tenths of a foot.
+//! Lengths, coordinates and elevations are whole tenths of a foot. The types of airfields and structures stand in `airfields`.
 #![tactic(auto)]
 
-mod airfield;
 mod amend;
+mod amended_id;
 mod amendment;
-mod category;
-mod field_id;
-mod filing;
 mod laws;
-mod limits;
-mod names;
 mod refusal;
 mod register;
-mod runway;
-mod runways;
-mod structure;
 
-pub use airfield::{Airfield, Airport, Heliport};
+pub use airfields::{
+    Airfield, Airport, BadName, Category, FieldId, Filing, FilingRange, Flags, Heliport, Runway,
+    RunwayEnd, RunwayName, Runways, StructureKind,
+};
 pub use amendment::{AmendRefusal, Amendment, Changed};
-pub use category::Category;
-pub use filing::FilingRange;
 pub use laws::other_airfields_stay;
-pub use names::{BadName, FieldId, RunwayName};
-pub use register::Register;
-pub use runway::{Runway, RunwayEnd};
-pub use runways::Runways;
-pub use structure::{Filing, Flags, StructureKind};
+pub use register::{MOST_AIRFIELDS, Register};
 
 #[cfg(test)]
 mod limit_tests;

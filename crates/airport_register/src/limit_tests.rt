@@ -1,91 +1,118 @@
-//! The limits of the register and the order in which they are tested.
+//! The limits of the register and the order in which they are tested: amendments, and what comes of each, as tables.
 
-use crate::{
-    Airfield, AmendRefusal, Amendment, Category, FieldId, Heliport, Register, Runway, RunwayEnd,
-    RunwayName,
+use crate::AmendRefusal::{
+    ElevationRange, HeliportShape, PrecisionOnUtility, RegisterFull, RunwayFar, RunwayLength,
+    TooManyRunways, UnknownAirfield, UnknownRunway, WrongKind,
 };
+use crate::limit_tests::Step::{Airport, DropRunway, Heliport, Runway};
+use crate::{AmendRefusal, Amendment, Category, FieldId, Register, RunwayEnd, RunwayName};
 use grid_exact::Point;
 use runway_classes::ApproachKind;
+use std::alloc::Global;
+use std::process::Abort;
 use std::test::Fail;
 
-/// An airport at (x, y).
-fn airport(id: &str, x: i64, y: i64, elevation: i64) -> Result<Amendment, Fail> {
+/// A runway of a table.
+#[derive(Clone, Copy)]
+struct Strip {
+    name: &'static str,
+    from: (i64, i64),
+    to: (i64, i64),
+    /// The elevation of its first end.
+    z: i64,
+    /// Whether it is a utility runway with a precision end.
+    precision: bool,
+}
+
+/// A runway that breaks no rule.
+const GOOD: Strip = Strip {
+    name: "18/36",
+    from: (-50_000, 0),
+    to: (50_000, 0),
+    z: 0,
+    precision: false,
+};
+
+/// A runway from `x1` to `x2`, to the east.
+fn east(x1: i64, x2: i64) -> Strip {
+    let (from, to) = ((x1, 0), (x2, 0));
+    Strip { from, to, ..GOOD }
+}
+
+/// A runway from `y1` to `y2`, to the north.
+fn north(y1: i64, y2: i64) -> Strip {
+    let (from, to) = ((0, y1), (0, y2));
+    Strip { from, to, ..GOOD }
+}
+
+fn named(name: &'static str, strip: Strip) -> Strip {
+    Strip { name, ..strip }
+}
+
+/// The runway with its first end at this elevation.
+fn level(z: i64, strip: Strip) -> Strip {
+    Strip { z, ..strip }
+}
+
+/// The runway as a utility runway with a precision end.
+fn precise(strip: Strip) -> Strip {
+    let precision = true;
+    Strip { precision, ..strip }
+}
+
+/// An amendment of a table, which goes with the name of an airfield.
+#[derive(Clone, Copy)]
+enum Step {
+    /// An airport at (x, y), of this elevation.
+    Airport(i64, i64, i64),
+    Runway(Strip),
+    DropRunway(&'static str),
+    /// A heliport whose axis goes from the origin to (x, y), of this width and elevation.
+    Heliport(i64, i64, i64, i64),
+    Drop,
+}
+
+/// How many runways the airport of that name then has, `None` where there is no airport; or the refusal.
+type Outcome = Result<Option<usize>, AmendRefusal>;
+
+fn airport(id: FieldId, x: i64, y: i64, elevation: i64) -> Result<Amendment, Fail> {
     Ok(Amendment::PutAirport {
-        id: FieldId::new(id.as_bytes())?,
+        id,
         category: Category::PublicUse,
         arp: Point::new(x, y)?,
         elevation,
     })
 }
 
-fn end(x: i64, y: i64, z: i64) -> Result<RunwayEnd, Fail> {
-    Ok(RunwayEnd {
-        at: Point::new(x, y)?,
-        z,
-        kind: ApproachKind::Visual,
-    })
+fn end(at: (i64, i64), z: i64, kind: ApproachKind) -> Result<RunwayEnd, Fail> {
+    let at = Point::new(at.0, at.1)?;
+    Ok(RunwayEnd { at, z, kind })
 }
 
-/// A runway to the east and west, from `x1` to `x2`.
-fn runway(name: &str, x1: i64, x2: i64) -> Result<Runway, Fail> {
-    Ok(Runway {
-        name: RunwayName::new(name.as_bytes())?,
-        utility: false,
+fn runway(strip: Strip) -> Result<airfields::Runway, Fail> {
+    let kind = if strip.precision {
+        ApproachKind::Precision
+    } else {
+        ApproachKind::Visual
+    };
+    Ok(airfields::Runway {
+        name: RunwayName::new(strip.name.as_bytes())?,
+        utility: strip.precision,
         hard: true,
-        end1: end(x1, 0, 0)?,
-        end2: end(x2, 0, 0)?,
+        end1: end(strip.from, strip.z, ApproachKind::Visual)?,
+        end2: end(strip.to, 0, kind)?,
     })
 }
 
-fn put(id: &str, runway: Runway) -> Result<Amendment, Fail> {
-    Ok(Amendment::PutRunway {
-        id: FieldId::new(id.as_bytes())?,
-        runway,
-    })
-}
-
-/// The runway as a utility runway with a precision end.
-fn with_precision(runway: Runway) -> Runway {
-    Runway {
-        utility: true,
-        end2: RunwayEnd {
-            kind: ApproachKind::Precision,
-            ..runway.end2
-        },
-        ..runway
-    }
-}
-
-/// The runway with its first end at this elevation.
-fn at_elevation(runway: Runway, z: i64) -> Runway {
-    Runway {
-        end1: RunwayEnd { z, ..runway.end1 },
-        ..runway
-    }
-}
-
-fn drop_runway(id: &str, name: &str) -> Result<Amendment, Fail> {
-    Ok(Amendment::DropRunway {
-        id: FieldId::new(id.as_bytes())?,
-        name: RunwayName::new(name.as_bytes())?,
-    })
-}
-
-/// An amendment that is not refused.
-fn accept(rt: &HostRuntime, register: &mut Register, a: Amendment) -> Result<(), Fail> {
-    register.amend(rt.alloc(), &a)?;
-    Ok(())
-}
-
-/// Why the amendment is refused.
-fn refusal(rt: &HostRuntime, register: &mut Register, a: &Amendment) -> Option<AmendRefusal> {
-    register.amend(rt.alloc(), a).err()
-}
-
-/// A heliport whose axis goes from the origin to (x, y).
-fn heliport(id: &str, x: i64, y: i64, width: i64, elevation: i64) -> Result<Heliport, Fail> {
-    Ok(Heliport {
-        id: FieldId::new(id.as_bytes())?,
+fn heliport(
+    id: FieldId,
+    x: i64,
+    y: i64,
+    width: i64,
+    elevation: i64,
+) -> Result<airfields::Heliport, Fail> {
+    Ok(airfields::Heliport {
+        id,
         category: Category::Procedure,
         a: Point::new(0, 0)?,
         b: Point::new(x, y)?,
@@ -94,158 +121,199 @@ fn heliport(id: &str, x: i64, y: i64, width: i64, elevation: i64) -> Result<Heli
     })
 }
 
-/// The heliport `HELI`, the airport `FULL` with 16 runways, and the airport `ONE` with the runway `09/27`.
-fn register(rt: &HostRuntime) -> Result<Register, Fail> {
-    let mut register = Register::empty(rt.alloc());
-    let heli = heliport("HELI", 1_000, 0, 1_000, 0)?;
-    accept(rt, &mut register, Amendment::PutHeliport(heli))?;
-    accept(rt, &mut register, airport("FULL", 0, 0, 0)?)?;
-    accept(rt, &mut register, airport("ONE", 0, 0, 0)?)?;
-    accept(
-        rt,
-        &mut register,
-        put("ONE", runway("09/27", -50_000, 50_000)?)?,
-    )?;
-    for name in [
-        "01", "02", "03", "04", "05", "06", "07", "08", "09", "10", "11", "12", "13", "14", "15",
-        "16",
-    ] {
-        accept(
-            rt,
-            &mut register,
-            put("FULL", runway(name, -50_000, 50_000)?)?,
-        )?;
+fn amendment(id: &str, step: Step) -> Result<Amendment, Fail> {
+    let id = FieldId::new(id.as_bytes())?;
+    match step {
+        Airport(x, y, elevation) => airport(id, x, y, elevation),
+        Runway(strip) => {
+            let runway = runway(strip)?;
+            Ok(Amendment::PutRunway { id, runway })
+        }
+        DropRunway(name) => {
+            let name = RunwayName::new(name.as_bytes())?;
+            Ok(Amendment::DropRunway { id, name })
+        }
+        Heliport(x, y, width, elevation) => {
+            let heliport = heliport(id, x, y, width, elevation)?;
+            Ok(Amendment::PutHeliport(heliport))
+        }
+        Step::Drop => Ok(Amendment::Drop(id)),
     }
-    Ok(register)
 }
 
-/// How many runways the airport has.
-fn count(register: &Register, id: &str) -> Result<Option<usize>, Fail> {
-    let id = FieldId::new(id.as_bytes())?;
-    match register.get(&id) {
-        Some(Airfield::Airport(airport)) => Ok(Some(airport.runways.len())),
+fn outcome(alloc: Global, register: &mut Register, a: &Amendment) -> Outcome {
+    let changed = register.amend(alloc, a)?;
+    match register.get(&changed.id) {
+        Some(airfields::Airfield::Airport(airport)) => Ok(Some(airport.runways.len())),
         _ => Ok(None),
     }
 }
 
-#[test]
-fn refusals_of_airports(rt: HostRuntime) -> Result<(), Fail> {
-    let mut register = register(&rt)?;
-    for (id, x, y, elevation, wanted) in [
-        ("HELI", 0, 0, 0, AmendRefusal::WrongKind),
-        ("HELI", 0, 0, 200_001, AmendRefusal::WrongKind),
-        ("NEW", 0, 0, 200_001, AmendRefusal::ElevationRange),
-        ("NEW", 0, 0, i64::MAX, AmendRefusal::ElevationRange),
-        ("NEW", 0, 0, i64::MIN, AmendRefusal::ElevationRange),
-        ("ONE", 0, 0, -20_001, AmendRefusal::ElevationRange),
-        ("ONE", 350_001, 0, -20_001, AmendRefusal::ElevationRange),
-        ("ONE", 350_001, 0, 0, AmendRefusal::RunwayFar),
-        ("ONE", -350_001, 0, 0, AmendRefusal::RunwayFar),
-        ("ONE", 0, 400_001, 0, AmendRefusal::RunwayFar),
-        ("ONE", 0, -400_001, 0, AmendRefusal::RunwayFar),
-    ] {
-        let a = airport(id, x, y, elevation)?;
-        assert_eq!(rt; refusal(&rt, &mut register, &a), Some(wanted), "{a:?}");
+/// Applies the amendments of a table one after another, and compares what comes of each.
+fn apply(
+    rt: &impl Abort,
+    alloc: Global,
+    register: &mut Register,
+    rows: &[(&'static str, Step, Outcome)],
+) -> Result<(), Fail> {
+    for (id, step, wanted) in rows {
+        let a = amendment(id, *step)?;
+        assert_eq!(rt; outcome(alloc, register, &a), *wanted, "{a:?}");
     }
     Ok(())
 }
 
-#[test]
-fn refusals_of_runways(rt: HostRuntime) -> Result<(), Fail> {
-    let mut register = register(&rt)?;
-    let good = runway("18/36", -50_000, 50_000)?;
-    let short = runway("18/36", 0, 999)?;
-    let long = runway("18/36", -100_000, 100_001)?;
-    let far = runway("18/36", 300_000, 400_001)?;
-    let far_short = runway("18/36", 500_000, 500_999)?;
-    let far_north = Runway {
-        end1: end(0, 300_000, 0)?,
-        end2: end(0, 400_001, 0)?,
-        ..good
-    };
-    for (id, runway, wanted) in [
-        ("NONE", good, AmendRefusal::UnknownAirfield),
-        ("NONE", with_precision(good), AmendRefusal::UnknownAirfield),
-        ("HELI", good, AmendRefusal::WrongKind),
-        ("HELI", with_precision(good), AmendRefusal::WrongKind),
-        (
-            "ONE",
-            with_precision(good),
-            AmendRefusal::PrecisionOnUtility,
-        ),
-        (
-            "ONE",
-            with_precision(at_elevation(good, 200_001)),
-            AmendRefusal::PrecisionOnUtility,
-        ),
-        (
-            "ONE",
-            at_elevation(good, 200_001),
-            AmendRefusal::ElevationRange,
-        ),
-        (
-            "ONE",
-            at_elevation(short, i64::MIN),
-            AmendRefusal::ElevationRange,
-        ),
-        ("ONE", short, AmendRefusal::RunwayLength),
-        ("ONE", long, AmendRefusal::RunwayLength),
-        ("ONE", far_short, AmendRefusal::RunwayLength),
-        ("ONE", far, AmendRefusal::RunwayFar),
-        ("ONE", far_north, AmendRefusal::RunwayFar),
-        ("FULL", far, AmendRefusal::RunwayFar),
-        ("FULL", good, AmendRefusal::TooManyRunways),
-    ] {
-        let a = put(id, runway)?;
-        assert_eq!(rt; refusal(&rt, &mut register, &a), Some(wanted), "{a:?}");
+/// Applies amendments that are all refused.
+fn refuse(
+    rt: &impl Abort,
+    alloc: Global,
+    register: &mut Register,
+    rows: &[(&'static str, Step, AmendRefusal)],
+) -> Result<(), Fail> {
+    for (id, step, refusal) in rows {
+        apply(rt, alloc, register, &[(id, *step, Err(*refusal))])?;
     }
     Ok(())
 }
 
-#[test]
-fn refusals_of_heliports(rt: HostRuntime) -> Result<(), Fail> {
-    let mut register = register(&rt)?;
-    for (id, x, y, width, elevation, wanted) in [
-        ("ONE", 1_000, 0, 1_000, 0, AmendRefusal::WrongKind),
-        ("ONE", 99, 0, 99, 200_001, AmendRefusal::WrongKind),
-        ("NEW", 99, 0, 99, 200_001, AmendRefusal::ElevationRange),
-        ("NEW", 99, 0, 99, i64::MIN, AmendRefusal::ElevationRange),
-        (
-            "HELI",
-            1_000,
-            0,
-            1_000,
-            -20_001,
-            AmendRefusal::ElevationRange,
-        ),
-        ("NEW", 99, 0, 1_000, 0, AmendRefusal::HeliportShape),
-        ("NEW", 60, 79, 1_000, 0, AmendRefusal::HeliportShape),
-        ("NEW", 0, -10_001, 1_000, 0, AmendRefusal::HeliportShape),
-        ("NEW", 6_000, 8_001, 1_000, 0, AmendRefusal::HeliportShape),
-        ("NEW", 1_000, 0, 99, 0, AmendRefusal::HeliportShape),
-        ("NEW", 1_000, 0, 5_001, 0, AmendRefusal::HeliportShape),
-        ("HELI", 1_000, 0, i64::MAX, 0, AmendRefusal::HeliportShape),
-    ] {
-        let a = Amendment::PutHeliport(heliport(id, x, y, width, elevation)?);
-        assert_eq!(rt; refusal(&rt, &mut register, &a), Some(wanted), "{a:?}");
+/// The heliport `HELI`, the airport `FULL` with 16 runways, and the airport `ONE` with the runway `09/27`.
+fn register(rt: &impl Abort, alloc: Global) -> Result<Register, Fail> {
+    let mut register = Register::empty(alloc);
+    let rows = [
+        ("HELI", Heliport(1_000, 0, 1_000, 0), Ok(None)),
+        ("FULL", Airport(0, 0, 0), Ok(Some(0))),
+        ("ONE", Airport(0, 0, 0), Ok(Some(0))),
+        ("ONE", Runway(named("09/27", GOOD)), Ok(Some(1))),
+    ];
+    apply(rt, alloc, &mut register, &rows)?;
+    let names = [
+        "01", "02", "03", "04", "05", "06", "07", "08", "09", "10", "11", "12", "13", "14", "15",
+        "16",
+    ];
+    for (number, name) in names.iter().enumerate() {
+        let row = ("FULL", Runway(named(name, GOOD)), Ok(Some(number + 1)));
+        apply(rt, alloc, &mut register, &[row])?;
     }
-    Ok(())
+    Ok(register)
+}
+
+#[test]
+fn refused_airports_and_runways(rt: HostRuntime) -> Result<(), Fail> {
+    let mut register = register(&rt, rt.alloc())?;
+    let rows = [
+        ("HELI", Airport(0, 0, 0), WrongKind),
+        ("HELI", Airport(0, 0, 200_001), WrongKind),
+        ("NEW", Airport(0, 0, 200_001), ElevationRange),
+        ("NEW", Airport(0, 0, i64::MAX), ElevationRange),
+        ("NEW", Airport(0, 0, i64::MIN), ElevationRange),
+        ("ONE", Airport(0, 0, -20_001), ElevationRange),
+        ("ONE", Airport(350_001, 0, -20_001), ElevationRange),
+        ("ONE", Airport(350_001, 0, 0), RunwayFar),
+        ("ONE", Airport(-350_001, 0, 0), RunwayFar),
+        ("ONE", Airport(0, 400_001, 0), RunwayFar),
+        ("ONE", Airport(0, -400_001, 0), RunwayFar),
+        ("NONE", Runway(GOOD), UnknownAirfield),
+        ("NONE", Runway(precise(GOOD)), UnknownAirfield),
+        ("HELI", Runway(GOOD), WrongKind),
+        ("HELI", Runway(precise(GOOD)), WrongKind),
+        ("ONE", Runway(precise(GOOD)), PrecisionOnUtility),
+        (
+            "ONE",
+            Runway(precise(level(200_001, GOOD))),
+            PrecisionOnUtility,
+        ),
+        ("ONE", Runway(level(200_001, GOOD)), ElevationRange),
+        ("ONE", Runway(level(i64::MIN, east(0, 999))), ElevationRange),
+        ("ONE", Runway(east(0, 999)), RunwayLength),
+        ("ONE", Runway(east(-100_000, 100_001)), RunwayLength),
+        ("ONE", Runway(east(500_000, 500_999)), RunwayLength),
+        ("ONE", Runway(east(300_000, 400_001)), RunwayFar),
+        ("ONE", Runway(north(300_000, 400_001)), RunwayFar),
+        ("FULL", Runway(east(300_000, 400_001)), RunwayFar),
+        ("FULL", Runway(GOOD), TooManyRunways),
+    ];
+    refuse(&rt, rt.alloc(), &mut register, &rows)
+}
+
+#[test]
+fn refused_heliports_and_removals(rt: HostRuntime) -> Result<(), Fail> {
+    let mut register = register(&rt, rt.alloc())?;
+    let rows = [
+        ("ONE", Heliport(1_000, 0, 1_000, 0), WrongKind),
+        ("ONE", Heliport(99, 0, 99, 200_001), WrongKind),
+        ("NEW", Heliport(99, 0, 99, 200_001), ElevationRange),
+        ("NEW", Heliport(99, 0, 99, i64::MIN), ElevationRange),
+        ("HELI", Heliport(1_000, 0, 1_000, -20_001), ElevationRange),
+        ("NEW", Heliport(99, 0, 1_000, 0), HeliportShape),
+        ("NEW", Heliport(60, 79, 1_000, 0), HeliportShape),
+        ("NEW", Heliport(0, -10_001, 1_000, 0), HeliportShape),
+        ("NEW", Heliport(6_000, 8_001, 1_000, 0), HeliportShape),
+        ("NEW", Heliport(1_000, 0, 99, 0), HeliportShape),
+        ("NEW", Heliport(1_000, 0, 5_001, 0), HeliportShape),
+        ("HELI", Heliport(1_000, 0, i64::MAX, 0), HeliportShape),
+        ("NONE", DropRunway("09/27"), UnknownAirfield),
+        ("HELI", DropRunway("09/27"), WrongKind),
+        ("ONE", DropRunway("27/09"), UnknownRunway),
+        ("NONE", Step::Drop, UnknownAirfield),
+    ];
+    refuse(&rt, rt.alloc(), &mut register, &rows)
+}
+
+#[test]
+fn at_the_limits(rt: HostRuntime) -> Result<(), Fail> {
+    let mut register = register(&rt, rt.alloc())?;
+    let rows = [
+        ("NEW", Airport(0, 0, -20_000), Ok(Some(0))),
+        ("NEW", Airport(0, 0, 200_000), Ok(Some(0))),
+        ("ONE", Airport(350_000, 400_000, 0), Ok(Some(1))),
+        ("ONE", Airport(-350_000, -400_000, 0), Ok(Some(1))),
+        ("NEW", Runway(named("A", east(0, 1_000))), Ok(Some(1))),
+        (
+            "NEW",
+            Runway(named("B", east(-400_000, -200_000))),
+            Ok(Some(2)),
+        ),
+        (
+            "NEW",
+            Runway(named("C", level(-20_000, east(300_000, 400_000)))),
+            Ok(Some(3)),
+        ),
+        (
+            "NEW",
+            Runway(named("D", level(200_000, east(300_000, 400_000)))),
+            Ok(Some(4)),
+        ),
+        // A runway whose name is there makes no seventeenth, and one that goes makes room.
+        (
+            "FULL",
+            Runway(named("16", east(-30_000, 30_000))),
+            Ok(Some(16)),
+        ),
+        ("FULL", Runway(named("17", GOOD)), Err(TooManyRunways)),
+        ("FULL", DropRunway("05"), Ok(Some(15))),
+        ("FULL", Runway(named("17", GOOD)), Ok(Some(16))),
+        // An airport without runways goes where it could not go with them.
+        ("ONE", Airport(400_000, 0, 0), Err(RunwayFar)),
+        ("ONE", DropRunway("09/27"), Ok(Some(0))),
+        ("ONE", Airport(400_000, 0, 0), Ok(Some(0))),
+    ];
+    apply(&rt, rt.alloc(), &mut register, &rows)
 }
 
 #[test]
 fn heliports(rt: HostRuntime) -> Result<(), Fail> {
-    let mut register = register(&rt)?;
-    for (id, x, y, width, elevation) in [
+    let mut register = register(&rt, rt.alloc())?;
+    for (name, x, y, width, elevation) in [
         ("HELI", 100, 0, 100, -20_000),
         ("HELI", -10_000, 0, 5_000, 200_000),
         ("GATE", 60, -80, 1_000, 0),
         ("GATE", 6_000, 8_000, 1_000, 0),
     ] {
-        let put = heliport(id, x, y, width, elevation)?;
+        let put = heliport(FieldId::new(name.as_bytes())?, x, y, width, elevation)?;
         let changed = register.amend(rt.alloc(), &Amendment::PutHeliport(put))?;
         assert_eq!(rt; changed.id, put.id);
         match register.get(&put.id) {
-            Some(Airfield::Heliport(held)) => assert_eq!(rt; *held, put),
+            Some(airfields::Airfield::Heliport(held)) => assert_eq!(rt; *held, put),
             _ => assert!(rt; false),
         }
     }
@@ -258,102 +326,20 @@ fn heliports(rt: HostRuntime) -> Result<(), Fail> {
 }
 
 #[test]
-fn refusals_of_removals(rt: HostRuntime) -> Result<(), Fail> {
-    let mut register = register(&rt)?;
-    for (id, name, wanted) in [
-        ("NONE", "09/27", AmendRefusal::UnknownAirfield),
-        ("HELI", "09/27", AmendRefusal::WrongKind),
-        ("ONE", "27/09", AmendRefusal::UnknownRunway),
-    ] {
-        let a = drop_runway(id, name)?;
-        assert_eq!(rt; refusal(&rt, &mut register, &a), Some(wanted), "{a:?}");
-    }
-    let a = Amendment::Drop(FieldId::new(b"NONE")?);
-    assert_eq!(rt;
-        refusal(&rt, &mut register, &a),
-        Some(AmendRefusal::UnknownAirfield)
-    );
-    Ok(())
-}
-
-#[test]
-fn at_the_limits(rt: HostRuntime) -> Result<(), Fail> {
-    let mut register = register(&rt)?;
-    for (id, x, y, elevation) in [
-        ("NEW", 0, 0, -20_000),
-        ("NEW", 0, 0, 200_000),
-        ("ONE", 350_000, 400_000, 0),
-        ("ONE", -350_000, -400_000, 0),
-    ] {
-        let a = airport(id, x, y, elevation)?;
-        assert_eq!(rt; refusal(&rt, &mut register, &a), None, "{a:?}");
-    }
-    for (name, x1, x2, z) in [
-        ("A", 0, 1_000, 0),
-        ("B", -400_000, -200_000, 0),
-        ("C", 300_000, 400_000, -20_000),
-        ("D", 300_000, 400_000, 200_000),
-    ] {
-        let a = put("NEW", at_elevation(runway(name, x1, x2)?, z))?;
-        assert_eq!(rt; refusal(&rt, &mut register, &a), None, "{a:?}");
-    }
-    assert_eq!(rt; count(&register, "NEW")?, Some(4));
-    Ok(())
-}
-
-#[test]
-fn seventeenth_runway(rt: HostRuntime) -> Result<(), Fail> {
-    let mut register = register(&rt)?;
-    let shorter = runway("16", -30_000, 30_000)?;
-    accept(&rt, &mut register, put("FULL", shorter)?)?;
-    assert_eq!(rt; count(&register, "FULL")?, Some(16));
-    let more = put("FULL", runway("17", -50_000, 50_000)?)?;
-    assert_eq!(rt;
-        refusal(&rt, &mut register, &more),
-        Some(AmendRefusal::TooManyRunways)
-    );
-    accept(&rt, &mut register, drop_runway("FULL", "05")?)?;
-    assert_eq!(rt; count(&register, "FULL")?, Some(15));
-    accept(&rt, &mut register, more)?;
-    assert_eq!(rt; count(&register, "FULL")?, Some(16));
-    Ok(())
-}
-
-#[test]
-fn changed_airport_keeps_its_runways(rt: HostRuntime) -> Result<(), Fail> {
-    let mut register = register(&rt)?;
-    accept(&rt, &mut register, airport("ONE", 100_000, 0, 5_000)?)?;
-    let kept = runway("09/27", -50_000, 50_000)?;
-    let id = FieldId::new(b"ONE")?;
-    match register.get(&id) {
-        Some(Airfield::Airport(airport)) => {
+fn changed_and_taken_out(rt: HostRuntime) -> Result<(), Fail> {
+    let mut register = register(&rt, rt.alloc())?;
+    register.limits();
+    let moved = ("ONE", Airport(100_000, 0, 5_000), Ok(Some(1)));
+    apply(&rt, rt.alloc(), &mut register, &[moved])?;
+    let kept = runway(named("09/27", GOOD))?;
+    match register.get(&FieldId::new(b"ONE")?) {
+        Some(airfields::Airfield::Airport(airport)) => {
             assert_eq!(rt; airport.elevation, 5_000);
             assert_eq!(rt; airport.arp.x, 100_000);
             assert_eq!(rt; airport.runways.as_slice(), [kept].as_slice());
         }
         _ => assert!(rt; false),
     }
-    Ok(())
-}
-
-#[test]
-fn airport_without_runways_moves(rt: HostRuntime) -> Result<(), Fail> {
-    let mut register = register(&rt)?;
-    let moved = airport("ONE", 400_000, 0, 0)?;
-    assert_eq!(rt;
-        refusal(&rt, &mut register, &moved),
-        Some(AmendRefusal::RunwayFar)
-    );
-    accept(&rt, &mut register, drop_runway("ONE", "09/27")?)?;
-    accept(&rt, &mut register, moved)?;
-    assert_eq!(rt; count(&register, "ONE")?, Some(0));
-    Ok(())
-}
-
-#[test]
-fn airfields_taken_out(rt: HostRuntime) -> Result<(), Fail> {
-    let mut register = register(&rt)?;
-    register.limits();
     for id in ["HELI", "FULL"] {
         let id = FieldId::new(id.as_bytes())?;
         let changed = register.amend(rt.alloc(), &Amendment::Drop(id))?;
@@ -363,36 +349,29 @@ fn airfields_taken_out(rt: HostRuntime) -> Result<(), Fail> {
         assert!(rt; register.get(&id).is_none());
     }
     assert_eq!(rt; register.len(), 1);
-    assert_eq!(rt; count(&register, "ONE")?, Some(1));
-    Ok(())
+    apply(&rt, rt.alloc(), &mut register, &[moved])
 }
 
 #[test]
 fn full_register(rt: HostRuntime) -> Result<(), Fail> {
     let mut register = Register::empty(rt.alloc());
     for number in 0..4_096 {
-        let id = format!(in rt.alloc(); "A{number}")?;
-        accept(&rt, &mut register, airport(id.as_str(), 0, 0, 0)?)?;
+        let name = format!(in rt.alloc(); "A{number}")?;
+        let id = FieldId::new(name.as_bytes())?;
+        register.amend(rt.alloc(), &airport(id, 0, 0, 0)?)?;
     }
     assert_eq!(rt; register.len(), 4_096);
-    for (elevation, wanted) in [
-        (0, AmendRefusal::RegisterFull),
-        (200_001, AmendRefusal::ElevationRange),
-    ] {
-        let a = airport("B", 0, 0, elevation)?;
-        assert_eq!(rt; refusal(&rt, &mut register, &a), Some(wanted), "{a:?}");
-    }
-    for (width, wanted) in [
-        (1_000, AmendRefusal::RegisterFull),
-        (99, AmendRefusal::HeliportShape),
-    ] {
-        let a = Amendment::PutHeliport(heliport("B", 1_000, 0, width, 0)?);
-        assert_eq!(rt; refusal(&rt, &mut register, &a), Some(wanted), "{a:?}");
-    }
-    // One that is there is changed, and one that is taken out makes room.
-    accept(&rt, &mut register, airport("A0", 0, 0, 10)?)?;
-    accept(&rt, &mut register, Amendment::Drop(FieldId::new(b"A0")?))?;
-    accept(&rt, &mut register, airport("B", 0, 0, 0)?)?;
+    let rows = [
+        ("B", Airport(0, 0, 0), Err(RegisterFull)),
+        ("B", Airport(0, 0, 200_001), Err(ElevationRange)),
+        ("B", Heliport(1_000, 0, 1_000, 0), Err(RegisterFull)),
+        ("B", Heliport(1_000, 0, 99, 0), Err(HeliportShape)),
+        // One that is there is changed, and one that is taken out makes room.
+        ("A0", Airport(0, 0, 10), Ok(Some(0))),
+        ("A0", Step::Drop, Ok(None)),
+        ("B", Airport(0, 0, 0), Ok(Some(0))),
+    ];
+    apply(&rt, rt.alloc(), &mut register, &rows)?;
     assert_eq!(rt; register.len(), 4_096);
     Ok(())
 }

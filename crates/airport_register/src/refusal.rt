@@ -1,25 +1,18 @@
 //! The rules of amendments, in the order in which they are tested.
 
-ghost use Rattle.std.specs.Prelude.{◌≡◌, ◌&&◌, is_none, length, nat_le, option_copied, slice_get, Some};
+ghost use Rattle.std.specs.Prelude.{◌≡◌, option_copied, Some};
 ghost use Rattle.std.specs.List.{list_all};
-ghost use Rattle.airport_register.specs.Runways.{has_near_ends};
+ghost use Rattle.airfields.specs.Runways.{has_near_ends};
 ghost use Rattle.airport_register.specs.Amendments.{airfield_at, first_broken, is_airport, is_heliport, runways_in};
-ghost use Rattle.airport_register.specs.Amendments.{airport_rules, runway_rules, drop_runway_rules, heliport_rules};
-ghost use Rattle.airport_register.specs.declared.airfield.Airfield.TheVariants.{Airport as AnAirport};
+ghost use Rattle.airport_register.specs.Amendments.{first_of, is_register_full, airport_rules, runway_rules, drop_runway_rules, heliport_rules, drop_rules};
+ghost use Rattle.airfields.specs.declared.airfield.Airfield.TheVariants.{Airport as AnAirport};
 
-use crate::airfield::{Airfield, Airport, Heliport};
 use crate::amendment::{AmendRefusal, Amendment};
-use crate::limits::is_allowed_elevation;
-use crate::names::{FieldId, RunwayName};
-use crate::register::Register;
-use crate::runway::Runway;
+use crate::register::{MOST_AIRFIELDS, Register};
+use airfields::{
+    Airfield, Airport, FieldId, Heliport, MOST_RUNWAYS, Runway, RunwayName, is_allowed_elevation,
+};
 use grid_exact::Point;
-
-/// How many runways an airport may have.
-const MOST_RUNWAYS: usize = 16;
-
-/// How many airfields a register may have.
-const MOST_AIRFIELDS: usize = 4_096;
 
 /// Whether the airfield is a heliport.
 fn is_heliport(field: Option<&Airfield>) -> bool
@@ -45,44 +38,42 @@ fn has_near_runways(field: Option<&Airfield>, arp: &Point) -> bool
     }
 }
 
-impl Airport {
-    /// The first rule that a runway breaks which the airport is to have.
-    fn runway_refusal(&self, runway: &Runway) -> Option<AmendRefusal>
-        ensures { result ≡ slice_get (runway_rules (Some (AnAirport self.now)) runway.now) 0 }
-    {
-        if runway.is_precision_on_utility() {
-            return Some(AmendRefusal::PrecisionOnUtility);
-        }
-        if !runway.has_elevations() {
-            return Some(AmendRefusal::ElevationRange);
-        }
-        if !runway.is_within_length() {
-            return Some(AmendRefusal::RunwayLength);
-        }
-        if !runway.has_near_ends(&self.arp) {
-            return Some(AmendRefusal::RunwayFar);
-        }
-        if !self.runways.has(&runway.name) && self.runways.len() >= MOST_RUNWAYS {
-            return Some(AmendRefusal::TooManyRunways);
-        }
-        None
+/// The first rule that a runway breaks which the airport is to have.
+fn airport_runway_refusal(airport: &Airport, runway: &Runway) -> Option<AmendRefusal>
+    ensures { result ≡ first_of (runway_rules (Some (AnAirport airport.now)) runway.now) }
+{
+    if runway.is_precision_on_utility() {
+        return Some(AmendRefusal::PrecisionOnUtility);
     }
+    if !runway.has_elevations() {
+        return Some(AmendRefusal::ElevationRange);
+    }
+    if !runway.is_within_length() {
+        return Some(AmendRefusal::RunwayLength);
+    }
+    if !runway.has_near_ends(&airport.arp) {
+        return Some(AmendRefusal::RunwayFar);
+    }
+    if !airport.runways.has(&runway.name) && airport.runways.len() >= MOST_RUNWAYS {
+        return Some(AmendRefusal::TooManyRunways);
+    }
+    None
 }
 
 /// The first rule that a runway breaks which the airfield is to have.
 fn runway_refusal(field: Option<&Airfield>, runway: &Runway) -> Option<AmendRefusal>
-    ensures { result ≡ slice_get (runway_rules (option_copied field.entry) runway.now) 0 }
+    ensures { result ≡ first_of (runway_rules (option_copied field.entry) runway.now) }
 {
     match field {
         None => Some(AmendRefusal::UnknownAirfield),
         Some(Airfield::Heliport(_)) => Some(AmendRefusal::WrongKind),
-        Some(Airfield::Airport(airport)) => airport.runway_refusal(runway),
+        Some(Airfield::Airport(airport)) => airport_runway_refusal(airport, runway),
     }
 }
 
 /// The first rule that is broken where the airfield is to lose its runway of this name.
 fn drop_runway_refusal(field: Option<&Airfield>, name: &RunwayName) -> Option<AmendRefusal>
-    ensures { result ≡ slice_get (drop_runway_rules (option_copied field.entry) name.now) 0 }
+    ensures { result ≡ first_of (drop_runway_rules (option_copied field.entry) name.now) }
 {
     match field {
         None => Some(AmendRefusal::UnknownAirfield),
@@ -96,17 +87,27 @@ fn drop_runway_refusal(field: Option<&Airfield>, name: &RunwayName) -> Option<Am
     }
 }
 
+/// The first rule that is broken where the airfield is to be taken out.
+fn drop_refusal(field: Option<&Airfield>) -> Option<AmendRefusal>
+    ensures { result ≡ first_of (drop_rules (option_copied field.entry)) }
+{
+    match field {
+        None => Some(AmendRefusal::UnknownAirfield),
+        Some(_) => None,
+    }
+}
+
 impl Register {
     /// Whether there is no room for an airfield whose place `field` would take: its name is new, and the register is full.
     fn is_full_for(&self, field: Option<&Airfield>) -> bool
-        ensures { result ≡ is_none (option_copied field.entry) && nat_le 4096 (length self.now) }
+        ensures { result ≡ is_register_full self.now (option_copied field.entry) }
     {
         field.is_none() && self.len() >= MOST_AIRFIELDS
     }
 
     /// The first rule that an airport of this name breaks.
     fn airport_refusal(&self, id: &FieldId, arp: &Point, elevation: &i64) -> Option<AmendRefusal>
-        ensures { result ≡ slice_get (airport_rules self.now (airfield_at self.now id.now) arp.now elevation.now) 0 }
+        ensures { result ≡ first_of (airport_rules self.now (airfield_at self.now id.now) arp.now elevation.now) }
     {
         let field = self.get(id);
         if is_heliport(field) {
@@ -126,7 +127,7 @@ impl Register {
 
     /// The first rule that the heliport breaks.
     fn heliport_refusal(&self, heliport: &Heliport) -> Option<AmendRefusal>
-        ensures { result ≡ slice_get (heliport_rules self.now (airfield_at self.now heliport.now.id) heliport.now) 0 }
+        ensures { result ≡ first_of (heliport_rules self.now (airfield_at self.now heliport.now.id) heliport.now) }
     {
         let field = self.get(&heliport.id);
         if is_airport(field) {
@@ -158,12 +159,7 @@ impl Register {
             Amendment::PutRunway { id, runway } => runway_refusal(self.get(id), runway),
             Amendment::DropRunway { id, name } => drop_runway_refusal(self.get(id), name),
             Amendment::PutHeliport(heliport) => self.heliport_refusal(heliport),
-            Amendment::Drop(id) => {
-                if self.get(id).is_none() {
-                    return Some(AmendRefusal::UnknownAirfield);
-                }
-                None
-            }
+            Amendment::Drop(id) => drop_refusal(self.get(id)),
         }
     }
 }

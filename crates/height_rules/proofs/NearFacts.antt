@@ -1,40 +1,43 @@
 -- The limit near an airport: its lowest level, and its excess as the tests compute it.
-use Rattle.std.proofs.Common.{◌≡◌, ℕ, ℤ, pos, ◌+ℤ◌, ◌≤ℤ◌, ◌<ℤ◌, ◌<◌, ◌≤◌, ◌^◌, arith, refl, sym, Option, Bool, true, false, cond, inl, inr}
-use Rattle.std.specs.Prelude.{int_le, int_lt, ◌&&◌, IfSome}
+use Rattle.std.proofs.Common.{◌≡◌, ℕ, ℤ, pos, ◌-ℤ◌, ◌*ℤ◌, ◌*◌, ◌≤ℤ◌, ◌<◌, ◌≤◌, ◌^◌, arith, refl, sym, Option, Bool, true, false, cond, inl, inr}
+use Rattle.std.specs.Prelude.{int_lt, IfSome}
 use Rattle.std.specs.Bool.{MatchBool}
 use Rattle.std.specs.Int.{int_max}
 use Rattle.std.specs.List.{list_any}
-use Rattle.std.proofs.lemmas.Bool.{cases_Bool}
-use Rattle.std.proofs.lemmas.Bool.Decides.{nat_tests}
+use Rattle.std.proofs.lemmas.Bool.{cases_Bool, leb-false}
 use Rattle.std.proofs.lemmas.Int.{ints, by_lt_z}
-use Rattle.grid_exact.specs.Root.{signed_square, AtLeastRoot, AboveRoot}
-use Rattle.grid_exact.specs.Excess.{IsExcess, most_excess}
+use Rattle.grid_exact.specs.Root.{signed_square, AtLeastRoot}
+use Rattle.grid_exact.specs.Excess.{IsExcess, is_at_least_root, most_excess}
 use Rattle.grid_exact.proofs.IntLaws.{signed_square_le}
-use Rattle.grid_exact.proofs.ExcessLemmas.{excess_of-is, within_most}
-use Rattle.airport_register.specs.Sites.{Site}
-use Rattle.airport_register.specs.Categories.{is_described}
-use Rattle.airport_register.specs.Runways.{is_long}
-use Rattle.airport_register.specs.declared.airfield.Airport.{Airport}
+use Rattle.grid_exact.proofs.ExcessLemmas.{Tests, excess_of-IsExcess, excess_of-is, within_most}
+use Rattle.grid_exact.proofs.TestFacts.{above_in, above_out, all_true, at_least_in, at_least_out, first_true, le_in, le_out, lt_in, lt_out, second_true, third_true}
+use Rattle.airfields.specs.Sites.{IsSite, Site}
+use Rattle.airfields.specs.Categories.{is_described}
+use Rattle.airfields.specs.Runways.{is_long}
+use Rattle.airfields.specs.declared.airfield.Airport.{Airport}
 use Rattle.height_rules.specs.Heights.{standards_top}
-use Rattle.height_rules.specs.Limits.{IsAtLimit, IsAboveLimit, is_inner, reach_of}
+use Rattle.height_rules.specs.Limits.{IsAtLimit, IsAboveLimit, inner_limit, is_inner, reach_of}
+use Rattle.height_rules.specs.declared.limit.TheConstants.{INNER_RADIUS, NAUTICAL_MILE, RISE_PER_MILE}
+use Rattle.height_rules.specs.declared.near_airport.TheConstants.{OUTER_HUNDREDTHS}
+use Rattle.height_rules.proofs.HeightFacts.{IsTop, standards_is_top}
 use Rattle.height_rules.specs.Laws.{above_reaches}
-use Rattle.height_rules.specs.NearAirport.{IsNear, near_surface, near_excess, is_near, is_at_limit, is_above_limit, is_at_least_root, is_above_root, square_distance, base_of}
+use Rattle.height_rules.specs.NearAirport.{IsNear, near_surface, near_excess, is_near, is_at_limit, is_above_limit, square_distance, base_of}
 
--- beyond three nautical miles
-far_of : (d2 : ℕ) → is_inner d2 ≡ false → 33227092089 < d2
-far_of d2 e = grind (arith, nat_tests)
+-- beyond three nautical miles no level less than 200 feet over the base is at the limit
+far_of : (d2 : ℕ) → is_inner d2 ≡ false → INNER_RADIUS * INNER_RADIUS < d2
+far_of d2 e = leb-false d2 (INNER_RADIUS * INNER_RADIUS) e
 
-floor_beyond : (d2 : ℕ) (base z : ℤ) → 33227092089 < d2 → AtLeastRoot (reach_of base z) (pos 1000) d2 → (base +ℤ pos 2000) ≤ℤ z
+floor_beyond : (d2 : ℕ) (base z : ℤ) → INNER_RADIUS * INNER_RADIUS < d2 → AtLeastRoot (reach_of base z) RISE_PER_MILE d2 → inner_limit base ≤ℤ z
 floor_beyond d2 base z far k =
-    by_lt_z z (base +ℤ pos 2000)
-    (λ l. absurd (let m : signed_square (reach_of base z) ≤ℤ signed_square (pos 182283000) = signed_square_le (reach_of base z) (pos 182283000) (omega (arith, ints)) in
+    by_lt_z z (inner_limit base)
+    (λ l. absurd (let m : signed_square (reach_of base z) ≤ℤ signed_square (RISE_PER_MILE *ℤ pos INNER_RADIUS) = signed_square_le (reach_of base z) (RISE_PER_MILE *ℤ pos INNER_RADIUS) (omega (arith, ints)) in
     omega (arith, ints, k.at_least, m)))
     (λ l. l)
 
 -- no level less than 200 feet over the base is at the limit
-pub floor_of : (d2 : ℕ) (base z : ℤ) → IsAtLimit d2 base z → (base +ℤ pos 2000) ≤ℤ z
+pub floor_of : (d2 : ℕ) (base z : ℤ) → IsAtLimit d2 base z → inner_limit base ≤ℤ z
 floor_of d2 base z =
-    elim (is_inner d2) as (λ b. is_inner d2 ≡ b → MatchBool b ((base +ℤ pos 2000) ≤ℤ z) (AtLeastRoot (reach_of base z) (pos 1000) d2) → (base +ℤ pos 2000) ≤ℤ z) [
+    elim (is_inner d2) as (λ b. is_inner d2 ≡ b → MatchBool b (inner_limit base ≤ℤ z) (AtLeastRoot (reach_of base z) RISE_PER_MILE d2) → inner_limit base ≤ℤ z) [
       | true ↦ λ e k. k
       | false ↦ λ e k. floor_beyond d2 base z (far_of d2 e) k
     ] refl
@@ -43,34 +46,13 @@ floor_of d2 base z =
 pub low_top : (d2 : ℕ) (base z : ℤ) → z ≤ℤ base → IsAboveLimit d2 base z → ⊥
 low_top d2 base z low h = let k = floor_of d2 base z (above_reaches d2 base z h) in omega (arith, ints, k, low)
 
+max_left : (x y : ℤ) → x ≤ℤ int_max x y
+max_left x y = elim (cases_Bool (int_lt y x)) [ inl t ↦ rw t (omega (arith, ints)) | inr t ↦ rw t (grind (arith, ints)) ]
+
 pub max_right : (x y : ℤ) → y ≤ℤ int_max x y
 max_right x y = elim (cases_Bool (int_lt y x)) [ inl t ↦ rw t (grind (arith, ints)) | inr t ↦ rw t (omega (arith, ints)) ]
 
 -- ---- the tests
-at_least_out : (a b : ℤ) (n : ℕ) → AtLeastRoot a b n → is_at_least_root a b n ≡ true
-at_least_out a b n h = grind (arith, ints, h.at_least)
-
-at_least_in : (a b : ℤ) (n : ℕ) → is_at_least_root a b n ≡ true → AtLeastRoot a b n
-at_least_in a b n h = grind (arith, ints)
-
-above_out : (a b : ℤ) (n : ℕ) → AboveRoot a b n → is_above_root a b n ≡ true
-above_out a b n h = grind (arith, ints, h.above)
-
-above_in : (a b : ℤ) (n : ℕ) → is_above_root a b n ≡ true → AboveRoot a b n
-above_in a b n h = grind (arith, ints)
-
-le_out : (a b : ℤ) → a ≤ℤ b → int_le a b ≡ true
-le_out a b h = grind (arith, ints)
-
-le_in : (a b : ℤ) → int_le a b ≡ true → a ≤ℤ b
-le_in a b h = grind (arith, ints)
-
-lt_out : (a b : ℤ) → a <ℤ b → int_lt a b ≡ true
-lt_out a b h = grind (arith, ints)
-
-lt_in : (a b : ℤ) → int_lt a b ≡ true → a <ℤ b
-lt_in a b h = grind (arith, ints)
-
 pick_out : (b : Bool) (P Q : Type 0) (p q : Bool) → (P → p ≡ true) → (Q → q ≡ true) → MatchBool b P Q → cond b p q ≡ true
 pick_out true P Q p q f g h = f h
 pick_out false P Q p q f g h = g h
@@ -81,56 +63,48 @@ pick_in false P Q p q f g h = g h
 
 limit_out : (d2 : ℕ) (base z : ℤ) → IsAtLimit d2 base z → is_at_limit d2 base z ≡ true
 unfolding is_at_limit
-limit_out d2 base z h =
-    pick_out (is_inner d2) ((base +ℤ pos 2000) ≤ℤ z) (AtLeastRoot (reach_of base z) (pos 1000) d2) (int_le (base +ℤ pos 2000) z) (is_at_least_root (reach_of base z) (pos 1000) d2)
-    (le_out (base +ℤ pos 2000) z) (at_least_out (reach_of base z) (pos 1000) d2) h
+limit_out d2 base z = pick_out (is_inner d2) _ _ _ _ (le_out (inner_limit base) z) (at_least_out (reach_of base z) RISE_PER_MILE d2)
 
 limit_in : (d2 : ℕ) (base z : ℤ) → is_at_limit d2 base z ≡ true → IsAtLimit d2 base z
 unfolding is_at_limit
-limit_in d2 base z h =
-    pick_in (is_inner d2) ((base +ℤ pos 2000) ≤ℤ z) (AtLeastRoot (reach_of base z) (pos 1000) d2) (int_le (base +ℤ pos 2000) z) (is_at_least_root (reach_of base z) (pos 1000) d2)
-    (le_in (base +ℤ pos 2000) z) (at_least_in (reach_of base z) (pos 1000) d2) h
+limit_in d2 base z = pick_in (is_inner d2) _ _ _ _ (le_in (inner_limit base) z) (at_least_in (reach_of base z) RISE_PER_MILE d2)
 
 over_out : (d2 : ℕ) (base z : ℤ) → IsAboveLimit d2 base z → is_above_limit d2 base z ≡ true
 unfolding is_above_limit
-over_out d2 base z h =
-    pick_out (is_inner d2) ((base +ℤ pos 2000) <ℤ z) (AboveRoot (reach_of base z) (pos 1000) d2) (int_lt (base +ℤ pos 2000) z) (is_above_root (reach_of base z) (pos 1000) d2)
-    (lt_out (base +ℤ pos 2000) z) (above_out (reach_of base z) (pos 1000) d2) h
+over_out d2 base z = pick_out (is_inner d2) _ _ _ _ (lt_out (inner_limit base) z) (above_out (reach_of base z) RISE_PER_MILE d2)
 
 over_in : (d2 : ℕ) (base z : ℤ) → is_above_limit d2 base z ≡ true → IsAboveLimit d2 base z
 unfolding is_above_limit
-over_in d2 base z h =
-    pick_in (is_inner d2) ((base +ℤ pos 2000) <ℤ z) (AboveRoot (reach_of base z) (pos 1000) d2) (int_lt (base +ℤ pos 2000) z) (is_above_root (reach_of base z) (pos 1000) d2)
-    (lt_in (base +ℤ pos 2000) z) (above_in (reach_of base z) (pos 1000) d2) h
+over_in d2 base z = pick_in (is_inner d2) _ _ _ _ (lt_in (inner_limit base) z) (above_in (reach_of base z) RISE_PER_MILE d2)
 
-all_true : (a b c : Bool) → a ≡ true → b ≡ true → c ≡ true → a && b && c ≡ true
-all_true a b c x y z = rw (x, y, z) refl
-
-first_true : (a b c : Bool) → a && b && c ≡ true → a ≡ true
-first_true true b c h = refl
-first_true false b c h = h
-
-second_true : (a b c : Bool) → a && b && c ≡ true → b ≡ true
-second_true true true c h = refl
-second_true true false c h = h
-second_true false b c h = absurd (cc)
-
-third_true : (a b c : Bool) → a && b && c ≡ true → c ≡ true
-third_true true true c h = h
-third_true true false c h = absurd (cc)
-third_true false b c h = absurd (cc)
+-- whether the site is near enough
+abbrev is_within : Airport → Site → Bool
+is_within a s = is_at_least_root (OUTER_HUNDREDTHS *ℤ NAUTICAL_MILE) (pos 100) (square_distance a s)
 
 near_out : (a : Airport) (s : Site) → IsNear a s → is_near a s ≡ true
 unfolding is_near
-near_out a s h = all_true (is_at_least_root (pos 36395839) (pos 100) (square_distance a s)) (is_described a.category) (list_any is_long a.runways) (at_least_out _ _ _ h.within) h.described h.long
+near_out a s h = all_true (is_within a s) (is_described a.category) (list_any is_long a.runways) (at_least_out _ _ _ h.within) h.described h.long
 
 near_in : (a : Airport) (s : Site) → is_near a s ≡ true → IsNear a s
 unfolding is_near
 near_in a s h = record {
-  within = at_least_in (pos 36395839) (pos 100) (square_distance a s) (first_true _ (is_described a.category) (list_any is_long a.runways) h);
-  described = second_true (is_at_least_root (pos 36395839) (pos 100) (square_distance a s)) _ (list_any is_long a.runways) h;
-  long = third_true (is_at_least_root (pos 36395839) (pos 100) (square_distance a s)) (is_described a.category) _ h;
+  within = at_least_in _ _ _ (first_true (is_within a s) (is_described a.category) (list_any is_long a.runways) h);
+  described = second_true (is_within a s) (is_described a.category) (list_any is_long a.runways) h;
+  long = third_true (is_within a s) (is_described a.category) (list_any is_long a.runways) h;
 }
+
+near_tests : (a : Airport) (s : Site) → Tests (near_surface a s) (is_near a s) (is_above_limit (square_distance a s) (base_of a s)) (is_at_limit (square_distance a s) (base_of a s))
+near_tests a s =
+    let d2 = square_distance a s in
+    let base = base_of a s in
+    record {
+      covers_out = near_out a s;
+      covers_in = near_in a s;
+      above_out = over_out d2 base;
+      above_in = over_in d2 base;
+      at_out = limit_out d2 base;
+      at_in = limit_in d2 base;
+    }
 
 -- the excess is what the tests compute
 pub near_listed : (a : Airport) (s : Site) (r : Option ℕ) → IfSome r (λ e. e ≤ 2 ^ 26) → IsExcess (near_surface a s) (standards_top s) r → r ≡ near_excess a s
@@ -138,13 +112,18 @@ unfolding near_excess
 near_listed a s r size h =
     let d2 = square_distance a s in
     let base = base_of a s in
-    sym (excess_of-is (near_surface a s) (is_near a s) (is_above_limit d2 base) (is_at_limit d2 base) most_excess (standards_top s) r
-    (record {
-      covers_out = near_out a s;
-      covers_in = near_in a s;
-      above_out = over_out d2 base;
-      above_in = over_in d2 base;
-      at_out = limit_out d2 base;
-      at_in = limit_in d2 base;
-    })
-    (within_most r size) h)
+    sym (excess_of-is (near_surface a s) (is_near a s) (is_above_limit d2 base) (is_at_limit d2 base) most_excess (standards_top s) r (near_tests a s) (within_most r size) h)
+
+low_enough : (s : Site) (base top z : ℤ) → IsSite s → IsTop s top → s.terrain ≤ℤ base → inner_limit base ≤ℤ z → (top -ℤ pos most_excess) ≤ℤ z
+unfolding most_excess
+low_enough s base top z h t g l = omega (arith, ints, h.terrain_least, t.high, g, l)
+
+-- and what they compute is the excess
+pub near_excess_is : (a : Airport) (s : Site) → IsSite s → IsExcess (near_surface a s) (standards_top s) (near_excess a s)
+unfolding near_excess
+near_excess_is a s h =
+    let d2 = square_distance a s in
+    let base = base_of a s in
+    let top = standards_top s in
+    excess_of-IsExcess (near_surface a s) (is_near a s) (is_above_limit d2 base) (is_at_limit d2 base) most_excess top (near_tests a s) (above_reaches d2 base top)
+    (λ p q z r. low_enough s base top z h (standards_is_top s h) (max_left s.terrain a.elevation) (floor_of d2 base z r))

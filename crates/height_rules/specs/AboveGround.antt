@@ -1,12 +1,13 @@
 -- Heights above the ground at the site: 77.9(a) and 77.17(a)(1).
-use Rattle.std.specs.Prelude.{ℕ, ℤ, pos, ◌+ℤ◌, Option, true, ⊤}
+use Rattle.std.specs.Prelude.{ℕ, ℤ, ◌+ℤ◌, Option, true, ⊤}
 use Rattle.grid_exact.specs.Excess.{Surface, flat_surface, flat_excess_of}
-use Rattle.airport_register.specs.Sites.{Site}
+use Rattle.airfields.specs.Sites.{Site}
 use Rattle.height_rules.specs.Heights.{notice_top, standards_top}
+use Rattle.height_rules.specs.declared.above_ground.TheConstants.{NOTICE_HEIGHT, OBSTRUCTION_HEIGHT}
 
 -- 77.9(a): notice is due of what is more than 200 feet above the ground
 abbrev pub notice_limit : Site → ℤ
-notice_limit s = s.terrain +ℤ pos 2000
+notice_limit s = s.terrain +ℤ NOTICE_HEIGHT
 
 abbrev pub notice_surface : Site → Surface
 notice_surface s = flat_surface ⊤ (notice_limit s)
@@ -16,7 +17,7 @@ notice_excess s = flat_excess_of true (notice_limit s) (notice_top s)
 
 -- 77.17(a)(1): an obstruction is what is more than 499 feet above the ground
 abbrev pub height_limit : Site → ℤ
-height_limit s = s.terrain +ℤ pos 4990
+height_limit s = s.terrain +ℤ OBSTRUCTION_HEIGHT
 
 abbrev pub height_surface : Site → Surface
 height_surface s = flat_surface ⊤ (height_limit s)

@@ -1,9 +1,10 @@
 -- The heights of a structure above the ground that the rules look at, and its tops.
 use Rattle.std.specs.Prelude.{ℤ, pos, ◌+ℤ◌, if◌then◌else◌}
 use Rattle.std.specs.Int.{int_max}
-use Rattle.airport_register.specs.Sites.{Site}
-use Rattle.airport_register.specs.declared.structure.StructureKind.TheVariants as kinds
-use Rattle.airport_register.specs.declared.structure.StructureKind.{StructureKind}
+use Rattle.airfields.specs.Sites.{Site}
+use Rattle.airfields.specs.declared.structure.StructureKind.TheVariants as kinds
+use Rattle.airfields.specs.declared.structure.StructureKind.{StructureKind}
+use Rattle.height_rules.specs.declared.heights.TheConstants.{INTERSTATE_RAISED, ROAD_RAISED, PRIVATE_RAISED, RAIL_RAISED}
 
 -- how far a traverse way is raised for the traffic on it (77.9(c)): 17 feet over an Interstate highway, 15 over another public
 -- roadway, the greater of 10 feet and the highest mobile object over a private road, 23 over a railroad, and the highest mobile
@@ -11,10 +12,10 @@ use Rattle.airport_register.specs.declared.structure.StructureKind.{StructureKin
 abbrev pub raised_by : StructureKind → ℤ → ℤ
 raised_by kinds.Object mobile = pos 0
 raised_by kinds.Antenna mobile = pos 0
-raised_by kinds.Interstate mobile = pos 170
-raised_by kinds.Road mobile = pos 150
-raised_by kinds.Private mobile = int_max (pos 100) mobile
-raised_by kinds.Rail mobile = pos 230
+raised_by kinds.Interstate mobile = INTERSTATE_RAISED
+raised_by kinds.Road mobile = ROAD_RAISED
+raised_by kinds.Private mobile = int_max PRIVATE_RAISED mobile
+raised_by kinds.Rail mobile = RAIL_RAISED
 raised_by kinds.Water mobile = mobile
 
 abbrev pub allowance_of : Site → ℤ

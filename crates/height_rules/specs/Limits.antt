@@ -1,24 +1,32 @@
 -- The limit of 77.17(a)(2) over one point, by the square d2 of its distance from the airport's reference point.
-use Rattle.std.specs.Prelude.{ℕ, ℤ, pos, neg_ℤ, ◌+ℤ◌, ◌-ℤ◌, ◌*ℤ◌, ◌≤ℤ◌, ◌<ℤ◌, ◌*◌, Bool, nat_le}
+use Rattle.std.specs.Prelude.{ℕ, ℤ, pos, ◌+ℤ◌, ◌-ℤ◌, ◌*ℤ◌, ◌≤ℤ◌, ◌<ℤ◌, ◌*◌, Bool, nat_le}
 use Rattle.std.specs.Bool.{MatchBool}
 use Rattle.grid_exact.specs.Root.{AtLeastRoot, AboveRoot}
+use Rattle.airfields.specs.declared.limits.TheConstants.{ELEVATION_LEAST}
+use Rattle.height_rules.specs.declared.heights.TheConstants.{TOP_MOST}
+use Rattle.height_rules.specs.declared.limit.TheConstants.{INNER_HEIGHT, INNER_RADIUS, NAUTICAL_MILE, RISE_PER_MILE}
 
--- the level z over the base, brought to 1,000 times the distance at which it is at the limit beyond three nautical miles:
--- 100 feet more for each further nautical mile
-abbrev pub reach_of : ℤ → ℤ → ℤ
-reach_of base z = pos 60761 *ℤ (z -ℤ (base +ℤ pos 2000)) +ℤ pos 182283000
-
--- within three nautical miles, 182,283, the limit is 200 feet over the base
+-- within three nautical miles the limit is 200 feet over the base
 abbrev pub is_inner : ℕ → Bool
-is_inner d2 = nat_le d2 (182283 * 182283)
+is_inner d2 = nat_le d2 (INNER_RADIUS * INNER_RADIUS)
+
+abbrev pub inner_limit : ℤ → ℤ
+inner_limit base = base +ℤ INNER_HEIGHT
+
+-- beyond them it is 100 feet more for each further nautical mile: the level z over the base, brought to the distance at which it is
+-- at the limit, times those 100 feet
+abbrev pub reach_of : ℤ → ℤ → ℤ
+reach_of base z = NAUTICAL_MILE *ℤ (z -ℤ inner_limit base) +ℤ RISE_PER_MILE *ℤ pos INNER_RADIUS
 
 abbrev pub IsAtLimit : ℕ → ℤ → ℤ → Type 0
-IsAtLimit d2 base z = MatchBool (is_inner d2) ((base +ℤ pos 2000) ≤ℤ z) (AtLeastRoot (reach_of base z) (pos 1000) d2)
+IsAtLimit d2 base z = MatchBool (is_inner d2) (inner_limit base ≤ℤ z) (AtLeastRoot (reach_of base z) RISE_PER_MILE d2)
 
 abbrev pub IsAboveLimit : ℕ → ℤ → ℤ → Type 0
-IsAboveLimit d2 base z = MatchBool (is_inner d2) ((base +ℤ pos 2000) <ℤ z) (AboveRoot (reach_of base z) (pos 1000) d2)
+IsAboveLimit d2 base z = MatchBool (is_inner d2) (inner_limit base <ℤ z) (AboveRoot (reach_of base z) RISE_PER_MILE d2)
 
--- a base below some top
+-- ---- for proofs alone
+
+-- a base that some top is above
 pub record IsLow (base : ℤ) : Type 0 where
-  pub least : neg_ℤ (pos 20000) ≤ℤ base
-  pub most : base ≤ℤ pos 302000
+  pub least : ELEVATION_LEAST ≤ℤ base
+  pub most : base ≤ℤ TOP_MOST

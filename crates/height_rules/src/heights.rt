@@ -4,20 +4,36 @@ ghost use Rattle.std.specs.Prelude.{◌≡◌, ◌≤ℤ◌, pos};
 ghost use Rattle.grid_exact.specs.Level.{IsLevel};
 ghost use Rattle.height_rules.specs.Heights.{allowance_of, notice_top, standards_top};
 
-use airport_register::{Filing, StructureKind};
+use airfields::{ELEVATION_MOST, Filing, HEIGHT_LIMIT, MOBILE_LIMIT, StructureKind};
+
+/// How far an Interstate highway is raised for the traffic on it, in tenths of a foot: 17 feet, 77.9(c).
+pub const INTERSTATE_RAISED: i64 = 170;
+
+/// How far another public roadway is raised, in tenths of a foot: 15 feet, 77.9(c).
+pub const ROAD_RAISED: i64 = 150;
+
+/// How far a private road is raised at least, in tenths of a foot: 10 feet, 77.9(c).
+pub const PRIVATE_RAISED: i64 = 100;
+
+/// How far a railroad is raised, in tenths of a foot: 23 feet, 77.9(c).
+pub const RAIL_RAISED: i64 = 230;
+
+/// No top is higher, in tenths of a foot: the highest ground, the greatest height, and the greatest allowance, which is that for
+/// the greatest mobile object.
+pub const TOP_MOST: i64 = ELEVATION_MOST + HEIGHT_LIMIT + MOBILE_LIMIT;
 
 /// How far a traverse way is raised for the traffic on it, in tenths of a foot: 77.9(c).
 pub fn allowance(filing: &Filing) -> i64
     ensures value { result ≡ allowance_of filing.now }
     ensures low { pos 0 ≤ℤ result }
-    ensures high { result ≤ℤ pos 1000 }
+    ensures high { result ≤ℤ MOBILE_LIMIT }
 {
     match filing.kind {
         StructureKind::Object | StructureKind::Antenna => 0,
-        StructureKind::Interstate => 170,
-        StructureKind::Road => 150,
-        StructureKind::Private => filing.mobile.max(100),
-        StructureKind::Rail => 230,
+        StructureKind::Interstate => INTERSTATE_RAISED,
+        StructureKind::Road => ROAD_RAISED,
+        StructureKind::Private => filing.mobile.max(PRIVATE_RAISED),
+        StructureKind::Rail => RAIL_RAISED,
         StructureKind::Water => filing.mobile,
     }
 }
@@ -27,7 +43,7 @@ pub fn top_for_notice(filing: &Filing) -> i64
     ensures value { result ≡ notice_top filing.now }
     ensures level { IsLevel result }
     ensures low { filing.now.terrain ≤ℤ result }
-    ensures high { result ≤ℤ pos 301000 }
+    ensures high { result ≤ℤ TOP_MOST }
 {
     filing.ground + (filing.height + allowance(filing))
 }
@@ -38,7 +54,7 @@ pub fn top_for_standards(filing: &Filing) -> i64
     ensures value { result ≡ standards_top filing.now }
     ensures level { IsLevel result }
     ensures low { filing.now.terrain ≤ℤ result }
-    ensures high { result ≤ℤ pos 301000 }
+    ensures high { result ≤ℤ TOP_MOST }
 {
     if filing.flags.controlled {
         return filing.ground + filing.height;

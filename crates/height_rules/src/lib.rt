@@ -4,12 +4,18 @@
 
 mod above_ground;
 mod heights;
+mod laws;
 mod limit;
 mod near_airport;
 
-pub use above_ground::{excess_200, excess_499};
-pub use heights::{allowance, top_for_notice, top_for_standards};
-pub use near_airport::excess_near_airport;
+pub use above_ground::{NOTICE_HEIGHT, OBSTRUCTION_HEIGHT, excess_200, excess_499};
+pub use heights::{
+    INTERSTATE_RAISED, PRIVATE_RAISED, RAIL_RAISED, ROAD_RAISED, TOP_MOST, allowance,
+    top_for_notice, top_for_standards,
+};
+pub use laws::{height_excess_is, near_excess_is, notice_excess_is};
+pub use limit::{INNER_HEIGHT, INNER_RADIUS, NAUTICAL_MILE, RISE_PER_MILE};
+pub use near_airport::{OUTER_HUNDREDTHS, excess_near_airport};
 
 #[cfg(test)]
 mod tests;

@@ -6,8 +6,17 @@ ghost use Rattle.height_rules.specs.Limits.{IsLow, IsAtLimit, IsAboveLimit, is_i
 
 use grid_exact::{Rising, Sloping, is_above_root, is_at_least_root};
 
-/// The square of three nautical miles.
-const INNER_SQUARE: u128 = 182_283 * 182_283;
+/// A nautical mile, in tenths of a foot.
+pub const NAUTICAL_MILE: i64 = 60_761;
+
+/// Within this distance of the airport's reference point the limit is level, in tenths of a foot: 3 nautical miles, 77.17(a)(2).
+pub const INNER_RADIUS: u64 = 3 * NAUTICAL_MILE as u64;
+
+/// How far the limit is there above the higher of ground and airport, in tenths of a foot: 200 feet, 77.17(a)(2).
+pub const INNER_HEIGHT: i64 = 2_000;
+
+/// How much higher it is for each further nautical mile, in tenths of a foot: 100 feet, 77.17(a)(2).
+pub const RISE_PER_MILE: i64 = 1_000;
 
 /// The limit of 77.17(a)(2) over a point at this square of the distance from the airport's reference point.
 #[derive(Clone, Copy)]
@@ -38,23 +47,23 @@ impl NearLimit {
         ensures level { IsLevel result }
         ensures lowest { (z : ℤ) → IsAtLimit self.now.square_distance self.now.base z → result ≤ℤ z }
     {
-        self.base + 2000
+        self.base + INNER_HEIGHT
     }
 
     /// Whether the point is within three nautical miles.
     fn is_inside(&self) -> bool
         ensures { result ≡ is_inner self.now.square_distance }
     {
-        self.square_distance <= INNER_SQUARE
+        self.square_distance <= (INNER_RADIUS * INNER_RADIUS) as u128
     }
 
-    /// The level over the base, brought to 1,000 times a distance.
+    /// The level over the base, brought to a distance, times the rise for each nautical mile.
     fn reach(&self, level: i64) -> i64
         requires { IsLevel level }
         ensures value { result ≡ reach_of self.now.base level }
         ensures size { unsigned_abs result < 2 ^ 62 }
     {
-        60_761 * (level - (self.base + 2000)) + 182_283_000
+        NAUTICAL_MILE * (level - (self.base + INNER_HEIGHT)) + RISE_PER_MILE * INNER_RADIUS as i64
     }
 }
 
@@ -65,9 +74,13 @@ impl Rising for NearLimit {
 
     fn is_reached(&self, level: i64) -> bool {
         if self.is_inside() {
-            return self.base + 2000 <= level;
+            return self.base + INNER_HEIGHT <= level;
         }
-        is_at_least_root(self.reach(level) as i128, 1000, self.square_distance)
+        is_at_least_root(
+            self.reach(level) as i128,
+            RISE_PER_MILE as i128,
+            self.square_distance,
+        )
     }
 
     ghost rises = { λ l y z h k. limit_rises l.square_distance l.base y z h k };
@@ -80,9 +93,13 @@ impl Sloping for NearLimit {
 
     fn is_exceeded(&self, level: i64) -> bool {
         if self.is_inside() {
-            return self.base + 2000 < level;
+            return self.base + INNER_HEIGHT < level;
         }
-        is_above_root(self.reach(level) as i128, 1000, self.square_distance)
+        is_above_root(
+            self.reach(level) as i128,
+            RISE_PER_MILE as i128,
+            self.square_distance,
+        )
     }
 
     ghost exceeds_reaches = { λ l z h. above_reaches l.square_distance l.base z h };

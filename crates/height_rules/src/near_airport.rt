@@ -8,10 +8,13 @@ ghost use Rattle.height_rules.specs.Heights.{standards_top};
 ghost use Rattle.height_rules.specs.NearAirport.{IsNear, near_surface, near_excess, square_distance as square_distance_of, base_of};
 ghost use Rattle.height_rules.specs.Limits.{IsLow};
 
-use crate::heights::top_for_standards;
-use crate::limit::NearLimit;
-use airport_register::{Airport, Filing};
+use crate::heights::{TOP_MOST, top_for_standards};
+use crate::limit::{NAUTICAL_MILE, NearLimit};
+use airfields::{Airport, Filing};
 use grid_exact::{Vector, excess, is_at_least_root};
+
+/// The limit goes out to 5.99 nautical miles, 77.17(a)(2): so many hundredths of one.
+pub const OUTER_HUNDREDTHS: i64 = 599;
 
 /// The square of the distance between the structure and the airport's reference point.
 fn square_distance(airport: &Airport, filing: &Filing) -> u128
@@ -25,7 +28,8 @@ fn square_distance(airport: &Airport, filing: &Filing) -> u128
 fn is_near(airport: &Airport, filing: &Filing) -> bool
     ensures { IsTrue result ↔ IsNear airport.now filing.now }
 {
-    if !is_at_least_root(36_395_839, 100, square_distance(airport, filing)) {
+    let outer = OUTER_HUNDREDTHS * NAUTICAL_MILE;
+    if !is_at_least_root(outer as i128, 100, square_distance(airport, filing)) {
         return false;
     }
     if !airport.category.described() {
@@ -36,7 +40,7 @@ fn is_near(airport: &Airport, filing: &Filing) -> bool
 
 /// The higher of the ground at the site and the airport.
 fn base(airport: &Airport, filing: &Filing) -> i64
-    requires { airport.now.elevation <ℤ pos 301000 }
+    requires { airport.now.elevation <ℤ TOP_MOST }
     ensures value { result ≡ base_of airport.now filing.now }
     ensures low { IsLow result }
 {
@@ -45,14 +49,15 @@ fn base(airport: &Airport, filing: &Filing) -> i64
 
 /// The limit over the site of the structure.
 fn limit(airport: &Airport, filing: &Filing) -> NearLimit
-    requires { airport.now.elevation <ℤ pos 301000 }
+    requires { airport.now.elevation <ℤ TOP_MOST }
     ensures base { result.base ≡ base_of airport.now filing.now }
     ensures square_distance { result.square_distance ≡ square_distance_of airport.now filing.now }
 {
     NearLimit::new(base(airport, filing), square_distance(airport, filing))
 }
 
-/// How far the structure is above the limit, by a search of its level.
+/// How far the structure is above the limit, by a search of its level. An airport as high as the top has its limit above the top;
+/// it is left out first, since nothing else here bounds its elevation.
 fn excess_over_limit(airport: &Airport, filing: &Filing) -> Option<u32>
     ensures exact { IsExcess (near_surface airport.now filing.now) (standards_top filing.now) result }
     ensures size { IfSome result (λ e. e ≤ 2 ^ 26) }

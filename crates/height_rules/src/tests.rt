@@ -1,8 +1,8 @@
 //! Worked values, by exact fractions.
 
 use crate::{allowance, excess_200, excess_499, excess_near_airport};
-use airport_register::{
-    Airfield, Amendment, Category, FieldId, Filing, Flags, Register, Runway, RunwayEnd, RunwayName,
+use airfields::{
+    Airport, Category, FieldId, Filing, Flags, Runway, RunwayEnd, RunwayName, Runways,
     StructureKind,
 };
 use grid_exact::Point;
@@ -24,10 +24,6 @@ const CONTROLLED: Flags = Flags {
     ..NO_FLAGS
 };
 
-/// A table asks for what is not there.
-#[derive(Clone, Copy, Debug)]
-struct BadTable;
-
 fn object(x: i64, y: i64, ground: i64, height: i64) -> Result<Filing, Fail> {
     let at = Point::new(x, y)?;
     Ok(Filing::new(at, ground, height, StructureKind::Object, 0, NO_FLAGS, None)?)
@@ -48,41 +44,22 @@ fn end(x: i64) -> Result<RunwayEnd, Fail> {
     })
 }
 
-fn runway(from: i64, to: i64) -> Result<Runway, Fail> {
-    let name = RunwayName::new(b"09/27")?;
-    Ok(Runway {
-        name,
+/// An airport of this category at the origin, with a long runway.
+fn airport(alloc: Global, category: Category) -> Result<Airport, Fail> {
+    let runway = Runway {
+        name: RunwayName::new(b"09/27")?,
         utility: false,
         hard: true,
-        end1: end(from)?,
-        end2: end(to)?,
-    })
-}
-
-/// A register of one airport of this category with a long runway.
-fn register(alloc: Global, category: Category) -> Result<Register, Fail> {
-    let id = FieldId::new(b"AAA")?;
-    let arp = Point::new(0, 0)?;
-    let runway = runway(-50_000, 50_000)?;
-    let mut register = Register::empty(alloc);
-    let put = Amendment::PutAirport {
-        id,
-        category,
-        arp,
-        elevation: 1000,
+        end1: end(-50_000)?,
+        end2: end(50_000)?,
     };
-    register.amend(alloc, &put)?;
-    register.amend(alloc, &Amendment::PutRunway { id, runway })?;
-    Ok(register)
-}
-
-/// How far a structure is above the limit near the airport of the register.
-fn near(register: &Register, filing: &Filing) -> Result<Option<u32>, Fail> {
-    let id = FieldId::new(b"AAA")?;
-    match register.get(&id) {
-        Some(Airfield::Airport(airport)) => Ok(excess_near_airport(airport, filing)),
-        _ => Err(BadTable)?,
-    }
+    Ok(Airport {
+        id: FieldId::new(b"AAA")?,
+        category,
+        arp: Point::new(0, 0)?,
+        elevation: 1000,
+        runways: Runways::empty(alloc).with(alloc, &runway)?,
+    })
 }
 
 #[test]
@@ -128,7 +105,7 @@ fn traverse_ways(rt: HostRuntime) -> Result<(), Fail> {
 
 #[test]
 fn traverse_ways_near_an_airport(rt: HostRuntime) -> Result<(), Fail> {
-    let airport = register(rt.alloc(), Category::PublicUse)?;
+    let airport = airport(rt.alloc(), Category::PublicUse)?;
     for (kind, height, mobile, excess) in [
         (StructureKind::Interstate, 1831, 0, 1),
         (StructureKind::Road, 2000, 0, 150),
@@ -137,16 +114,24 @@ fn traverse_ways_near_an_airport(rt: HostRuntime) -> Result<(), Fail> {
         (StructureKind::Water, 1701, 300, 1),
     ] {
         let open = way(kind, height, mobile, NO_FLAGS)?;
-        assert_eq!(rt; near(&airport, &open)?, Some(excess), "{kind:?}");
+        assert_eq!(rt;
+            excess_near_airport(&airport, &open),
+            Some(excess),
+            "{kind:?}"
+        );
         let controlled = way(kind, height, mobile, CONTROLLED)?;
-        assert_eq!(rt; near(&airport, &controlled)?, None, "{kind:?}");
+        assert_eq!(rt;
+            excess_near_airport(&airport, &controlled),
+            None,
+            "{kind:?}"
+        );
     }
     Ok(())
 }
 
 #[test]
 fn heights_near_an_airport(rt: HostRuntime) -> Result<(), Fail> {
-    let airport = register(rt.alloc(), Category::PublicUse)?;
+    let airport = airport(rt.alloc(), Category::PublicUse)?;
     // Inside 3 nautical miles, at their end and a tenth past it; at 5.99 and a tenth past it; on higher and on lower ground.
     for (x, y, ground, height, excess) in [
         (128_893, 128_893, 1000, 2001, Some(1)),
@@ -166,7 +151,11 @@ fn heights_near_an_airport(rt: HostRuntime) -> Result<(), Fail> {
         (0, 0, 1500, 2000, None),
     ] {
         let filing = object(x, y, ground, height)?;
-        assert_eq!(rt; near(&airport, &filing)?, excess, "at {x}, {y}");
+        assert_eq!(rt;
+            excess_near_airport(&airport, &filing),
+            excess,
+            "at {x}, {y}"
+        );
     }
     Ok(())
 }
@@ -183,8 +172,12 @@ fn categories_of_airports(rt: HostRuntime) -> Result<(), Fail> {
         (Category::Procedure, Some(1)),
         (Category::OtherPrivate, None),
     ] {
-        let airport = register(rt.alloc(), category)?;
-        assert_eq!(rt; near(&airport, &filing)?, excess, "{category:?}");
+        let airport = airport(rt.alloc(), category)?;
+        assert_eq!(rt;
+            excess_near_airport(&airport, &filing),
+            excess,
+            "{category:?}"
+        );
     }
     Ok(())
 }

@@ -1,6 +1,6 @@
 -- A point at most d from a rectangle, by whole numbers: near its corner it is as near in both directions.
 use Rattle.std.proofs.Common.{◌≡◌, inl, inr, ℕ, ◌+◌, ◌-◌, ◌*◌, ◌<◌, ◌≤◌, ℤ, pos, ◌<ℤ◌, unsigned_abs, true, false, arith, refl}
-use Rattle.std.specs.Bool.{MatchBool}
+use Rattle.std.specs.Prelude.{if◌then◌else◌}
 use Rattle.std.proofs.Math.Nat.{mul-le-mul, mul-le-mul_right}
 use Rattle.std.proofs.lemmas.Bool.{cases_lt}
 use Rattle.std.proofs.lemmas.Int.{ints, by_lt_z}
@@ -9,6 +9,8 @@ use Rattle.grid_exact.proofs.IntLaws.{signed_square_lt}
 use Rattle.grid_exact.proofs.RootSums.{le_from_squares, out_pp}
 use Rattle.grid_exact.proofs.TestFacts.{at_most_in}
 use Rattle.heliport_surfaces.specs.Notices.{Gap, IsClose, IsWithin, IsNearer, corner, is_in_line}
+use Rattle.heliport_surfaces.specs.declared.rules.TheConstants.{NOTICE_RANGE}
+use Rattle.airfields.specs.declared.limits.TheConstants.{HELIPORT_AXIS_MOST, HELIPORT_WIDTH_MOST}
 
 -- 2*t*v <= t*t + v*v
 two_products : (t v : ℕ) → 2 * (t * v) ≤ t * t + v * v
@@ -64,7 +66,8 @@ in_line_close g d e h =
 
 pub IsWithin-IsClose : (g : Gap) (d : ℕ) → IsWithin g d → IsClose g d
 IsWithin-IsClose g d =
-    elim (is_in_line g) as (λ b. is_in_line g ≡ b → MatchBool b (AtMostRoot (pos g.beyond) (pos d) g.square) (AtMostRoot (corner g d) (pos (4 * g.aside * g.width)) g.square) → IsClose g d) [
+    let edge = pos (4 * g.aside * g.width) in
+    elim (is_in_line g) as (λ b. is_in_line g ≡ b → AtMostRoot (if b then pos g.beyond else corner g d) (if b then pos d else edge) g.square → IsClose g d) [
       | true ↦ λ e h. in_line_close g d e h
       | false ↦ λ e h. corner_close g d h
     ] refl
@@ -81,17 +84,14 @@ pub IsWithin_below : (g : Gap) (d e : ℕ) → 0 < g.square → d < e → IsWith
 IsWithin_below g d e p l =
     let edge = pos (4 * g.aside * g.width) in
     let less = squares_less d e g.square p l in
-    elim (is_in_line g) as (λ b. MatchBool b (AtMostRoot (pos g.beyond) (pos d) g.square) (AtMostRoot (corner g d) edge g.square) → MatchBool b (BelowRoot (pos g.beyond) (pos e) g.square) (BelowRoot (corner g e) edge g.square)) [
+    elim (is_in_line g) as (λ b. AtMostRoot (if b then pos g.beyond else corner g d) (if b then pos d else edge) g.square → BelowRoot (if b then pos g.beyond else corner g e) (if b then pos e else edge) g.square) [
       | true ↦ λ k. record { below = omega (arith, ints, k.at_most, less) }
       | false ↦ λ k. at_most_less (corner g d) (corner g e) edge g.square (omega (arith, ints, less)) k
     ]
 
--- sizes of what is close
-pub close_beyond : (g : Gap) → g.square ≤ 10000 * 10000 → IsClose g 50000 → g.beyond ≤ 500000000
-close_beyond g h c = le_from_squares g.beyond 500000000 (omega (arith, c.ends))
-
-pub close_aside : (g : Gap) → g.square ≤ 10000 * 10000 → g.width ≤ 5000 → IsClose g 50000 → g.aside ≤ 525000000
+-- how far to a side what is close can be, times the length of the axis
+pub close_aside : (g : Gap) → g.square ≤ HELIPORT_AXIS_MOST * HELIPORT_AXIS_MOST → g.width ≤ unsigned_abs HELIPORT_WIDTH_MOST → IsClose g NOTICE_RANGE → g.aside ≤ 525000000
 close_aside g h w c =
-    let l : 100000 + g.width ≤ 105000 = omega arith in
-    let m : (100000 + g.width) * (100000 + g.width) * g.square ≤ 105000 * 105000 * (10000 * 10000) = mul-le-mul (mul-le-mul l l) h in
+    let l : 2 * NOTICE_RANGE + g.width ≤ 105000 = omega arith in
+    let m : (2 * NOTICE_RANGE + g.width) * (2 * NOTICE_RANGE + g.width) * g.square ≤ 105000 * 105000 * (HELIPORT_AXIS_MOST * HELIPORT_AXIS_MOST) = mul-le-mul (mul-le-mul l l) h in
     le_from_squares g.aside 525000000 (omega (arith, c.sides, m))

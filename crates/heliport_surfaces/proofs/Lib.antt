@@ -1,3 +1,4 @@
+pub mod PlaceFacts
 pub mod PadSizes
 pub mod Corners
 pub mod NoticeFacts

@@ -1,98 +1,72 @@
 -- The slope of notice, and the tests that compute it.
-use Rattle.std.proofs.Common.{◌≡◌, ℕ, ℤ, pos, ◌*◌, ◌<◌, ◌+ℤ◌, ◌-ℤ◌, ◌<ℤ◌, Bool, true, false, cond, int_le, unsigned_abs, arith, refl}
-use Rattle.std.specs.Prelude.{◌&&◌}
-use Rattle.std.specs.Bool.{MatchBool}
+use Rattle.std.proofs.Common.{◌≡◌, ℕ, ℤ, ◌*◌, ◌<◌, ◌≤◌, ◌^◌, ◌+ℤ◌, ◌-ℤ◌, ◌<ℤ◌, Bool, true, int_le, unsigned_abs, arith}
+use Rattle.std.specs.Cmp.Derive.{both_true}
 use Rattle.std.proofs.lemmas.Int.{ints}
-use Rattle.grid_exact.specs.Root.{AtMostRoot, BelowRoot}
-use Rattle.grid_exact.specs.Excess.{is_at_most_root, is_below_root}
-use Rattle.grid_exact.proofs.TestFacts.{at_most_in, at_most_out, le_in, le_out}
+use Rattle.grid_exact.specs.Excess.{IsExcess, most_excess}
+use Rattle.grid_exact.specs.Level.{IsLevel}
+use Rattle.grid_exact.specs.Lines.{Offset}
+use Rattle.grid_exact.proofs.ExcessLemmas.{Tests, excess_of-IsExcess}
+use Rattle.grid_exact.proofs.TestFacts.{at_most_in, at_most_out, below_in, below_out, le_in, le_out}
+use Rattle.heliport_surfaces.specs.Landings.{Landing}
+use Rattle.heliport_surfaces.specs.Laws.{above_reaches}
+use Rattle.heliport_surfaces.specs.Notices.{Gap, IsAboveNotice, IsClose, IsNearer, IsOver, IsWithin, away, excess_over_notice, gap, is_nearer, is_over, is_within, notice, reach}
+use Rattle.heliport_surfaces.specs.declared.rules.TheConstants.{NOTICE_RANGE, NOTICE_RISE, NOTICE_SLOPE}
 use Rattle.heliport_surfaces.proofs.Corners.{IsWithin_below, IsWithin-IsClose}
-use Rattle.heliport_surfaces.specs.Notices.{Gap, IsAboveNotice, IsAtNotice, IsClose, IsNearer, IsWithin, corner, is_above_notice, is_at_notice, is_in_line, is_nearer, is_within}
-
-below_out : (a b : ℤ) (n : ℕ) → BelowRoot a b n → is_below_root a b n ≡ true
-below_out a b n h = grind (arith, ints, h.below)
-
-below_in : (a b : ℤ) (n : ℕ) → is_below_root a b n ≡ true → BelowRoot a b n
-below_in a b n h = grind (arith, ints)
-
--- one fact or another, by a test
-pick_out : (b : Bool) (P Q : Type 0) (p q : Bool) → (P → p ≡ true) → (Q → q ≡ true) → MatchBool b P Q → cond b p q ≡ true
-pick_out true P Q p q f g h = f h
-pick_out false P Q p q f g h = g h
-
-pick_in : (b : Bool) (P Q : Type 0) (p q : Bool) → (p ≡ true → P) → (q ≡ true → Q) → cond b p q ≡ true → MatchBool b P Q
-pick_in true P Q p q f g h = f h
-pick_in false P Q p q f g h = g h
-
-pub both_true : (a b : Bool) → a ≡ true → b ≡ true → a && b ≡ true
-both_true a b x y = rw (x, y) refl
-
-pub left_true : (a b : Bool) → a && b ≡ true → a ≡ true
-left_true true b h = refl
-left_true false b h = h
-
-pub right_true : (a b : Bool) → a && b ≡ true → b ≡ true
-right_true true b h = h
-right_true false b h = absurd (cc)
+use Rattle.heliport_surfaces.proofs.PlaceFacts.{left_true, right_true}
 
 pub within_out : (g : Gap) (d : ℕ) → IsWithin g d → is_within g d ≡ true
 unfolding is_within
-within_out g d h =
-    let edge = pos (4 * g.aside * g.width) in
-    pick_out (is_in_line g) (AtMostRoot (pos g.beyond) (pos d) g.square) (AtMostRoot (corner g d) edge g.square) (is_at_most_root (pos g.beyond) (pos d) g.square) (is_at_most_root (corner g d) edge g.square)
-    (at_most_out (pos g.beyond) (pos d) g.square) (at_most_out (corner g d) edge g.square) h
+within_out g d h = at_most_out (away g d) (reach g d) g.square h
 
 pub within_in : (g : Gap) (d : ℕ) → is_within g d ≡ true → IsWithin g d
 unfolding is_within
-within_in g d h =
-    let edge = pos (4 * g.aside * g.width) in
-    pick_in (is_in_line g) (AtMostRoot (pos g.beyond) (pos d) g.square) (AtMostRoot (corner g d) edge g.square) (is_at_most_root (pos g.beyond) (pos d) g.square) (is_at_most_root (corner g d) edge g.square)
-    (at_most_in (pos g.beyond) (pos d) g.square) (at_most_in (corner g d) edge g.square) h
+within_in g d h = at_most_in (away g d) (reach g d) g.square h
 
 nearer_out : (g : Gap) (d : ℕ) → IsNearer g d → is_nearer g d ≡ true
 unfolding is_nearer
-nearer_out g d h =
-    let edge = pos (4 * g.aside * g.width) in
-    pick_out (is_in_line g) (BelowRoot (pos g.beyond) (pos d) g.square) (BelowRoot (corner g d) edge g.square) (is_below_root (pos g.beyond) (pos d) g.square) (is_below_root (corner g d) edge g.square)
-    (below_out (pos g.beyond) (pos d) g.square) (below_out (corner g d) edge g.square) h
+nearer_out g d h = below_out (away g d) (reach g d) g.square h
 
 nearer_in : (g : Gap) (d : ℕ) → is_nearer g d ≡ true → IsNearer g d
 unfolding is_nearer
-nearer_in g d h =
-    let edge = pos (4 * g.aside * g.width) in
-    pick_in (is_in_line g) (BelowRoot (pos g.beyond) (pos d) g.square) (BelowRoot (corner g d) edge g.square) (is_below_root (pos g.beyond) (pos d) g.square) (is_below_root (corner g d) edge g.square)
-    (below_in (pos g.beyond) (pos d) g.square) (below_in (corner g d) edge g.square) h
+nearer_in g d h = below_in (away g d) (reach g d) g.square h
 
-pub at_out : (z : ℤ) (g : Gap) (top : ℤ) → IsAtNotice z g top → is_at_notice z g top ≡ true
-unfolding is_at_notice
-at_out z g top h =
-    both_true (int_le z top) (is_within g (25 * unsigned_abs (top -ℤ z))) (le_out z top h.not_below) (within_out g (25 * unsigned_abs (top -ℤ z)) h.within)
+over_out : (Is : ℕ → Type 0) (is : ℕ → Bool) → ((d : ℕ) → Is d → is d ≡ true) → (z top : ℤ) → IsOver Is z top → is_over is z top ≡ true
+unfolding is_over
+over_out Is is out z top h = both_true (le_out z top h.not_below) (out (NOTICE_SLOPE * unsigned_abs (top -ℤ z)) h.distance)
 
-pub at_in : (z : ℤ) (g : Gap) (top : ℤ) → is_at_notice z g top ≡ true → IsAtNotice z g top
-unfolding is_at_notice
-at_in z g top h =
-    let a = int_le z top in
-    let b = is_within g (25 * unsigned_abs (top -ℤ z)) in
-    record { not_below = le_in z top (left_true a b h); within = within_in g (25 * unsigned_abs (top -ℤ z)) (right_true a b h) }
+over_in : (Is : ℕ → Type 0) (is : ℕ → Bool) → ((d : ℕ) → is d ≡ true → Is d) → (z top : ℤ) → is_over is z top ≡ true → IsOver Is z top
+unfolding is_over
+over_in Is is in_ z top h =
+    let d = NOTICE_SLOPE * unsigned_abs (top -ℤ z) in
+    record { not_below = le_in z top (left_true (int_le z top) (is d) h); distance = in_ d (right_true (int_le z top) (is d) h) }
 
-pub above_out : (z : ℤ) (g : Gap) (top : ℤ) → IsAboveNotice z g top → is_above_notice z g top ≡ true
-unfolding is_above_notice
-above_out z g top h =
-    both_true (int_le z top) (is_nearer g (25 * unsigned_abs (top -ℤ z))) (le_out z top h.not_below) (nearer_out g (25 * unsigned_abs (top -ℤ z)) h.nearer)
+-- the tests compute what the slope says
+pub notice_tests : (l : Landing) (o : Offset) → Tests (notice l o) (is_within (gap l o) NOTICE_RANGE) (is_over (is_nearer (gap l o)) l.z) (is_over (is_within (gap l o)) l.z)
+notice_tests l o =
+    let g = gap l o in
+    record {
+      covers_out = within_out g NOTICE_RANGE;
+      covers_in = within_in g NOTICE_RANGE;
+      above_out = over_out (IsNearer g) (is_nearer g) (nearer_out g) l.z;
+      above_in = over_in (IsNearer g) (is_nearer g) (nearer_in g) l.z;
+      at_out = over_out (IsWithin g) (is_within g) (within_out g) l.z;
+      at_in = over_in (IsWithin g) (is_within g) (within_in g) l.z;
+    }
 
-pub above_in : (z : ℤ) (g : Gap) (top : ℤ) → is_above_notice z g top ≡ true → IsAboveNotice z g top
-unfolding is_above_notice
-above_in z g top h =
-    let a = int_le z top in
-    let b = is_nearer g (25 * unsigned_abs (top -ℤ z)) in
-    record { not_below = le_in z top (left_true a b h); nearer = nearer_in g (25 * unsigned_abs (top -ℤ z)) (right_true a b h) }
+-- what the function of tests computes is the excess
+pub notice-IsExcess : (l : Landing) (o : Offset) (top : ℤ) → unsigned_abs l.z ≤ 2 ^ 18 → IsLevel top → IsExcess (notice l o) top (excess_over_notice l o top)
+unfolding most_excess
+notice-IsExcess l o top low level =
+    let g = gap l o in
+    excess_of-IsExcess (notice l o) (is_within g NOTICE_RANGE) (is_over (is_nearer g) l.z) (is_over (is_within g) l.z) most_excess top (notice_tests l o)
+    (above_reaches l.z g top) (λ _ _ t r. omega (arith, ints, r.not_below, low, level.high))
 
 -- over a point that it reaches it is at most 200 feet over the elevation
-pub far_above : (z : ℤ) (g : Gap) (level : ℤ) → 0 < g.square → is_within g 50000 ≡ true → (z +ℤ pos 2000) <ℤ level → IsAboveNotice z g level
+pub far_above : (z : ℤ) (g : Gap) (level : ℤ) → 0 < g.square → is_within g NOTICE_RANGE ≡ true → (z +ℤ NOTICE_RISE) <ℤ level → IsAboveNotice z g level
 far_above z g level p h l = record {
   not_below = omega (arith, ints);
-  nearer = IsWithin_below g 50000 (25 * unsigned_abs (level -ℤ z)) p (omega (arith, ints)) (within_in g 50000 h);
+  distance = IsWithin_below g NOTICE_RANGE (NOTICE_SLOPE * unsigned_abs (level -ℤ z)) p (omega (arith, ints)) (within_in g NOTICE_RANGE h);
 }
 
-pub near_close : (g : Gap) → is_within g 50000 ≡ true → IsClose g 50000
-near_close g h = IsWithin-IsClose g 50000 (within_in g 50000 h)
+pub near_close : (g : Gap) → is_within g NOTICE_RANGE ≡ true → IsClose g NOTICE_RANGE
+near_close g h = IsWithin-IsClose g NOTICE_RANGE (within_in g NOTICE_RANGE h)

@@ -1,186 +1,30 @@
--- What covers a point, as the tests compute it, and excesses by them.
-use Rattle.std.proofs.Common.{◌≡◌, ℕ, ℤ, pos, ◌*◌, ◌-ℤ◌, ◌*ℤ◌, ◌≤◌, ◌^◌, sym, Option, true, int_le, int_lt, unsigned_abs, arith, refl}
-use Rattle.std.specs.Prelude.{◌&&◌, IfSome}
+-- What the surfaces of a heliport are, and that what the tests compute is the excess over them.
+use Rattle.std.proofs.Common.{◌≡◌, ℕ, ℤ, ◌-ℤ◌, ◌<◌, Bool, true, false, Option, Some, None, subst, unsigned_abs, arith, refl}
+use Rattle.std.specs.Prelude.{if◌then◌else◌}
 use Rattle.std.proofs.lemmas.Int.{ints}
-use Rattle.grid_exact.specs.Excess.{IsExcess, is_at_most_root, most_excess}
-use Rattle.grid_exact.specs.Lines.{Line, along, aside, square}
-use Rattle.grid_exact.specs.Root.{AtLeastRoot}
+use Rattle.grid_exact.specs.Excess.{IsExcess, Surface}
+use Rattle.grid_exact.specs.Level.{IsLevel}
+use Rattle.grid_exact.specs.Lines.{Line, Offset, offset}
 use Rattle.grid_exact.specs.Vector.{length_of}
 use Rattle.grid_exact.specs.declared.point.Point.{Point}
-use Rattle.grid_exact.proofs.ExcessLemmas.{excess_of-is, flat_excess_of-is, root_excess_of-is, within_most}
-use Rattle.grid_exact.proofs.TestFacts.{at_most_in, at_most_out, le_in, le_out, lt_in, lt_out}
-use Rattle.airport_register.specs.declared.airfield.Heliport.{Heliport}
+use Rattle.grid_exact.proofs.ExcessLemmas.{flat_excess-IsExcess}
+use Rattle.airfields.specs.Airfields.{IsHeldHeliport}
+use Rattle.airfields.specs.Categories.{is_described, is_military}
+use Rattle.airfields.specs.declared.airfield.Heliport.{Heliport}
 use Rattle.heliport_surfaces.specs.declared.parts.Beside.{Beside}
 use Rattle.heliport_surfaces.specs.declared.parts.Beside.TheVariants.{Primary, ApproachOne, ApproachTwo}
 use Rattle.heliport_surfaces.specs.declared.parts.PadEnd.{PadEnd}
 use Rattle.heliport_surfaces.specs.declared.parts.PadEnd.TheVariants.{One, Two}
-use Rattle.heliport_surfaces.specs.Approaches.{Approach, ApproachCovers, ApproachSideCovers, approach_covers, approach_side, approach_side_covers, excess_over_approach_side, is_as_far, outside, raised}
-use Rattle.heliport_surfaces.specs.Landings.{Landing, PrimaryCovers, PrimarySideCovers, at_axis, excess_over_primary_side, is_at_least_root, is_between_ends, primary_covers, primary_side, primary_side_covers}
-use Rattle.heliport_surfaces.specs.Notices.{gap, is_above_notice, is_at_notice, is_within, notice}
-use Rattle.heliport_surfaces.specs.Pads.{approach_of, landing_of, pad_approach, pad_approach_excess, pad_notice, pad_notice_excess, pad_primary, pad_primary_excess, pad_transition, pad_transition_excess}
-use Rattle.heliport_surfaces.proofs.NoticeFacts.{above_in, above_out, at_in, at_out, both_true, left_true, right_true, within_in, within_out}
-
-at_least_out : (a b : ℤ) (n : ℕ) → AtLeastRoot a b n → is_at_least_root a b n ≡ true
-at_least_out a b n h = grind (arith, ints, h.at_least)
-
-at_least_in : (a b : ℤ) (n : ℕ) → is_at_least_root a b n ≡ true → AtLeastRoot a b n
-at_least_in a b n h = grind (arith, ints)
-
--- ---- the primary surface
-primary_out : (l : Landing) (x : Point) → PrimaryCovers l x → primary_covers l x ≡ true
-unfolding primary_covers
-primary_out l x h =
-    both_true (is_between_ends l x) (is_at_most_root (pos (2 * aside l.line x)) l.width (square l.line))
-    (both_true (int_le (pos 0) (along l.line x)) (int_le (along l.line x) (pos (square l.line))) (le_out (pos 0) (along l.line x) h.past_start) (le_out (along l.line x) (pos (square l.line)) h.before_end))
-    (at_most_out (pos (2 * aside l.line x)) l.width (square l.line) h.not_beside)
-
-primary_in : (l : Landing) (x : Point) → primary_covers l x ≡ true → PrimaryCovers l x
-unfolding primary_covers
-primary_in l x h =
-    let m = along l.line x in
-    let n = square l.line in
-    let start = int_le (pos 0) m in
-    let end = int_le m (pos n) in
-    let side = is_at_most_root (pos (2 * aside l.line x)) l.width n in
-    let between = left_true (is_between_ends l x) side h in
-    record {
-      past_start = le_in (pos 0) m (left_true start end between);
-      before_end = le_in m (pos n) (right_true start end between);
-      not_beside = at_most_in (pos (2 * aside l.line x)) l.width n (right_true (is_between_ends l x) side h);
-    }
-
-primary_side_out : (l : Landing) (x : Point) → PrimarySideCovers l x → primary_side_covers l x ≡ true
-unfolding primary_side_covers
-primary_side_out l x h =
-    let m = along l.line x in
-    let n = square l.line in
-    let q = aside l.line x in
-    let out = is_at_least_root (pos (2 * q)) l.width n in
-    let near = is_at_most_root (pos q) (pos 2500) n in
-    both_true (is_between_ends l x) (out && near)
-    (both_true (int_le (pos 0) m) (int_le m (pos n)) (le_out (pos 0) m h.past_start) (le_out m (pos n) h.before_end))
-    (both_true out near (at_least_out (pos (2 * q)) l.width n h.beside) (at_most_out (pos q) (pos 2500) n h.not_far))
-
-primary_side_in : (l : Landing) (x : Point) → primary_side_covers l x ≡ true → PrimarySideCovers l x
-unfolding primary_side_covers
-primary_side_in l x h =
-    let m = along l.line x in
-    let n = square l.line in
-    let q = aside l.line x in
-    let start = int_le (pos 0) m in
-    let end = int_le m (pos n) in
-    let out = is_at_least_root (pos (2 * q)) l.width n in
-    let near = is_at_most_root (pos q) (pos 2500) n in
-    let between = left_true (is_between_ends l x) (out && near) h in
-    let sides = right_true (is_between_ends l x) (out && near) h in
-    record {
-      past_start = le_in (pos 0) m (left_true start end between);
-      before_end = le_in m (pos n) (right_true start end between);
-      beside = at_least_in (pos (2 * q)) l.width n (left_true out near sides);
-      not_far = at_most_in (pos q) (pos 2500) n (right_true out near sides);
-    }
-
--- ---- an approach surface
-approach_out : (a : Approach) (x : Point) → ApproachCovers a x → approach_covers a x ≡ true
-unfolding approach_covers
-approach_out a x h =
-    let m = along a.line x in
-    let n = square a.line in
-    both_true (is_as_far a x) (is_at_most_root (outside a x) (pos 40000 *ℤ a.width) n)
-    (both_true (int_lt (pos 0) m) (is_at_most_root m (pos 40000) n) (lt_out (pos 0) m h.ahead) (at_most_out m (pos 40000) n h.not_past))
-    (at_most_out (outside a x) (pos 40000 *ℤ a.width) n h.not_beside)
-
-approach_in : (a : Approach) (x : Point) → approach_covers a x ≡ true → ApproachCovers a x
-unfolding approach_covers
-approach_in a x h =
-    let m = along a.line x in
-    let n = square a.line in
-    let ahead = int_lt (pos 0) m in
-    let far = is_at_most_root m (pos 40000) n in
-    let side = is_at_most_root (outside a x) (pos 40000 *ℤ a.width) n in
-    let along_it = left_true (is_as_far a x) side h in
-    record {
-      ahead = lt_in (pos 0) m (left_true ahead far along_it);
-      not_past = at_most_in m (pos 40000) n (right_true ahead far along_it);
-      not_beside = at_most_in (outside a x) (pos 40000 *ℤ a.width) n (right_true (is_as_far a x) side h);
-    }
-
-approach_side_out : (a : Approach) (x : Point) → ApproachSideCovers a x → approach_side_covers a x ≡ true
-unfolding approach_side_covers
-approach_side_out a x h =
-    let m = along a.line x in
-    let n = square a.line in
-    let q = aside a.line x in
-    let out = is_at_least_root (outside a x) (pos 40000 *ℤ a.width) n in
-    let near = is_at_most_root (pos q) (pos 2500) n in
-    both_true (is_as_far a x) (out && near)
-    (both_true (int_lt (pos 0) m) (is_at_most_root m (pos 40000) n) (lt_out (pos 0) m h.ahead) (at_most_out m (pos 40000) n h.not_past))
-    (both_true out near (at_least_out (outside a x) (pos 40000 *ℤ a.width) n h.beside) (at_most_out (pos q) (pos 2500) n h.not_far))
-
-approach_side_in : (a : Approach) (x : Point) → approach_side_covers a x ≡ true → ApproachSideCovers a x
-unfolding approach_side_covers
-approach_side_in a x h =
-    let m = along a.line x in
-    let n = square a.line in
-    let q = aside a.line x in
-    let ahead = int_lt (pos 0) m in
-    let far = is_at_most_root m (pos 40000) n in
-    let out = is_at_least_root (outside a x) (pos 40000 *ℤ a.width) n in
-    let near = is_at_most_root (pos q) (pos 2500) n in
-    let along_it = left_true (is_as_far a x) (out && near) h in
-    let sides = right_true (is_as_far a x) (out && near) h in
-    record {
-      ahead = lt_in (pos 0) m (left_true ahead far along_it);
-      not_past = at_most_in m (pos 40000) n (right_true ahead far along_it);
-      beside = at_least_in (outside a x) (pos 40000 *ℤ a.width) n (left_true out near sides);
-      not_far = at_most_in (pos q) (pos 2500) n (right_true out near sides);
-    }
-
--- ---- an excess is what the tests compute
-pub primary_listed : (h : Heliport) (x : Point) (top : ℤ) (e : Option ℕ) → IfSome e (λ d. d ≤ 2 ^ 26) → IsExcess (pad_primary h x) top e → e ≡ pad_primary_excess h x top
-unfolding pad_primary_excess
-primary_listed h x top e size k =
-    let l = landing_of h in
-    sym (flat_excess_of-is (PrimaryCovers l x) (primary_covers l x) l.z top e (primary_out l x) (primary_in l x) size k)
-
-pub approach_listed : (h : Heliport) (end : PadEnd) (x : Point) (top : ℤ) (e : Option ℕ) → IfSome e (λ d. d ≤ 2 ^ 26) → IsExcess (pad_approach h end x) top e →
-    e ≡ pad_approach_excess h end x top
-unfolding pad_approach_excess
-approach_listed h end x top e size k =
-    let a = approach_of h end in
-    sym (root_excess_of-is (ApproachCovers a x) (approach_covers a x) (along a.line x) a.slope (a.slope *ℤ a.z) (square a.line) top e (approach_out a x) (approach_in a x) size k)
-
-primary_side_listed : (l : Landing) (x : Point) (top : ℤ) (e : Option ℕ) → IfSome e (λ d. d ≤ 2 ^ 26) → IsExcess (primary_side l x) top e → e ≡ excess_over_primary_side l x top
-primary_side_listed l x top e size k =
-    sym (root_excess_of-is (PrimarySideCovers l x) (primary_side_covers l x) (pos (2 * aside l.line x)) (pos 4) (at_axis l.z l.width) (square l.line) top e (primary_side_out l x) (primary_side_in l x) size k)
-
-approach_side_listed : (a : Approach) (x : Point) (top : ℤ) (e : Option ℕ) → IfSome e (λ d. d ≤ 2 ^ 26) → IsExcess (approach_side a x) top e → e ≡ excess_over_approach_side a x top
-approach_side_listed a x top e size k =
-    sym (root_excess_of-is (ApproachSideCovers a x) (approach_side_covers a x) (raised a x) (pos 160000 *ℤ a.slope) (pos 40000 *ℤ (a.slope *ℤ at_axis a.z a.width)) (square a.line) top e
-    (approach_side_out a x) (approach_side_in a x) size k)
-
-pub transition_listed : (h : Heliport) (beside : Beside) (x : Point) (top : ℤ) (e : Option ℕ) → IfSome e (λ d. d ≤ 2 ^ 26) → IsExcess (pad_transition h beside x) top e →
-    e ≡ pad_transition_excess h beside x top
-unfolding pad_transition_excess
-transition_listed h Primary x top e size k = primary_side_listed (landing_of h) x top e size k
-transition_listed h ApproachOne x top e size k = approach_side_listed (approach_of h One) x top e size k
-transition_listed h ApproachTwo x top e size k = approach_side_listed (approach_of h Two) x top e size k
-
-pub notice_listed : (h : Heliport) (x : Point) (top : ℤ) (e : Option ℕ) → IfSome e (λ d. d ≤ 2 ^ 26) → IsExcess (pad_notice h x) top e → e ≡ pad_notice_excess h x top
-unfolding pad_notice_excess
-notice_listed h x top e size k =
-    let l = landing_of h in
-    let g = gap l x in
-    sym (excess_of-is (notice l x) (is_within g 50000) (is_above_notice l.z g) (is_at_notice l.z g) most_excess top e
-    (record {
-      covers_out = within_out g 50000;
-      covers_in = within_in g 50000;
-      above_out = above_out l.z g;
-      above_in = above_in l.z g;
-      at_out = at_out l.z g;
-      at_in = at_in l.z g;
-    })
-    (within_most e size) k)
+use Rattle.heliport_surfaces.specs.declared.rules.TheConstants.{CIVIL_SLOPE, MILITARY_SLOPE}
+use Rattle.heliport_surfaces.specs.Places.{IsCovered, IsCoveredBeside, is_covered, is_covered_beside}
+use Rattle.heliport_surfaces.specs.Approaches.{Approach, approach, approach_heights, approach_place, approach_side, approach_side_heights, excess_over_approach, excess_over_approach_side}
+use Rattle.heliport_surfaces.specs.Notices.{excess_over_notice, notice}
+use Rattle.heliport_surfaces.specs.Landings.{Landing, excess_over_primary, excess_over_primary_side, primary, primary_place, primary_side, primary_side_heights}
+use Rattle.heliport_surfaces.specs.Pads.{only_if, excess_if, excess_over_side, side_surface, approach_of, approach_offset, approach_slope, landing_of, landing_offset, pad_approach, pad_approach_excess, pad_notice, pad_notice_excess, pad_primary, pad_primary_excess, pad_transition, pad_transition_excess}
+use Rattle.heliport_surfaces.specs.Sizes.{HasPadSizes, IsPadSlope}
+use Rattle.heliport_surfaces.proofs.NoticeFacts.{notice-IsExcess}
+use Rattle.heliport_surfaces.proofs.PadSizes.{approach_rises, approach_side_rises, primary_side_rises}
+use Rattle.heliport_surfaces.proofs.PlaceFacts.{beside_in, beside_out, covered_in, covered_out, excess_over-IsExcess}
 
 -- ---- shapes whose parts are the same
 abbrev shaped_landing : Line → ℤ → ℤ → Landing
@@ -201,3 +45,101 @@ length_back a b =
     let ex : unsigned_abs (a.x -ℤ b.x) ≡ unsigned_abs (b.x -ℤ a.x) = omega (arith, ints) in
     let ey : unsigned_abs (a.y -ℤ b.y) ≡ unsigned_abs (b.y -ℤ a.y) = omega (arith, ints) in
     rw (ex, ey) refl
+
+-- ---- surfaces that some heliports alone have
+only_if-IsExcess : (b : Bool) (s : Surface) (top : ℤ) (e : Option ℕ) → IsExcess s top e → IsExcess (only_if b s) top (excess_if b e)
+only_if-IsExcess true s top None h = λ p. h (p.0.covered, p.1)
+only_if-IsExcess true s top (Some e) h = record { covers = record { there = refl; covered = h.covers }; above = h.above; at_or_above = h.at_or_above; greatest = h.greatest }
+only_if-IsExcess false s top e h = λ p. let k : false ≡ true = p.0.there in cc
+
+pub is_there : (b : Bool) (r e : Option ℕ) → b ≡ true → r ≡ e → r ≡ excess_if b e
+is_there b r e t h = rw t h
+
+-- what is computed of a prepared part at the offset from its line is that of what the part is
+pub there : {A : Type 0} (b : Bool) (f : A → Offset → ℤ → Option ℕ) (line : A → Line) (p q : A) (o : Offset) (x : Point) (top : ℤ) (r : Option ℕ) → b ≡ true → p ≡ q → o ≡ offset (line p) x → r ≡ f p o top →
+    r ≡ excess_if b (f q (offset (line q) x) top)
+there {A} b f line p q o x top r t e k h =
+    let P : A → Type 0 = λ s. r ≡ f s (offset (line s) x) top in
+    let Q : Offset → Type 0 = λ u. r ≡ f p u top in
+    rw t (subst P e (subst Q k h))
+
+-- ---- a heliport within its limits
+pub held_sizes : (h : Heliport) → IsHeldHeliport h → HasPadSizes h.width h.elevation
+held_sizes h k = record { width_least = k.width_least; width_most = k.width_most; z_size = omega (arith, ints, k.elevation.least, k.elevation.most) }
+
+pub held_slope : (h : Heliport) → IsPadSlope (approach_slope h)
+held_slope h =
+    elim (is_military h.category) as (λ b. IsPadSlope (if b then MILITARY_SLOPE else CIVIL_SLOPE)) [
+      | true ↦ record { slope_least = omega (arith, ints); slope_most = omega (arith, ints) }
+      | false ↦ record { slope_least = omega (arith, ints); slope_most = omega (arith, ints) }
+    ]
+
+landing_some : (h : Heliport) (x : Point) → IsHeldHeliport h → 0 < (landing_offset h x).square
+unfolding landing_of
+landing_some h x k = omega (arith, k.axis_least)
+
+approach_some : (h : Heliport) (end : PadEnd) (x : Point) → IsHeldHeliport h → 0 < (approach_offset h end x).square
+unfolding approach_of
+approach_some h One x k = rw (length_back h.a h.b) (omega (arith, k.axis_least))
+approach_some h Two x k = omega (arith, k.axis_least)
+
+-- ---- what the tests compute is the excess
+primary-IsExcess : (l : Landing) (o : Offset) (top : ℤ) → HasPadSizes l.width l.z → IsLevel top → IsExcess (primary l o) top (excess_over_primary l o top)
+primary-IsExcess l o top h level =
+    let p = primary_place l o in
+    flat_excess-IsExcess (IsCovered p) (is_covered p) l.z top level (omega (arith, ints, h.z_size)) (covered_out p) (covered_in p)
+
+primary_side-IsExcess : (l : Landing) (o : Offset) (top : ℤ) → HasPadSizes l.width l.z → 0 < o.square → IsLevel top → IsExcess (primary_side l o) top (excess_over_primary_side l o top)
+primary_side-IsExcess l o top h some level =
+    let p = primary_place l o in
+    excess_over-IsExcess (IsCoveredBeside p) (is_covered_beside p) (primary_side_heights l o) top level (beside_out p) (beside_in p) (λ c. primary_side_rises l o h some (beside_out p c))
+
+approach-IsExcess : (a : Approach) (o : Offset) (top : ℤ) → HasPadSizes a.width a.z → IsPadSlope a.slope → IsLevel top → IsExcess (approach a o) top (excess_over_approach a o top)
+approach-IsExcess a o top h s level =
+    let p = approach_place a o in
+    excess_over-IsExcess (IsCovered p) (is_covered p) (approach_heights a o) top level (covered_out p) (covered_in p) (λ c. approach_rises a o h s (covered_out p c))
+
+approach_side-IsExcess : (a : Approach) (o : Offset) (top : ℤ) → HasPadSizes a.width a.z → IsPadSlope a.slope → 0 < o.square → IsLevel top → IsExcess (approach_side a o) top (excess_over_approach_side a o top)
+approach_side-IsExcess a o top h s some level =
+    let p = approach_place a o in
+    excess_over-IsExcess (IsCoveredBeside p) (is_covered_beside p) (approach_side_heights a o) top level (beside_out p) (beside_in p) (λ c. approach_side_rises a o h s some (beside_out p c))
+
+beside_approach-IsExcess : (h : Heliport) (end : PadEnd) (x : Point) (top : ℤ) → IsHeldHeliport h → IsLevel top →
+    IsExcess (approach_side (approach_of h end) (approach_offset h end x)) top (excess_over_approach_side (approach_of h end) (approach_offset h end x) top)
+unfolding approach_of
+beside_approach-IsExcess h end x top k level =
+    approach_side-IsExcess (approach_of h end) (approach_offset h end x) top (held_sizes h k) (held_slope h) (approach_some h end x k) level
+
+side-IsExcess : (h : Heliport) (beside : Beside) (x : Point) (top : ℤ) → IsHeldHeliport h → IsLevel top → IsExcess (side_surface h beside x) top (excess_over_side h beside x top)
+unfolding landing_of
+side-IsExcess h Primary x top k level = primary_side-IsExcess (landing_of h) (landing_offset h x) top (held_sizes h k) (landing_some h x k) level
+side-IsExcess h ApproachOne x top k level = beside_approach-IsExcess h One x top k level
+side-IsExcess h ApproachTwo x top k level = beside_approach-IsExcess h Two x top k level
+
+pub pad_primary-IsExcess : (h : Heliport) (x : Point) (top : ℤ) → IsHeldHeliport h → IsLevel top → IsExcess (pad_primary h x) top (pad_primary_excess h x top)
+unfolding landing_of pad_primary_excess
+pad_primary-IsExcess h x top k level =
+    let l = landing_of h in
+    let o = landing_offset h x in
+    only_if-IsExcess (is_described h.category) (primary l o) top (excess_over_primary l o top) (primary-IsExcess l o top (held_sizes h k) level)
+
+pub pad_approach-IsExcess : (h : Heliport) (end : PadEnd) (x : Point) (top : ℤ) → IsHeldHeliport h → IsLevel top → IsExcess (pad_approach h end x) top (pad_approach_excess h end x top)
+unfolding approach_of pad_approach_excess
+pad_approach-IsExcess h end x top k level =
+    let a = approach_of h end in
+    let o = approach_offset h end x in
+    only_if-IsExcess (is_described h.category) (approach a o) top (excess_over_approach a o top) (approach-IsExcess a o top (held_sizes h k) (held_slope h) level)
+
+pub pad_transition-IsExcess : (h : Heliport) (beside : Beside) (x : Point) (top : ℤ) → IsHeldHeliport h → IsLevel top → IsExcess (pad_transition h beside x) top (pad_transition_excess h beside x top)
+unfolding pad_transition_excess
+pad_transition-IsExcess h beside x top k level =
+    only_if-IsExcess (is_described h.category) (side_surface h beside x) top (excess_over_side h beside x top) (side-IsExcess h beside x top k level)
+
+pub pad_notice-IsExcess : (h : Heliport) (x : Point) (top : ℤ) → IsHeldHeliport h → IsLevel top → IsExcess (pad_notice h x) top (pad_notice_excess h x top)
+unfolding landing_of pad_notice_excess
+pad_notice-IsExcess h x top k level =
+    let l = landing_of h in
+    let o = landing_offset h x in
+    only_if-IsExcess (is_described h.category) (notice l o) top (excess_over_notice l o top) (notice-IsExcess l o top (held_sizes h k).z_size level)
+
+pub ruleset laws = (pad_primary-IsExcess, pad_approach-IsExcess, pad_transition-IsExcess, pad_notice-IsExcess)

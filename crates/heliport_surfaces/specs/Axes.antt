@@ -1,4 +1,4 @@
--- The line of an axis.
+-- For proofs alone: the line of an axis.
 use Rattle.grid_exact.specs.Axes.{line_of}
 use Rattle.grid_exact.specs.Lines.{Line}
 use Rattle.heliport_surfaces.specs.declared.axis.PadAxis.{PadAxis}

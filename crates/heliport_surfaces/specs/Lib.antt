@@ -1,9 +1,10 @@
 pub mod Sizes
 pub mod Axes
+pub mod Places
 pub mod Landings
 pub mod Approaches
-pub mod Shapes
 pub mod Notices
+pub mod Shapes
 pub mod Laws
 pub mod Pads
 pub mod Prepared

@@ -1,11 +1,10 @@
 -- The slope of 77.9(b)(3): 25 to 1 for 5,000 feet from the nearest point of a heliport's takeoff and landing area.
 use Rattle.std.specs.Prelude.{ℕ, ℤ, pos, ◌+◌, ◌*◌, ◌-ℤ◌, ◌≤◌, ◌≤ℤ◌, Bool, ◌&&◌, if◌then◌else◌, int_le, int_lt, unsigned_abs, Option}
-use Rattle.std.specs.Bool.{MatchBool}
 use Rattle.grid_exact.specs.Root.{AtMostRoot, BelowRoot}
 use Rattle.grid_exact.specs.Excess.{Surface, excess_of, is_at_most_root, is_below_root, most_excess}
-use Rattle.grid_exact.specs.declared.point.Point.{Point}
-use Rattle.grid_exact.specs.Lines.{along, aside, square}
+use Rattle.grid_exact.specs.Lines.{Offset}
 use Rattle.heliport_surfaces.specs.Landings.{Landing}
+use Rattle.heliport_surfaces.specs.declared.rules.TheConstants.{NOTICE_SLOPE, NOTICE_RANGE}
 
 -- how a point lies off an area with an axis of the length sqrt(n): how far before or past the ends of the axis and how far to a side
 -- of it, both times sqrt(n), the width of the area, and n
@@ -19,13 +18,8 @@ pub record Gap : Type 0 where
 abbrev pub beyond_ends : ℤ → ℕ → ℕ
 beyond_ends m n = if int_lt m (pos 0) then unsigned_abs m else if int_lt (pos n) m then unsigned_abs (m -ℤ pos n) else 0
 
-abbrev pub gap : Landing → Point → Gap
-gap l x = record {
-  beyond = beyond_ends (along l.line x) (square l.line);
-  aside = aside l.line x;
-  width = unsigned_abs l.width;
-  square = square l.line;
-}
+abbrev pub gap : Landing → Offset → Gap
+gap l o = record { beyond = beyond_ends o.along o.square; aside = o.aside; width = unsigned_abs l.width; square = o.square }
 
 -- the point lies between the two sides of the area or what extends them, 2*q <= w*sqrt(n) with q aside and the width w: then it is
 -- p/sqrt(n) away, with p beyond
@@ -38,52 +32,59 @@ is_in_line g = is_at_most_root (pos (2 * g.aside)) (pos g.width) g.square
 abbrev pub corner : Gap → ℕ → ℤ
 corner g d = pos (4 * (g.beyond * g.beyond) + 4 * (g.aside * g.aside) + g.width * g.width * g.square) -ℤ pos (4 * (d * d) * g.square)
 
--- the point is at most d away, and it is nearer than d
+-- so the point is at most d away where away <= reach * sqrt(n), and nearer where it is less
+abbrev pub away : Gap → ℕ → ℤ
+away g d = if is_in_line g then pos g.beyond else corner g d
+
+abbrev pub reach : Gap → ℕ → ℤ
+reach g d = if is_in_line g then pos d else pos (4 * g.aside * g.width)
+
 abbrev pub IsWithin : Gap → ℕ → Type 0
-IsWithin g d = MatchBool (is_in_line g) (AtMostRoot (pos g.beyond) (pos d) g.square) (AtMostRoot (corner g d) (pos (4 * g.aside * g.width)) g.square)
+IsWithin g d = AtMostRoot (away g d) (reach g d) g.square
 
 abbrev pub IsNearer : Gap → ℕ → Type 0
-IsNearer g d = MatchBool (is_in_line g) (BelowRoot (pos g.beyond) (pos d) g.square) (BelowRoot (corner g d) (pos (4 * g.aside * g.width)) g.square)
+IsNearer g d = BelowRoot (away g d) (reach g d) g.square
 
--- over a point at the distance d from an area at the elevation z the slope is z + d/25 high: a top is at or above it where it is not
--- below z and d is at most 25 times the height over z, and above it where d is less
-pub record IsAtNotice (z : ℤ) (g : Gap) (top : ℤ) : Type 0 where
+-- over a point at the distance d from an area at the elevation z the slope is z + d/25 high: of a top that is not below z, what the
+-- distance is against 25 times the height over z says whether it is at or above the slope
+pub record IsOver (Is : ℕ → Type 0) (z top : ℤ) : Type 0 where
   pub not_below : z ≤ℤ top
-  pub within : IsWithin g (25 * unsigned_abs (top -ℤ z))
+  pub distance : Is (NOTICE_SLOPE * unsigned_abs (top -ℤ z))
 
-pub record IsAboveNotice (z : ℤ) (g : Gap) (top : ℤ) : Type 0 where
-  pub not_below : z ≤ℤ top
-  pub nearer : IsNearer g (25 * unsigned_abs (top -ℤ z))
+-- at or above it where the point is at most as far as that, and above it where it is nearer
+abbrev pub IsAtNotice : ℤ → Gap → ℤ → Type 0
+IsAtNotice z g top = IsOver (IsWithin g) z top
+
+abbrev pub IsAboveNotice : ℤ → Gap → ℤ → Type 0
+IsAboveNotice z g top = IsOver (IsNearer g) z top
 
 -- it reaches 5,000 feet, so that it is nowhere more than 200 feet over z
-abbrev pub notice : Landing → Point → Surface
-notice l x = record {
-  Covers = IsWithin (gap l x) 50000;
-  Above = IsAboveNotice l.z (gap l x);
-  AtOrAbove = IsAtNotice l.z (gap l x);
+abbrev pub notice : Landing → Offset → Surface
+notice l o = record {
+  Covers = IsWithin (gap l o) NOTICE_RANGE;
+  Above = IsAboveNotice l.z (gap l o);
+  AtOrAbove = IsAtNotice l.z (gap l o);
 }
+
+-- ---- the same as tests that compute
+
+unfoldable pub is_within : Gap → ℕ → Bool
+is_within g d = is_at_most_root (away g d) (reach g d) g.square
+
+unfoldable pub is_nearer : Gap → ℕ → Bool
+is_nearer g d = is_below_root (away g d) (reach g d) g.square
+
+unfoldable pub is_over : (ℕ → Bool) → ℤ → ℤ → Bool
+is_over is z top = int_le z top && is (NOTICE_SLOPE * unsigned_abs (top -ℤ z))
+
+abbrev pub excess_over_notice : Landing → Offset → ℤ → Option ℕ
+excess_over_notice l o top =
+    excess_of (is_within (gap l o) NOTICE_RANGE) (is_over (is_nearer (gap l o)) l.z) (is_over (is_within (gap l o)) l.z) most_excess top
+
+-- ---- for proofs alone
 
 -- what follows for a point at most d away, without a root: p <= d*sqrt(n) and 2*q <= (2*d + w)*sqrt(n), so that it is no farther in
 -- the direction of the axis alone, nor to a side of the area alone
 pub record IsClose (g : Gap) (d : ℕ) : Type 0 where
   pub ends : g.beyond * g.beyond ≤ d * d * g.square
   pub sides : 4 * (g.aside * g.aside) ≤ (2 * d + g.width) * (2 * d + g.width) * g.square
-
--- ---- the same as tests that compute
-
-unfoldable pub is_within : Gap → ℕ → Bool
-is_within g d =
-    if is_in_line g then is_at_most_root (pos g.beyond) (pos d) g.square else is_at_most_root (corner g d) (pos (4 * g.aside * g.width)) g.square
-
-unfoldable pub is_nearer : Gap → ℕ → Bool
-is_nearer g d =
-    if is_in_line g then is_below_root (pos g.beyond) (pos d) g.square else is_below_root (corner g d) (pos (4 * g.aside * g.width)) g.square
-
-unfoldable pub is_at_notice : ℤ → Gap → ℤ → Bool
-is_at_notice z g top = int_le z top && is_within g (25 * unsigned_abs (top -ℤ z))
-
-unfoldable pub is_above_notice : ℤ → Gap → ℤ → Bool
-is_above_notice z g top = int_le z top && is_nearer g (25 * unsigned_abs (top -ℤ z))
-
-abbrev pub excess_over_notice : Landing → Point → ℤ → Option ℕ
-excess_over_notice l x top = excess_of (is_within (gap l x) 50000) (is_above_notice l.z (gap l x)) (is_at_notice l.z (gap l x)) most_excess top

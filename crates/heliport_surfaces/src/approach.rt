@@ -1,14 +1,15 @@
 //! The approach surface of one end of a heliport, and the transitional surfaces beside it.
 
-ghost use Rattle.std.specs.Prelude.{◌≡◌, ◌↔◌, ◌*◌, ◌^◌, ◌<◌, ◌≤◌, ◌*ℤ◌, ◌-ℤ◌, ◌<ℤ◌, pos, IsTrue, IfSome, unsigned_abs};
-ghost use Rattle.grid_exact.specs.Excess.{IsExcess};
+ghost use Rattle.std.specs.Prelude.{◌≡◌, ◌*◌, ◌^◌, ◌<◌, ◌≤◌, ◌*ℤ◌, ◌-ℤ◌, ◌<ℤ◌, pos, true, unsigned_abs};
 ghost use Rattle.grid_exact.specs.Level.{IsLevel};
-ghost use Rattle.grid_exact.specs.Root.{AtLeastRoot, AtMostRoot};
 ghost use Rattle.heliport_surfaces.specs.Sizes.{HasPadSizes, IsPadSlope};
 
 use crate::axis::PadAxis;
 use crate::landing::height_at_axis;
-use grid_exact::{Point, Slope, is_at_least_root, is_at_most_root, minus, plus, product, scale};
+use crate::offset::PadOffset;
+use crate::place::PadPlace;
+use crate::rules::{APPROACH_LENGTH, APPROACH_WIDTH, RISE_SCALE, SIDE_SCALE};
+use grid_exact::{Slope, minus, plus, product, scale};
 
 /// The approach surface of an end, 77.23(b): it begins at the end of the primary surface with that one's width, and goes outward
 /// and upward along the extended axis.
@@ -24,131 +25,135 @@ pub(crate) struct PadApproach {
 }
 
 impl PadApproach {
-    ghost use Rattle.grid_exact.specs.Lines.{square};
-    ghost use Rattle.heliport_surfaces.specs.Axes.{pad_line};
-    ghost use Rattle.heliport_surfaces.specs.Approaches.{ApproachCovers, ApproachSideCovers, approach, approach_side, outside as outside_of, raised as raised_of};
+    ghost use Rattle.heliport_surfaces.specs.Approaches.{approach_place, approach_heights, approach_side_heights, outside as outside_of, raised as raised_of, excess_over_approach, excess_over_approach_side};
     ghost use Rattle.heliport_surfaces.specs.Landings.{at_axis};
-    ghost use Rattle.heliport_surfaces.specs.Shapes.{approach_shape};
+    ghost use Rattle.heliport_surfaces.specs.Places.{is_covered, is_covered_beside};
+    ghost use Rattle.heliport_surfaces.specs.Shapes.{approach_shape, place_shape, slope_heights};
 
-    /// How much wider it is at its outer end, which is 500 feet wide.
+    /// How much wider it is at its outer end.
     fn growth(&self) -> i64
-        ensures value { result ≡ pos 5000 -ℤ self.now.width }
-        ensures size { unsigned_abs result ≤ 4900 }
+        ensures value { result ≡ APPROACH_WIDTH -ℤ self.now.width }
+        ensures size { unsigned_abs result ≤ unsigned_abs APPROACH_WIDTH }
     {
-        5_000 - self.width
+        APPROACH_WIDTH - self.width
+    }
+
+    /// How much half its width has grown where a point lies, in 80,000ths, times the length of the axis.
+    #[tactic(auto, using(grid_exact::proofs::Sizes::casts, crate::proofs::PadSizes::growth_size))]
+    fn grown(&self, at: &PadOffset) -> i128
+        ensures value { result ≡ (APPROACH_WIDTH -ℤ self.now.width) *ℤ at.now.offset.along }
+        ensures size { unsigned_abs result ≤ 2 ^ 53 }
+    {
+        scale(self.growth(), at.along())
     }
 
     /// How far a point is to a side less what half the width has grown, in 80,000ths, times the length of the axis.
-    fn outside(&self, point: &Point) -> i128
-        ensures value { result ≡ outside_of (approach_shape self.now) point.now }
+    fn outside(&self, at: &PadOffset) -> i128
+        ensures value { result ≡ outside_of (approach_shape self.now) at.now.offset }
         ensures size { unsigned_abs result ≤ 2 ^ 57 }
     {
-        minus(
-            scale(80_000, self.axis.aside(point)),
-            scale(self.growth(), self.axis.along(point)),
+        minus(scale(SIDE_SCALE, at.aside()), self.grown(at))
+    }
+
+    /// Where a point lies by it.
+    fn place(&self, at: &PadOffset) -> PadPlace
+        ensures { place_shape result ≡ approach_place (approach_shape self.now) at.now.offset }
+    {
+        PadPlace {
+            is_along: at.is_ahead(),
+            out: self.outside(at),
+            edge: product(APPROACH_LENGTH, self.width),
+            aside: at.aside(),
+            square: at.square(),
+        }
+    }
+
+    /// Its heights, over a point that it covers.
+    fn heights(&self, at: &PadOffset) -> Slope
+        requires covered { is_covered (approach_place (approach_shape self.now) at.now.offset) ≡ true }
+        ensures { slope_heights result ≡ approach_heights (approach_shape self.now) at.now.offset }
+    {
+        Slope::rising(
+            at.along(),
+            self.slope,
+            product(self.slope, self.z),
+            at.square(),
         )
-    }
-
-    /// Whether a point is within half the width there.
-    fn is_not_beside(&self, point: &Point) -> bool
-        ensures { IsTrue result ↔ AtMostRoot (outside_of (approach_shape self.now) point.now) (pos 40000 *ℤ self.now.width) (square (pad_line self.now.axis)) }
-    {
-        is_at_most_root(
-            self.outside(point),
-            product(40_000, self.width),
-            self.axis.square(),
-        )
-    }
-
-    /// Whether a point is at least half the width there from the axis.
-    fn is_beside(&self, point: &Point) -> bool
-        ensures { IsTrue result ↔ AtLeastRoot (outside_of (approach_shape self.now) point.now) (pos 40000 *ℤ self.now.width) (square (pad_line self.now.axis)) }
-    {
-        is_at_least_root(
-            self.outside(point),
-            product(40_000, self.width),
-            self.axis.square(),
-        )
-    }
-
-    /// Whether it covers a point.
-    fn covers(&self, point: &Point) -> bool
-        ensures { IsTrue result ↔ ApproachCovers (approach_shape self.now) point.now }
-    {
-        self.axis.is_ahead(point) && self.axis.is_not_past(point) && self.is_not_beside(point)
-    }
-
-    /// Whether a transitional surface beside it covers a point.
-    fn covers_beside(&self, point: &Point) -> bool
-        ensures { IsTrue result ↔ ApproachSideCovers (approach_shape self.now) point.now }
-    {
-        self.axis.is_ahead(point)
-            && self.axis.is_not_past(point)
-            && self.is_beside(point)
-            && self.axis.is_not_far(point)
     }
 
     /// How far `top` is above it at a point, or `None` where it is not above, or the surface does not cover the point.
-    pub(crate) fn excess(&self, point: &Point, top: i64) -> Option<u32>
+    pub(crate) fn excess(&self, at: &PadOffset, top: i64) -> Option<u32>
         requires top { IsLevel top }
-        ensures exact { IsExcess (approach (approach_shape self.now) point.now) top result }
-        ensures size { IfSome result (λ e. e ≤ 2 ^ 26) }
+        ensures { result ≡ excess_over_approach (approach_shape self.now) at.now.offset top }
     {
-        if !self.covers(point) {
+        if !self.place(at).is_covered() {
             return None;
         }
-        let base = product(self.slope, self.z);
-        Slope::rising(self.axis.along(point), self.slope, base, self.axis.square()).excess(top)
+        self.heights(at).excess(top)
+    }
+
+    /// How far a point is to a side less what half the width has grown, in 80,000ths, times the slope and the length of the axis.
+    #[tactic(auto, using(grid_exact::proofs::Sizes::casts, crate::proofs::PadSizes::sloped_size))]
+    fn sloped_outside(&self, at: &PadOffset) -> i128
+        ensures value { result ≡ self.now.slope *ℤ outside_of (approach_shape self.now) at.now.offset }
+        ensures size { unsigned_abs result ≤ 10 * 2 ^ 57 }
+    {
+        scale(self.slope, self.outside(at))
     }
 
     /// The height over the elevation that the slopes outward and to a side give, times 160,000 and the slope and the length of the
     /// axis.
-    fn raised(&self, point: &Point) -> i128
-        ensures value { result ≡ raised_of (approach_shape self.now) point.now }
+    fn raised(&self, at: &PadOffset) -> i128
+        ensures value { result ≡ raised_of (approach_shape self.now) at.now.offset }
         ensures size { unsigned_abs result < 2 ^ 63 }
     {
-        plus(
-            scale(self.slope, self.outside(point)),
-            scale(160_000, self.axis.along(point)),
-        )
+        plus(self.sloped_outside(at), scale(RISE_SCALE, at.along()))
     }
 
     /// 160,000 times the slope.
     fn steepness(&self) -> i64
-        ensures value { result ≡ pos 160000 *ℤ self.now.slope }
+        ensures value { result ≡ RISE_SCALE *ℤ self.now.slope }
         ensures least { pos 0 <ℤ result }
         ensures size { unsigned_abs result ≤ 2 ^ 21 }
     {
-        160_000 * self.slope
+        RISE_SCALE * self.slope
+    }
+
+    /// Four times the height of the slope to a side taken back to the axis, times the slope.
+    #[tactic(auto, using(grid_exact::proofs::Sizes::casts, crate::proofs::PadSizes::side_height_size))]
+    fn side_height(&self) -> i128
+        ensures value { result ≡ self.now.slope *ℤ at_axis self.now.z self.now.width }
+        ensures size { unsigned_abs result ≤ 10 * 2 ^ 21 }
+    {
+        scale(self.slope, height_at_axis(self.z, self.width))
     }
 
     /// The height of the slope to a side taken back to the axis, times 160,000 and the slope.
     fn foot(&self) -> i128
-        ensures value { result ≡ pos 40000 *ℤ (self.now.slope *ℤ at_axis self.now.z self.now.width) }
+        ensures value { result ≡ APPROACH_LENGTH *ℤ (self.now.slope *ℤ at_axis self.now.z self.now.width) }
         ensures size { unsigned_abs result ≤ 2 ^ 41 }
     {
-        scale(
-            40_000,
-            scale(self.slope, height_at_axis(self.z, self.width)),
-        )
+        scale(APPROACH_LENGTH, self.side_height())
+    }
+
+    /// The heights of a transitional surface beside it, over a point that it covers.
+    fn side(&self, at: &PadOffset) -> Slope
+        requires covered { is_covered_beside (approach_place (approach_shape self.now) at.now.offset) ≡ true }
+        ensures { slope_heights result ≡ approach_side_heights (approach_shape self.now) at.now.offset }
+    {
+        // its factor is 160,000 times a slope, too steep for `Slope::rising`, and its root short enough for this
+        Slope::rising_short(self.raised(at), self.steepness(), self.foot(), at.square())
     }
 
     /// How far `top` is above the transitional surface beside it, or `None` where it is not above, or the surface does not cover the
     /// point.
-    pub(crate) fn excess_beside(&self, point: &Point, top: i64) -> Option<u32>
+    pub(crate) fn excess_beside(&self, at: &PadOffset, top: i64) -> Option<u32>
         requires top { IsLevel top }
-        ensures exact { IsExcess (approach_side (approach_shape self.now) point.now) top result }
-        ensures size { IfSome result (λ e. e ≤ 2 ^ 26) }
+        ensures { result ≡ excess_over_approach_side (approach_shape self.now) at.now.offset top }
     {
-        if !self.covers_beside(point) {
+        if !self.place(at).is_covered_beside() {
             return None;
         }
-        Slope::rising_short(
-            self.raised(point),
-            self.steepness(),
-            self.foot(),
-            self.axis.square(),
-        )
-        .excess(top)
+        self.side(at).excess(top)
     }
 }

@@ -1,12 +1,12 @@
 //! How a point lies off a takeoff and landing area, and how far away.
 
 ghost use Rattle.std.specs.Prelude.{◌≡◌, ◌↔◌, ◌+◌, ◌*◌, ◌^◌, ◌<◌, ◌≤◌, pos, IsTrue, unsigned_abs};
+ghost use Rattle.std.specs.Ordering.{is_le as is_le_of, is_lt as is_lt_of};
 ghost use Rattle.heliport_surfaces.specs.Sizes.{HasGapSizes};
 
-use grid_exact::{is_at_most_root, is_below_root, minus};
-
-/// How far the slope of notice reaches, 77.9(b)(3): 5,000 feet.
-const NOTICE_REACH: u128 = 50_000;
+use crate::rules::NOTICE_RANGE;
+use grid_exact::{cmp_root, is_at_most_root, minus};
+use std::cmp::Ordering;
 
 /// How a point lies off a takeoff and landing area.
 #[derive(Clone, Copy)]
@@ -31,27 +31,28 @@ fn signed(value: u128) -> i128
 }
 
 impl LandingGap {
-    ghost use Rattle.heliport_surfaces.specs.Notices.{IsClose, IsNearer, IsWithin, corner as corner_of, is_in_line as is_in_line_of};
+    ghost use Rattle.heliport_surfaces.specs.Notices.{IsClose, IsNearer, IsWithin, corner as corner_of, is_in_line as is_in_line_of, is_within};
     ghost use Rattle.heliport_surfaces.specs.Shapes.{gap_shape};
 
     /// Whether the point is at most 5,000 feet before or past the ends of the axis.
     fn is_near_ends(&self) -> bool
-        ensures { IsTrue result ↔ (self.now.beyond * self.now.beyond ≤ 50000 * 50000 * self.now.square) }
+        ensures { IsTrue result ↔ (self.now.beyond * self.now.beyond ≤ NOTICE_RANGE * NOTICE_RANGE * self.now.square) }
     {
-        self.beyond * self.beyond <= NOTICE_REACH * NOTICE_REACH * self.square
+        self.beyond * self.beyond <= NOTICE_RANGE * NOTICE_RANGE * self.square
     }
 
     /// Whether the point is at most 5,000 feet to a side of the area or of what extends it.
     fn is_near_sides(&self) -> bool
-        ensures { IsTrue result ↔ (4 * (self.now.aside * self.now.aside) ≤ (2 * 50000 + self.now.width) * (2 * 50000 + self.now.width) * self.now.square) }
+        ensures { IsTrue result ↔ (4 * (self.now.aside * self.now.aside) ≤ (2 * NOTICE_RANGE + self.now.width) * (2 * NOTICE_RANGE + self.now.width) * self.now.square) }
     {
-        let reach = 2 * NOTICE_REACH + self.width;
+        let reach = 2 * NOTICE_RANGE + self.width;
         4 * (self.aside * self.aside) <= reach * reach * self.square
     }
 
-    /// Whether the point is at most 5,000 feet away in each of the two directions.
+    /// Whether the point is at most 5,000 feet away in each of the two directions. It is tested before the distance is, since the
+    /// products that the distance takes would not fit for a point at the other end of the grid.
     fn is_close(&self) -> bool
-        ensures { IsTrue result ↔ IsClose (gap_shape self.now) 50000 }
+        ensures { IsTrue result ↔ IsClose (gap_shape self.now) NOTICE_RANGE }
     {
         self.is_near_ends() && self.is_near_sides()
     }
@@ -65,7 +66,7 @@ impl LandingGap {
 
     /// Four times the squares of the ways beyond and aside, and the square of the width times that of the axis.
     fn squares(&self) -> i128
-        requires close { IsClose (gap_shape self.now) 50000 }
+        requires close { IsClose (gap_shape self.now) NOTICE_RANGE }
         ensures value { result ≡ pos (4 * (self.now.beyond * self.now.beyond) + 4 * (self.now.aside * self.now.aside) + self.now.width * self.now.width * self.now.square) }
         ensures size { unsigned_abs result ≤ 2 ^ 61 }
     {
@@ -76,7 +77,7 @@ impl LandingGap {
 
     /// Four times the square of a distance, times that of the axis.
     fn reach(&self, distance: u128) -> i128
-        requires distance { distance ≤ 50000 }
+        requires distance { distance ≤ NOTICE_RANGE }
         ensures value { result ≡ pos (4 * (distance * distance) * self.now.square) }
         ensures size { unsigned_abs result ≤ 2 ^ 61 }
     {
@@ -85,8 +86,8 @@ impl LandingGap {
 
     /// What of the comparison with a distance from a corner has no root.
     fn corner(&self, distance: u128) -> i128
-        requires close { IsClose (gap_shape self.now) 50000 }
-        requires distance { distance ≤ 50000 }
+        requires close { IsClose (gap_shape self.now) NOTICE_RANGE }
+        requires distance { distance ≤ NOTICE_RANGE }
         ensures value { result ≡ corner_of (gap_shape self.now) distance }
         ensures size { unsigned_abs result < 2 ^ 63 }
     {
@@ -95,41 +96,30 @@ impl LandingGap {
 
     /// What of it is times the root.
     fn edge(&self) -> i128
-        requires close { IsClose (gap_shape self.now) 50000 }
+        requires close { IsClose (gap_shape self.now) NOTICE_RANGE }
         ensures value { result ≡ pos (4 * self.now.aside * self.now.width) }
         ensures size { unsigned_abs result ≤ 2 ^ 44 }
     {
         signed(4 * self.aside * self.width)
     }
 
-    /// Whether the point is at most this far from the area.
-    pub(crate) fn is_within(&self, distance: u128) -> bool
-        requires close { IsClose (gap_shape self.now) 50000 }
-        requires distance { distance ≤ 50000 }
-        ensures { IsTrue result ↔ IsWithin (gap_shape self.now) distance }
+    /// Compares how far the point is from the area with this distance.
+    pub(crate) fn compare(&self, distance: u128) -> Ordering
+        requires close { IsClose (gap_shape self.now) NOTICE_RANGE }
+        requires distance { distance ≤ NOTICE_RANGE }
+        ensures within { IsTrue (is_le_of result) ↔ IsWithin (gap_shape self.now) distance }
+        ensures nearer { IsTrue (is_lt_of result) ↔ IsNearer (gap_shape self.now) distance }
     {
         if self.is_in_line() {
-            return is_at_most_root(signed(self.beyond), signed(distance), self.square);
+            return cmp_root(signed(self.beyond), signed(distance), self.square);
         }
-        is_at_most_root(self.corner(distance), self.edge(), self.square)
-    }
-
-    /// Whether the point is nearer to the area than this.
-    pub(crate) fn is_nearer(&self, distance: u128) -> bool
-        requires close { IsClose (gap_shape self.now) 50000 }
-        requires distance { distance ≤ 50000 }
-        ensures { IsTrue result ↔ IsNearer (gap_shape self.now) distance }
-    {
-        if self.is_in_line() {
-            return is_below_root(signed(self.beyond), signed(distance), self.square);
-        }
-        is_below_root(self.corner(distance), self.edge(), self.square)
+        cmp_root(self.corner(distance), self.edge(), self.square)
     }
 
     /// Whether the point is at most 5,000 feet from the area.
     pub(crate) fn is_near(&self) -> bool
-        ensures { IsTrue result ↔ IsWithin (gap_shape self.now) 50000 }
+        ensures { result ≡ is_within (gap_shape self.now) NOTICE_RANGE }
     {
-        self.is_close() && self.is_within(NOTICE_REACH)
+        self.is_close() && self.compare(NOTICE_RANGE).is_le()
     }
 }

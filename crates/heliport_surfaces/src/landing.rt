@@ -1,18 +1,17 @@
-//! The takeoff and landing area: the primary surface, and the transitional surfaces beside it.
+//! The takeoff and landing area: the primary surface, the transitional surfaces beside it, and the slope of notice.
 
-ghost use Rattle.std.specs.Prelude.{◌≡◌, ◌↔◌, ◌*◌, ◌^◌, ◌<◌, ◌≤◌, ◌<ℤ◌, ◌≤ℤ◌, pos, IsTrue, IfSome, unsigned_abs};
-ghost use Rattle.grid_exact.specs.Excess.{IsExcess};
+ghost use Rattle.std.specs.Prelude.{◌≡◌, ◌^◌, ◌≤◌, true, unsigned_abs};
 ghost use Rattle.grid_exact.specs.Level.{IsLevel};
-ghost use Rattle.grid_exact.specs.Root.{AtLeastRoot, AtMostRoot};
 ghost use Rattle.heliport_surfaces.specs.Landings.{at_axis};
 ghost use Rattle.heliport_surfaces.specs.Sizes.{HasPadSizes};
 
 use crate::axis::PadAxis;
 use crate::gap::LandingGap;
 use crate::notice::NoticeSlope;
-use grid_exact::{
-    Point, Slope, excess, flat_excess, is_at_least_root, is_at_most_root, minus, product, scale,
-};
+use crate::offset::PadOffset;
+use crate::place::PadPlace;
+use crate::rules::SIDE_SLOPE;
+use grid_exact::{Slope, excess, flat_excess, minus, product};
 
 /// The takeoff and landing area of a heliport.
 #[derive(Clone, Copy)]
@@ -30,127 +29,83 @@ pub(crate) fn height_at_axis(z: i64, width: i64) -> i128
     ensures value { result ≡ at_axis z width }
     ensures size { unsigned_abs result ≤ 2 ^ 21 }
 {
-    minus(product(4, z), width as i128)
+    minus(product(SIDE_SLOPE, z), width as i128)
 }
 
 impl LandingArea {
-    ghost use Rattle.grid_exact.specs.Lines.{along, aside, square};
-    ghost use Rattle.heliport_surfaces.specs.Axes.{pad_line};
-    ghost use Rattle.heliport_surfaces.specs.Landings.{PrimaryCovers, PrimarySideCovers, primary, primary_side};
-    ghost use Rattle.heliport_surfaces.specs.Notices.{beyond_ends, gap as gap_of, notice};
-    ghost use Rattle.heliport_surfaces.specs.Shapes.{gap_shape, landing_shape};
+    ghost use Rattle.heliport_surfaces.specs.Landings.{primary_place, primary_side_heights, excess_over_primary, excess_over_primary_side};
+    ghost use Rattle.heliport_surfaces.specs.Notices.{gap as gap_of, excess_over_notice};
+    ghost use Rattle.heliport_surfaces.specs.Places.{is_covered_beside};
+    ghost use Rattle.heliport_surfaces.specs.Shapes.{gap_shape, landing_shape, place_shape, slope_heights};
 
-    /// Twice how far a point is to a side, times the length of the axis.
-    fn twice_aside(&self, point: &Point) -> i128
-        ensures value { result ≡ pos (2 * aside (pad_line self.now.axis) point.now) }
-        ensures size { unsigned_abs result ≤ 2 ^ 41 }
+    /// Where a point lies by the primary surface.
+    fn place(&self, at: &PadOffset) -> PadPlace
+        ensures { place_shape result ≡ primary_place (landing_shape self.now) at.now.offset }
     {
-        scale(2, self.axis.aside(point))
-    }
-
-    /// Whether a point is at most half the width from the axis.
-    fn is_not_beside(&self, point: &Point) -> bool
-        ensures { IsTrue result ↔ AtMostRoot (pos (2 * aside (pad_line self.now.axis) point.now)) self.now.width (square (pad_line self.now.axis)) }
-    {
-        is_at_most_root(
-            self.twice_aside(point),
-            self.width as i128,
-            self.axis.square(),
-        )
-    }
-
-    /// Whether a point is at least half the width from the axis.
-    fn is_beside(&self, point: &Point) -> bool
-        ensures { IsTrue result ↔ AtLeastRoot (pos (2 * aside (pad_line self.now.axis) point.now)) self.now.width (square (pad_line self.now.axis)) }
-    {
-        is_at_least_root(
-            self.twice_aside(point),
-            self.width as i128,
-            self.axis.square(),
-        )
-    }
-
-    /// Whether the primary surface covers a point.
-    fn covers(&self, point: &Point) -> bool
-        ensures { IsTrue result ↔ PrimaryCovers (landing_shape self.now) point.now }
-    {
-        self.axis.is_past_start(point)
-            && self.axis.is_before_end(point)
-            && self.is_not_beside(point)
-    }
-
-    /// Whether a transitional surface beside the primary one covers a point.
-    fn covers_beside(&self, point: &Point) -> bool
-        ensures { IsTrue result ↔ PrimarySideCovers (landing_shape self.now) point.now }
-    {
-        self.axis.is_past_start(point)
-            && self.axis.is_before_end(point)
-            && self.is_beside(point)
-            && self.axis.is_not_far(point)
+        PadPlace {
+            is_along: at.is_between_ends(),
+            out: at.twice_aside(),
+            edge: self.width as i128,
+            aside: at.aside(),
+            square: at.square(),
+        }
     }
 
     /// How far `top` is above the primary surface at a point, or `None` where it is not above, or the surface does not cover the
     /// point.
-    pub(crate) fn excess(&self, point: &Point, top: i64) -> Option<u32>
+    pub(crate) fn excess(&self, at: &PadOffset, top: i64) -> Option<u32>
         requires top { IsLevel top }
-        ensures exact { IsExcess (primary (landing_shape self.now) point.now) top result }
-        ensures size { IfSome result (λ e. e ≤ 2 ^ 26) }
+        ensures { result ≡ excess_over_primary (landing_shape self.now) at.now.offset top }
     {
-        if !self.covers(point) {
+        if !self.place(at).is_covered() {
             return None;
         }
         flat_excess(self.z, top)
     }
 
-    /// How far `top` is above the transitional surface beside the primary one, or `None` where it is not above, or the surface does
-    /// not cover the point.
-    pub(crate) fn excess_beside(&self, point: &Point, top: i64) -> Option<u32>
-        requires top { IsLevel top }
-        ensures exact { IsExcess (primary_side (landing_shape self.now) point.now) top result }
-        ensures size { IfSome result (λ e. e ≤ 2 ^ 26) }
+    /// The heights of a transitional surface beside the primary one, over a point that it covers.
+    fn side(&self, at: &PadOffset) -> Slope
+        requires covered { is_covered_beside (primary_place (landing_shape self.now) at.now.offset) ≡ true }
+        ensures { slope_heights result ≡ primary_side_heights (landing_shape self.now) at.now.offset }
     {
-        if !self.covers_beside(point) {
-            return None;
-        }
-        let base = height_at_axis(self.z, self.width);
-        Slope::rising(self.twice_aside(point), 4, base, self.axis.square()).excess(top)
+        Slope::rising(
+            at.twice_aside(),
+            SIDE_SLOPE,
+            height_at_axis(self.z, self.width),
+            at.square(),
+        )
     }
 
-    /// How far a point is before or past the ends of the axis, times its length.
-    fn beyond(&self, point: &Point) -> u128
-        ensures value { result ≡ beyond_ends (along (pad_line self.now.axis) point.now) (square (pad_line self.now.axis)) }
-        ensures size { result ≤ 2 ^ 41 }
+    /// How far `top` is above the transitional surface beside the primary one, or `None` where it is not above, or the surface does
+    /// not cover the point.
+    pub(crate) fn excess_beside(&self, at: &PadOffset, top: i64) -> Option<u32>
+        requires top { IsLevel top }
+        ensures { result ≡ excess_over_primary_side (landing_shape self.now) at.now.offset top }
     {
-        let along = self.axis.along(point);
-        if along < 0 {
-            return along.unsigned_abs();
+        if !self.place(at).is_covered_beside() {
+            return None;
         }
-        let square = self.axis.square() as i128;
-        if square < along {
-            return (along - square).unsigned_abs();
-        }
-        0
+        self.side(at).excess(top)
     }
 
     /// How a point lies off the area.
-    fn gap(&self, point: &Point) -> LandingGap
-        ensures shape { gap_shape result ≡ gap_of (landing_shape self.now) point.now }
+    fn gap(&self, at: &PadOffset) -> LandingGap
+        ensures { gap_shape result ≡ gap_of (landing_shape self.now) at.now.offset }
     {
         LandingGap {
-            beyond: self.beyond(point),
-            aside: self.axis.aside(point).unsigned_abs(),
+            beyond: at.beyond(),
+            aside: at.aside().unsigned_abs(),
             width: self.width.unsigned_abs() as u128,
-            square: self.axis.square(),
+            square: at.square(),
         }
     }
 
     /// How far `top` is above the slope of notice at a point, or `None` where it is not above, or the slope does not reach the point.
-    pub(crate) fn excess_notice(&self, point: &Point, top: i64) -> Option<u32>
+    pub(crate) fn excess_notice(&self, at: &PadOffset, top: i64) -> Option<u32>
         requires top { IsLevel top }
-        ensures exact { IsExcess (notice (landing_shape self.now) point.now) top result }
-        ensures size { IfSome result (λ e. e ≤ 2 ^ 26) }
+        ensures { result ≡ excess_over_notice (landing_shape self.now) at.now.offset top }
     {
-        let gap = self.gap(point);
+        let gap = self.gap(at);
         if !gap.is_near() {
             return None;
         }

@@ -6,13 +6,20 @@ mod approach;
 mod axis;
 mod gap;
 mod landing;
+mod laws;
 mod notice;
+mod offset;
 mod pad;
 mod parts;
+mod place;
 mod prepare;
+mod rules;
 
+pub use laws::{
+    pad_approach_excess_is, pad_notice_excess_is, pad_primary_excess_is, pad_transition_excess_is,
+};
 pub use pad::Pad;
-pub use parts::{Beside, PadEnd};
+pub use parts::{Beside, PadEnd, PadExcesses};
 
 #[cfg(test)]
 mod tests;

@@ -1,11 +1,16 @@
 //! The slope of notice near a heliport.
 
-ghost use Rattle.std.specs.Prelude.{◌≡◌, ◌*◌, ◌^◌, ◌≤◌, ◌-ℤ◌, ◌+ℤ◌, ◌≤ℤ◌, pos, unsigned_abs, IsTrue};
+ghost use Rattle.std.specs.Prelude.{◌≡◌, ◌↔◌, ◌*◌, ◌^◌, ◌≤◌, ◌-ℤ◌, ◌+ℤ◌, ◌≤ℤ◌, unsigned_abs, IsTrue};
+ghost use Rattle.std.specs.Ordering.{is_le as is_le_of, is_lt as is_lt_of};
+ghost use Rattle.grid_exact.specs.Level.{IsLevel};
 ghost use Rattle.heliport_surfaces.specs.Notices.{is_within};
 ghost use Rattle.heliport_surfaces.specs.Shapes.{gap_shape};
+ghost use Rattle.heliport_surfaces.specs.declared.rules.TheConstants.{NOTICE_RANGE};
 
 use crate::gap::LandingGap;
+use crate::rules::{NOTICE_RISE, NOTICE_SLOPE};
 use grid_exact::{Rising, Sloping};
+use std::cmp::Ordering;
 
 /// The slope of 77.9(b)(3), over a point that it reaches: 25 to 1 from the elevation of the heliport, away from the takeoff and
 /// landing area.
@@ -14,14 +19,16 @@ pub(crate) struct NoticeSlope {
     gap: LandingGap,
     z: i64,
     ghost low: { unsigned_abs z ≤ 2 ^ 18 },
-    ghost near: { IsTrue (is_within (gap_shape gap) 50000) },
+    ghost near: { IsTrue (is_within (gap_shape gap) NOTICE_RANGE) },
 }
 
 impl NoticeSlope {
+    ghost use Rattle.heliport_surfaces.specs.Notices.{IsAboveNotice, IsAtNotice};
+
     /// The slope over a point that it reaches, by how the point lies off the area and the elevation of the heliport.
     pub(crate) fn new(gap: LandingGap, z: i64) -> NoticeSlope
         requires low { unsigned_abs z ≤ 2 ^ 18 }
-        requires near { IsTrue (is_within (gap_shape gap) 50000) }
+        requires near { IsTrue (is_within (gap_shape gap) NOTICE_RANGE) }
         ensures gap { gap_shape result.gap ≡ gap_shape gap }
         ensures z { result.z ≡ z }
     {
@@ -31,11 +38,26 @@ impl NoticeSlope {
     /// The distance at which it is as high as a level, which is up to 200 feet over the elevation.
     fn distance(&self, level: i64) -> u128
         requires low { self.now.z ≤ℤ level }
-        requires high { level ≤ℤ (self.now.z +ℤ pos 2000) }
-        ensures value { result ≡ 25 * unsigned_abs (level -ℤ self.now.z) }
-        ensures size { result ≤ 50000 }
+        requires high { level ≤ℤ (self.now.z +ℤ NOTICE_RISE) }
+        ensures value { result ≡ NOTICE_SLOPE * unsigned_abs (level -ℤ self.now.z) }
+        ensures size { result ≤ NOTICE_RANGE }
     {
-        25 * (level - self.z).unsigned_abs() as u128
+        NOTICE_SLOPE * (level - self.z).unsigned_abs() as u128
+    }
+
+    /// Compares its height with a level.
+    fn compare(&self, level: i64) -> Ordering
+        requires { IsLevel level }
+        ensures reached { IsTrue (is_le_of result) ↔ IsAtNotice self.now.z (gap_shape self.now.gap) level }
+        ensures exceeded { IsTrue (is_lt_of result) ↔ IsAboveNotice self.now.z (gap_shape self.now.gap) level }
+    {
+        if level < self.z {
+            return Ordering::Greater;
+        }
+        if self.z + NOTICE_RISE < level {
+            return Ordering::Less;
+        }
+        self.gap.compare(self.distance(level))
     }
 }
 
@@ -46,13 +68,7 @@ impl Rising for NoticeSlope {
     ghost reaches = { λ s z. IsAtNotice s.z (gap_shape s.gap) z };
 
     fn is_reached(&self, level: i64) -> bool {
-        if level < self.z {
-            return false;
-        }
-        if self.z + 2_000 < level {
-            return true;
-        }
-        self.gap.is_within(self.distance(level))
+        self.compare(level).is_le()
     }
 
     ghost rises = { λ s y z h k. notice_rises s.z (gap_shape s.gap) y z h k };
@@ -65,13 +81,7 @@ impl Sloping for NoticeSlope {
     ghost exceeds = { λ s z. IsAboveNotice s.z (gap_shape s.gap) z };
 
     fn is_exceeded(&self, level: i64) -> bool {
-        if level < self.z {
-            return false;
-        }
-        if self.z + 2_000 < level {
-            return true;
-        }
-        self.gap.is_nearer(self.distance(level))
+        self.compare(level).is_lt()
     }
 
     ghost exceeds_reaches = { λ s z h. above_reaches s.z (gap_shape s.gap) z h };

@@ -2,7 +2,8 @@
 
 ghost use Rattle.std.specs.Prelude.{◌≡◌, ◌*◌, ◌≤◌, ◌-ℤ◌};
 ghost use Rattle.grid_exact.specs.Vector.{length_of};
-ghost use Rattle.airport_register.specs.Airfields.{IsHeldHeliport};
+ghost use Rattle.airfields.specs.Airfields.{IsHeldHeliport};
+ghost use Rattle.airfields.specs.declared.limits.TheConstants.{HELIPORT_AXIS_LEAST, HELIPORT_AXIS_MOST};
 ghost use Rattle.heliport_surfaces.specs.Sizes.{IsPadSlope};
 ghost use Rattle.heliport_surfaces.specs.Axes.{pad_line};
 ghost use Rattle.heliport_surfaces.specs.Shapes.{landing_shape, approach_shape};
@@ -12,13 +13,14 @@ use crate::approach::PadApproach;
 use crate::axis::PadAxis;
 use crate::landing::LandingArea;
 use crate::parts::PadEnd;
-use airport_register::Heliport;
+use crate::rules::{CIVIL_SLOPE, MILITARY_SLOPE};
+use airfields::Heliport;
 use grid_exact::{Axis, Point, Start, Vector};
 
 /// The axis that starts at a point and reaches as far as the way from one point to another.
 fn axis_from(start: &Point, from: &Point, to: &Point) -> PadAxis
-    requires least { 100 * 100 ≤ length_of (to.now.x -ℤ from.now.x) (to.now.y -ℤ from.now.y) }
-    requires most { length_of (to.now.x -ℤ from.now.x) (to.now.y -ℤ from.now.y) ≤ 10000 * 10000 }
+    requires least { HELIPORT_AXIS_LEAST * HELIPORT_AXIS_LEAST ≤ length_of (to.now.x -ℤ from.now.x) (to.now.y -ℤ from.now.y) }
+    requires most { length_of (to.now.x -ℤ from.now.x) (to.now.y -ℤ from.now.y) ≤ HELIPORT_AXIS_MOST * HELIPORT_AXIS_MOST }
     ensures line { pad_line result ≡ line_from start.now from.now to.now }
 {
     PadAxis {
@@ -57,7 +59,11 @@ fn slope(heliport: &Heliport) -> i64
     ensures value { result ≡ approach_slope heliport.now }
     ensures sloped { IsPadSlope result }
 {
-    if heliport.category.military() { 10 } else { 8 }
+    if heliport.category.military() {
+        MILITARY_SLOPE
+    } else {
+        CIVIL_SLOPE
+    }
 }
 
 /// The approach surface of this end.

@@ -1,5 +1,5 @@
 -- The arcs of an airport's runways are near its reference point.
-use Rattle.std.proofs.Common.{◌≤◌, ℕ, ℤ, ◌-ℤ◌, unsigned_abs, List, [], ◌∷◌, Bool, true, false, arith}
+use Rattle.std.proofs.Common.{◌≤◌, ℕ, ℤ, ◌-ℤ◌, unsigned_abs, List, [], ◌∷◌, Bool, true, false, if◌then◌else◌, arith}
 use Rattle.std.specs.List.{All, flat_map}
 use Rattle.std.proofs.lemmas.Int.{ints}
 use Rattle.std.proofs.lemmas.List.Elements.{All-append, All-cons, All-head, All-nil, All-tail}
@@ -7,19 +7,23 @@ use Rattle.grid_exact.specs.declared.point.Point.{Point}
 use Rattle.runway_classes.specs.declared.ApproachKind.{ApproachKind}
 use Rattle.runway_classes.specs.declared.ApproachKind.TheVariants.{Visual, NonprecisionAbove, NonprecisionLow, Precision}
 use Rattle.runway_classes.specs.Class.{more_precise, radius}
-use Rattle.airport_register.specs.declared.runway.Runway.{Runway}
-use Rattle.airport_register.specs.Runways.{HasNearEnds, apart, length_square}
+use Rattle.airfields.specs.declared.airfield.Airport.{Airport}
+use Rattle.airfields.specs.declared.limits.TheConstants.{RUNWAY_REACH}
+use Rattle.airfields.specs.declared.runway.Runway.{Runway}
+use Rattle.airfields.specs.Categories.{has_civil_surfaces}
+use Rattle.airfields.specs.Runways.{HasNearEnds, apart, length_square}
 use Rattle.runway_lines.specs.Centers.{center}
 use Rattle.runway_lines.specs.declared.end.End.TheVariants.{One, Two}
 use Rattle.runway_lines.proofs.CenterFacts.{extended_near}
-use Rattle.horizontal_hull.specs.Arcs.{arc, arcs_of_runway}
+use Rattle.horizontal_hull.specs.Arcs.{ArcShape, arc, arcs_of, arcs_of_runway}
+use Rattle.horizontal_hull.specs.declared.sizes.TheConstants.{ARC_MOST, CENTER_REACH}
 use Rattle.horizontal_hull.specs.Close.{IsNearReference}
 
-center_near : (hard : Bool) (here there arp : ℤ) (n : ℕ) → apart here arp ≤ 400000 → unsigned_abs (center hard here there n -ℤ arp) ≤ 402000
+center_near : (hard : Bool) (here there arp : ℤ) (n : ℕ) → apart here arp ≤ RUNWAY_REACH → unsigned_abs (center hard here there n -ℤ arp) ≤ CENTER_REACH
 center_near true here there arp n h = let e = extended_near here there n in omega (arith, ints, h, e.0, e.1)
 center_near false here there arp n h = omega (arith, h)
 
-radius_most : (utility : Bool) (most : ApproachKind) → unsigned_abs (radius utility most) ≤ 100000
+radius_most : (utility : Bool) (most : ApproachKind) → unsigned_abs (radius utility most) ≤ ARC_MOST
 radius_most true most = omega arith
 radius_most false Visual = omega arith
 radius_most false NonprecisionAbove = omega arith
@@ -40,10 +44,18 @@ second_near arp r h = record {
   radius = radius_most r.utility (more_precise r.end1.kind r.end2.kind);
 }
 
-pub arcs_near : (arp : Point) (runways : List Runway) → All (HasNearEnds arp) runways → All (IsNearReference arp) (flat_map arcs_of_runway runways)
-arcs_near arp [] h = All-nil (IsNearReference arp)
-arcs_near arp (r ∷ rs) h =
+runways_near : (arp : Point) (runways : List Runway) → All (HasNearEnds arp) runways → All (IsNearReference arp) (flat_map arcs_of_runway runways)
+runways_near arp [] h = All-nil (IsNearReference arp)
+runways_near arp (r ∷ rs) h =
     let ends = All-head (HasNearEnds arp) r rs h in
     All-append (IsNearReference arp) (arcs_of_runway r) (flat_map arcs_of_runway rs)
     (All-cons (IsNearReference arp) (arc r One) (arc r Two ∷ []) (first_near arp r ends) (All-cons (IsNearReference arp) (arc r Two) [] (second_near arp r ends) (All-nil (IsNearReference arp))))
-    (arcs_near arp rs (All-tail (HasNearEnds arp) r rs h))
+    (runways_near arp rs (All-tail (HasNearEnds arp) r rs h))
+
+-- with or without civil surfaces
+either_near : (arp : Point) (civil : Bool) (arcs : List ArcShape) → All (IsNearReference arp) arcs → All (IsNearReference arp) (if civil then arcs else [])
+either_near arp true arcs h = h
+either_near arp false arcs h = All-nil (IsNearReference arp)
+
+pub arcs_near : (a : Airport) → All (HasNearEnds a.arp) a.runways → All (IsNearReference a.arp) (arcs_of a)
+arcs_near a h = either_near a.arp (has_civil_surfaces a.category) (flat_map arcs_of_runway a.runways) (runways_near a.arp a.runways h)

@@ -14,7 +14,7 @@ use Rattle.horizontal_hull.specs.declared.edge.Edge.TheVariants.{Closed}
 use Rattle.horizontal_hull.specs.Arcs.{ArcShape}
 use Rattle.horizontal_hull.specs.Capsules.{InTapered, flare}
 
--- ---- |ey| * sqrt(T) is at most D2 + p * ex
+-- ---- |ey| * sqrt(T) is at most DD + p * ex
 twice_product : (a b : ℕ) → 2 * (a * b) ≤ a * a + b * b
 twice_product a b =
     elim (cases_lt a b) [
@@ -30,13 +30,13 @@ key_down a b p T K e k =
     omega (arith, ap (λ z. b * b * z) e, ap (λ z. K * z) k, ap (λ z. z * (p * a)) k, ap (λ z. z * (a * a + b * b)) k, mul-le-mul_left (a * a) (twice_product p a), mul-le-mul_left (b * b) (twice_product p a))
 
 -- ---- the band between the tangents
--- s = e . v, q = |e x v|, d = D2; the radii are r and r + p
+-- s = e . v, q = |e x v|, d = DD; the radii are r and r + p
 pub record Band (s : ℤ) (q d r p : ℕ) : Type 0 where
   pub after : AtMostRoot (neg_ℤ (pos (p * q))) s (d - p * p)
   pub before : AtMostRoot (pos (p * q)) (pos d -ℤ s) (d - p * p)
   pub under : AtLeastRoot (pos (r * d) +ℤ pos p *ℤ s) (pos q) (d - p * p)
 
--- what the sums come to; K = D2 + p * ex, and F is the size of ex + p
+-- what the sums come to; K = DD + p * ex, and F is the size of ex + p
 ahead_sum : (s vx : ℤ) (q b d r p F : ℕ) (ex : ℤ) → ex ≡ pos F -ℤ pos p → (pos d *ℤ vx) ≤ℤ (s *ℤ ex +ℤ pos (q * b)) →
     pos 0 ≤ℤ (pos (r * d) +ℤ pos p *ℤ s +ℤ neg_ℤ (pos (q * b)) +ℤ pos F *ℤ (pos d -ℤ s)) →
     (pos d *ℤ vx) ≤ℤ (pos d *ℤ (pos r +ℤ pos F))
@@ -62,7 +62,7 @@ behind_sum s vx q b d r p F ex e l h =
     let e6 = mul-neg s (pos F) in
     omega (arith, ints, e1, e2, e3, e4, e5, e6, l, h)
 
--- the root of ey * ey * T is at most D2 + p * ex, a natural
+-- the root of ey * ey * T is at most DD + p * ex, a natural
 pub record Key (ex ey : ℤ) (p T : ℕ) : Type 0 where
   pub size : ℕ
   pub is : pos size ≡ pos (length_of ex ey) +ℤ pos p *ℤ ex
@@ -80,7 +80,7 @@ key (negsuc a) ey p T e =
     record { size = K; is = omega (arith, ints, k); large = key_down (suc a) b p T K e k }
 
 -- a point of the band lies no farther east than one of the discs
-pub band_east : (ex ey vx vy : ℤ) (r p : ℕ) → p * p < length_of ex ey → Band (along_of ex ey vx vy) (unsigned_abs (across_of ex ey vx vy)) (length_of ex ey) r p → (vx ≤ℤ pos r) ⊎ (vx ≤ℤ (ex +ℤ pos (r + p)))
+band_east : (ex ey vx vy : ℤ) (r p : ℕ) → p * p < length_of ex ey → Band (along_of ex ey vx vy) (unsigned_abs (across_of ex ey vx vy)) (length_of ex ey) r p → (vx ≤ℤ pos r) ⊎ (vx ≤ℤ (ex +ℤ pos (r + p)))
 band_east ex ey vx vy r p l h =
     let d : ℕ = length_of ex ey in
     let T : ℕ = d - p * p in
@@ -139,7 +139,7 @@ band_east ex ey vx vy r p l h =
         zero_ahead q T K p F e = omega (arith, ints, ap (λ z. q * z) e)
 
 -- ---- the other three directions, by reflection
-pub band_west : (ex ey vx vy : ℤ) (r p : ℕ) → p * p < length_of ex ey → Band (along_of ex ey vx vy) (unsigned_abs (across_of ex ey vx vy)) (length_of ex ey) r p → (neg_ℤ (pos r) ≤ℤ vx) ⊎ ((ex -ℤ pos (r + p)) ≤ℤ vx)
+band_west : (ex ey vx vy : ℤ) (r p : ℕ) → p * p < length_of ex ey → Band (along_of ex ey vx vy) (unsigned_abs (across_of ex ey vx vy)) (length_of ex ey) r p → (neg_ℤ (pos r) ≤ℤ vx) ⊎ ((ex -ℤ pos (r + p)) ≤ℤ vx)
 band_west ex ey vx vy r p l h =
     let a : along_of (neg_ℤ ex) ey (neg_ℤ vx) vy ≡ along_of ex ey vx vy = omega (arith, ints, neg-mul ex vx) in
     let c : across_of (neg_ℤ ex) ey (neg_ℤ vx) vy ≡ neg_ℤ (across_of ex ey vx vy) = omega (arith, ints, *ℤ_comm (neg_ℤ ex) vy, mul-neg vy ex, *ℤ_comm vy ex, mul-neg ey vx) in
@@ -151,7 +151,7 @@ band_west ex ey vx vy r p l h =
     ]
 
 -- x and y change places
-pub band_north : (ex ey vx vy : ℤ) (r p : ℕ) → p * p < length_of ex ey → Band (along_of ex ey vx vy) (unsigned_abs (across_of ex ey vx vy)) (length_of ex ey) r p → (vy ≤ℤ pos r) ⊎ (vy ≤ℤ (ey +ℤ pos (r + p)))
+band_north : (ex ey vx vy : ℤ) (r p : ℕ) → p * p < length_of ex ey → Band (along_of ex ey vx vy) (unsigned_abs (across_of ex ey vx vy)) (length_of ex ey) r p → (vy ≤ℤ pos r) ⊎ (vy ≤ℤ (ey +ℤ pos (r + p)))
 band_north ex ey vx vy r p l h =
     let a : along_of ey ex vy vx ≡ along_of ex ey vx vy = omega (arith, ints) in
     let c : across_of ey ex vy vx ≡ neg_ℤ (across_of ex ey vx vy) = omega (arith, ints) in
@@ -159,7 +159,7 @@ band_north ex ey vx vy r p l h =
     let d : length_of ey ex ≡ length_of ex ey = omega arith in
     band_east ey ex vy vx r p (rw d l) (rw (a, q, d) h)
 
-pub band_south : (ex ey vx vy : ℤ) (r p : ℕ) → p * p < length_of ex ey → Band (along_of ex ey vx vy) (unsigned_abs (across_of ex ey vx vy)) (length_of ex ey) r p → (neg_ℤ (pos r) ≤ℤ vy) ⊎ ((ey -ℤ pos (r + p)) ≤ℤ vy)
+band_south : (ex ey vx vy : ℤ) (r p : ℕ) → p * p < length_of ex ey → Band (along_of ex ey vx vy) (unsigned_abs (across_of ex ey vx vy)) (length_of ex ey) r p → (neg_ℤ (pos r) ≤ℤ vy) ⊎ ((ey -ℤ pos (r + p)) ≤ℤ vy)
 band_south ex ey vx vy r p l h =
     let a : along_of ey ex vy vx ≡ along_of ex ey vx vy = omega (arith, ints) in
     let c : across_of ey ex vy vx ≡ neg_ℤ (across_of ex ey vx vy) = omega (arith, ints) in
@@ -168,7 +168,7 @@ band_south ex ey vx vy r p l h =
     band_west ey ex vy vx r p (rw d l) (rw (a, q, d) h)
 
 -- ---- a disc
-pub disc_along : (vx vy : ℤ) (r : ℕ) → length_of vx vy ≤ r * r → (neg_ℤ (pos r) ≤ℤ vx) × (vx ≤ℤ pos r)
+disc_along : (vx vy : ℤ) (r : ℕ) → length_of vx vy ≤ r * r → (neg_ℤ (pos r) ≤ℤ vx) × (vx ≤ℤ pos r)
 disc_along vx vy r h =
     let m : unsigned_abs vx ≤ r = le_from_squares (unsigned_abs vx) r (omega arith) in
     (omega (arith, ints, m), omega (arith, ints, m))

@@ -5,22 +5,23 @@ use Rattle.std.proofs.lemmas.Int.{ints}
 use Rattle.std.proofs.lemmas.List.Elements.{All-more, All-weaker}
 use Rattle.grid_exact.specs.declared.area.Area.{Area}
 use Rattle.grid_exact.specs.declared.point.Point.{Point}
+use Rattle.horizontal_hull.specs.declared.sizes.TheConstants.{ARC_MOST, CENTER_REACH, OUTER_MOST}
 use Rattle.horizontal_hull.specs.Arcs.{ArcShape}
 use Rattle.horizontal_hull.specs.Reaches.{IsReached}
 use Rattle.horizontal_hull.specs.Close.{IsAbout, IsSmallBox, IsWider}
 
 -- the box about a center
 pub record IsAround (x y : ℤ) (box : Area) : Type 0 where
-  pub west : box.x0 ≡ x -ℤ pos 140000
-  pub east : box.x1 ≡ x +ℤ pos 140000
-  pub south : box.y0 ≡ y -ℤ pos 140000
-  pub north : box.y1 ≡ y +ℤ pos 140000
+  pub west : box.x0 ≡ x -ℤ pos OUTER_MOST
+  pub east : box.x1 ≡ x +ℤ pos OUTER_MOST
+  pub south : box.y0 ≡ y -ℤ pos OUTER_MOST
+  pub north : box.y1 ≡ y +ℤ pos OUTER_MOST
 
-pub around_about : (arp : Point) (x y : ℤ) (box : Area) → unsigned_abs (x -ℤ arp.x) ≤ 402000 → unsigned_abs (y -ℤ arp.y) ≤ 402000 → IsAround x y box → IsAbout arp box
+pub around_about : (arp : Point) (x y : ℤ) (box : Area) → unsigned_abs (x -ℤ arp.x) ≤ CENTER_REACH → unsigned_abs (y -ℤ arp.y) ≤ CENTER_REACH → IsAround x y box → IsAbout arp box
 around_about arp x y box h k b =
     record { west = omega (arith, ints, h, b.west); east = omega (arith, ints, h, b.east); south = omega (arith, ints, k, b.south); north = omega (arith, ints, k, b.north) }
 
-pub around_reached : (a : ArcShape) (box : Area) → a.radius ≤ 100000 → IsAround a.x a.y box → IsReached box a
+pub around_reached : (a : ArcShape) (box : Area) → a.radius ≤ ARC_MOST → IsAround a.x a.y box → IsReached box a
 around_reached a box r b =
     record { west = omega (arith, ints, b.west); east = omega (arith, ints, b.east); south = omega (arith, ints, b.south); north = omega (arith, ints, b.north); radius = r }
 

@@ -5,15 +5,16 @@ use Rattle.std.proofs.lemmas.List.Elements.{All-head, All-tail, All-get_or}
 use Rattle.grid_exact.specs.declared.area.Area.{Area}
 use Rattle.grid_exact.specs.declared.point.Point.{Point}
 use Rattle.grid_exact.specs.Area.{Has}
+use Rattle.horizontal_hull.specs.declared.sizes.TheConstants.{BOX_SIDE, CENTERS_APART, OUTER_MOST, POINT_APART}
 use Rattle.horizontal_hull.specs.Arcs.{ArcShape}
 use Rattle.horizontal_hull.specs.Reaches.{IsReached}
 use Rattle.horizontal_hull.specs.Close.{AreClose, IsNearBoth, IsSmallBox}
 
 -- in one coordinate: two centers that lie inside by 140,000, and a point inside
-way_size : (low high a b : ℤ) → high ≤ℤ (low +ℤ pos 1084000) → (low +ℤ pos 140000) ≤ℤ a → (a +ℤ pos 140000) ≤ℤ high → (low +ℤ pos 140000) ≤ℤ b → (b +ℤ pos 140000) ≤ℤ high → unsigned_abs (b -ℤ a) ≤ 804000
+way_size : (low high a b : ℤ) → high ≤ℤ (low +ℤ pos BOX_SIDE) → (low +ℤ pos OUTER_MOST) ≤ℤ a → (a +ℤ pos OUTER_MOST) ≤ℤ high → (low +ℤ pos OUTER_MOST) ≤ℤ b → (b +ℤ pos OUTER_MOST) ≤ℤ high → unsigned_abs (b -ℤ a) ≤ CENTERS_APART
 way_size low high a b w h i j k = omega (arith, ints)
 
-point_size : (low high a x : ℤ) → high ≤ℤ (low +ℤ pos 1084000) → (low +ℤ pos 140000) ≤ℤ a → (a +ℤ pos 140000) ≤ℤ high → low ≤ℤ x → x ≤ℤ high → unsigned_abs (x -ℤ a) ≤ 944000
+point_size : (low high a x : ℤ) → high ≤ℤ (low +ℤ pos BOX_SIDE) → (low +ℤ pos OUTER_MOST) ≤ℤ a → (a +ℤ pos OUTER_MOST) ≤ℤ high → low ≤ℤ x → x ≤ℤ high → unsigned_abs (x -ℤ a) ≤ POINT_APART
 point_size low high a x w h i j k = omega (arith, ints)
 
 near_both : (box : Area) (a b : ArcShape) (x : Point) → IsSmallBox box → Has box x → IsReached box a → IsReached box b → IsNearBoth a b x

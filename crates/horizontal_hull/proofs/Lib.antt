@@ -5,8 +5,9 @@ pub mod Bounds
 pub mod Reach
 pub mod BoxFacts
 pub mod ArcFacts
-pub mod Sizes
-pub mod Caps
-pub mod Worked
+pub mod BandSizes
+pub mod Conical
+pub mod Listed
+pub mod Standings
 pub mod CloseFacts
 pub mod WithinFacts

@@ -1,5 +1,5 @@
 -- Nothing is within outside the box of the centers, grown by the greatest radius and the width of the conical surface.
-use Rattle.std.proofs.Common.{◌≡◌, inl, inr, Bool, true, false, List, ℕ, ◌+◌, ◌≤◌, ℤ, pos, negsuc, neg_ℤ, ◌+ℤ◌, ◌-ℤ◌, ◌*ℤ◌, ◌≤ℤ◌, ◌<ℤ◌, arith}
+use Rattle.std.proofs.Common.{◌≡◌, inl, inr, Bool, true, false, List, ℕ, ◌+◌, ◌≤◌, ℤ, pos, neg_ℤ, ◌+ℤ◌, ◌-ℤ◌, ◌*ℤ◌, ◌≤ℤ◌, ◌<ℤ◌, arith}
 use Rattle.std.specs.Prelude.{MatchBool, nat_le}
 use Rattle.std.specs.List.{All}
 use Rattle.std.proofs.Math.IntN.{*ℤ_comm}
@@ -8,9 +8,10 @@ use Rattle.grid_exact.specs.declared.area.Area.{Area}
 use Rattle.grid_exact.specs.declared.point.Point.{Point}
 use Rattle.grid_exact.specs.Area.{Has}
 use Rattle.grid_exact.specs.Vector.{across_of}
-use Rattle.grid_exact.proofs.IntLaws.{add-mul, cancel, mul-neg, mul-sub, rotated, sub-mul}
+use Rattle.grid_exact.proofs.IntLaws.{add-mul, mul-neg, mul-sub, product_up, rotated, sign_of_product, sub-mul}
 use Rattle.horizontal_hull.specs.declared.edge.Edge.{Edge}
 use Rattle.horizontal_hull.specs.declared.edge.Edge.TheVariants.{Closed, Open}
+use Rattle.horizontal_hull.specs.declared.sizes.TheConstants.{ARC_MOST, CONICAL_RUN, OUTER_MOST}
 use Rattle.horizontal_hull.specs.Arcs.{ArcShape}
 use Rattle.horizontal_hull.specs.Capsules.{InCapsule, InTapered}
 use Rattle.horizontal_hull.specs.Triangles.{InTriangle, IsInside, turn, turn_at}
@@ -21,7 +22,7 @@ use Rattle.horizontal_hull.proofs.Grows.{Within_closes}
 use Rattle.horizontal_hull.proofs.Bounds.{InGrown, tapered_in_grown}
 
 -- ---- capsules
-grown_in_reach : (reach : Area) (a b : ArcShape) (x : Point) → IsReached reach a → IsReached reach b → InGrown a.x a.y b.x b.y x.x x.y 140000 → Has reach x
+grown_in_reach : (reach : Area) (a b : ArcShape) (x : Point) → IsReached reach a → IsReached reach b → InGrown a.x a.y b.x b.y x.x x.y OUTER_MOST → Has reach x
 grown_in_reach reach a b x ra rb g = record {
   west = elim g.west [ inl h ↦ omega (arith, ints, h, ra.west) | inr h ↦ omega (arith, ints, h, rb.west) ];
   east = elim g.east [ inl h ↦ omega (arith, ints, h, ra.east) | inr h ↦ omega (arith, ints, h, rb.east) ];
@@ -29,18 +30,18 @@ grown_in_reach reach a b x ra rb g = record {
   north = elim g.north [ inl h ↦ omega (arith, ints, h, ra.north) | inr h ↦ omega (arith, ints, h, rb.north) ];
 }
 
-radius_reach : (r c : ℕ) → r ≤ 100000 → c ≤ 40000 → r + c ≤ 140000
+radius_reach : (r c : ℕ) → r ≤ ARC_MOST → c ≤ CONICAL_RUN → r + c ≤ OUTER_MOST
 radius_reach r c h k = omega arith
 
-tapered_in_reach : (reach : Area) (x : Point) (c : ℕ) → c ≤ 40000 → (a b : ArcShape) → IsReached reach a → IsReached reach b → InTapered Closed a b x c → Has reach x
+tapered_in_reach : (reach : Area) (x : Point) (c : ℕ) → c ≤ CONICAL_RUN → (a b : ArcShape) → IsReached reach a → IsReached reach b → InTapered Closed a b x c → Has reach x
 tapered_in_reach reach x c l a b ra rb h =
-    grown_in_reach reach a b x ra rb (tapered_in_grown a b x c 140000 (radius_reach a.radius c ra.radius l) (radius_reach b.radius c rb.radius l) h)
+    grown_in_reach reach a b x ra rb (tapered_in_grown a b x c OUTER_MOST (radius_reach a.radius c ra.radius l) (radius_reach b.radius c rb.radius l) h)
 
 either : {P Q G : Type 0} (b : Bool) → (P → G) → (Q → G) → MatchBool b P Q → G
 either true f g h = f h
 either false f g h = g h
 
-capsule_in_reach : (reach : Area) (x : Point) (c : ℕ) → c ≤ 40000 → (a b : ArcShape) → IsReached reach a → IsReached reach b → InCapsule Closed a b x c → Has reach x
+capsule_in_reach : (reach : Area) (x : Point) (c : ℕ) → c ≤ CONICAL_RUN → (a b : ArcShape) → IsReached reach a → IsReached reach b → InCapsule Closed a b x c → Has reach x
 capsule_in_reach reach x c l a b ra rb h = either (nat_le a.radius b.radius) (tapered_in_reach reach x c l a b ra rb) (tapered_in_reach reach x c l b a rb ra) h
 
 -- ---- triangles: all seen from the point
@@ -99,15 +100,6 @@ area_sum a b d x =
     let e4 : (d.x -ℤ x.x) -ℤ (a.x -ℤ x.x) ≡ d.x -ℤ a.x = omega (arith, ints) in
     rw (e1, e2, e3, e4) at h
 
-product_up : (a b : ℤ) → pos 0 ≤ℤ a → pos 0 ≤ℤ b → pos 0 ≤ℤ (a *ℤ b)
-product_up (pos a) (pos b) h k = omega (arith, ints)
-product_up (negsuc a) b h k = absurd (omega (arith, ints, h))
-product_up (pos a) (negsuc b) h k = absurd (omega (arith, ints, k))
-
-sign_of_product : (d x : ℤ) → pos 0 <ℤ d → pos 0 ≤ℤ (d *ℤ x) → pos 0 ≤ℤ x
-sign_of_product (pos d) x p h = cancel d (pos 0) x (omega (arith, ints, p)) (omega (arith, ints, h))
-sign_of_product (negsuc d) x p h = absurd (omega (arith, ints, p))
-
 -- three weights that balance za, zb and zd: what is at least each is not negative
 most_of : (f g h e za zb zd : ℤ) → pos 0 ≤ℤ f → pos 0 ≤ℤ g → pos 0 ≤ℤ h → pos 0 <ℤ (f +ℤ g +ℤ h) → za ≤ℤ e → zb ≤ℤ e → zd ≤ℤ e → f *ℤ za +ℤ g *ℤ zb +ℤ h *ℤ zd ≡ pos 0 → pos 0 ≤ℤ e
 most_of f g h e za zb zd pf pg ph d ha hb hd z =
@@ -154,17 +146,17 @@ inside_in_reach reach a b d x ra rb rd t =
     high : (m x : ℤ) → pos 0 ≤ℤ (m -ℤ x) → x ≤ℤ m
     high m x h = omega (arith, ints)
 
-    above : (m a x : ℤ) → (m +ℤ pos 140000) ≤ℤ a → (m -ℤ x) ≤ℤ (a -ℤ x)
+    above : (m a x : ℤ) → (m +ℤ pos OUTER_MOST) ≤ℤ a → (m -ℤ x) ≤ℤ (a -ℤ x)
     above m a x h = omega (arith, ints)
 
-    below : (m a x : ℤ) → (a +ℤ pos 140000) ≤ℤ m → (a -ℤ x) ≤ℤ (m -ℤ x)
+    below : (m a x : ℤ) → (a +ℤ pos OUTER_MOST) ≤ℤ m → (a -ℤ x) ≤ℤ (m -ℤ x)
     below m a x h = omega (arith, ints)
 
 triangle_in_reach : (reach : Area) (x : Point) → (a b d : ArcShape) → IsReached reach a → IsReached reach b → IsReached reach d → InTriangle a b d x → Has reach x
 triangle_in_reach reach x a b d ra rb rd h = elim h [ inl t ↦ inside_in_reach reach a b d x ra rb rd t | inr t ↦ inside_in_reach reach a d b x ra rd rb t ]
 
 -- ---- all together
-closed_reach : (reach : Area) (arcs : List ArcShape) (x : Point) (c : ℕ) → All (IsReached reach) arcs → c ≤ 40000 → Within Closed arcs x c → Has reach x
+closed_reach : (reach : Area) (arcs : List ArcShape) (x : Point) (c : ℕ) → All (IsReached reach) arcs → c ≤ CONICAL_RUN → Within Closed arcs x c → Has reach x
 unfolding Within
 closed_reach reach arcs x c r l h =
     elim h [
@@ -172,6 +164,6 @@ closed_reach reach arcs x c r l h =
       | inr three ↦ SomeThree_elim {R = IsReached reach} {P = λ a b d. InTriangle a b d x} (triangle_in_reach reach x) arcs r three
     ]
 
-pub Within_reach : (reach : Area) (edge : Edge) (arcs : List ArcShape) (x : Point) (c : ℕ) → All (IsReached reach) arcs → c ≤ 40000 → Within edge arcs x c → Has reach x
+pub Within_reach : (reach : Area) (edge : Edge) (arcs : List ArcShape) (x : Point) (c : ℕ) → All (IsReached reach) arcs → c ≤ CONICAL_RUN → Within edge arcs x c → Has reach x
 Within_reach reach Closed arcs x c r l h = closed_reach reach arcs x c r l h
 Within_reach reach Open arcs x c r l h = closed_reach reach arcs x c r l (Within_closes arcs x c h)

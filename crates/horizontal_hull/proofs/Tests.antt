@@ -1,15 +1,15 @@
 -- The tests of the specifications decide what they say.
-use Rattle.std.proofs.Common.{◌↔◌, ◌&&◌, ◌||◌, if◌then◌else◌, Bool, true, false, List, ℕ, ◌+◌, ◌*◌, ◌≤◌, ◌<◌, ℤ, pos, neg_ℤ, ◌+ℤ◌, ◌-ℤ◌, ◌*ℤ◌, ◌≤ℤ◌, ◌<ℤ◌, arith}
+use Rattle.std.proofs.Common.{◌↔◌, ◌&&◌, ◌||◌, if◌then◌else◌, Bool, true, false, List, ℕ, ◌+◌, ◌*◌, ◌≤◌, ◌<◌, ℤ, pos, neg_ℤ, ◌-ℤ◌, ◌≤ℤ◌, ◌<ℤ◌, arith}
 use Rattle.std.specs.Prelude.{IsTrue, nat_le, nat_lt, int_le, int_lt, MatchBool}
 use Rattle.grid_exact.specs.declared.point.Point.{Point}
-use Rattle.grid_exact.specs.Root.{signed_square, AtLeastRoot, AtMostRoot}
+use Rattle.grid_exact.specs.Root.{AtMostRoot}
 use Rattle.grid_exact.specs.Excess.{is_at_most_root}
-use Rattle.grid_exact.proofs.TestFacts.{above_in, above_out, all_true, at_most_in, at_most_out, first_true, le_in, le_out, lt_in, lt_out, second_true, third_true}
+use Rattle.grid_exact.proofs.TestFacts.{above_in, above_out, all_true, at_least_in, at_least_out, at_most_in, at_most_out, first_true, le_in, le_out, lt_in, lt_out, second_true, third_true}
 use Rattle.horizontal_hull.specs.declared.edge.Edge.{Edge}
 use Rattle.horizontal_hull.specs.declared.edge.Edge.TheVariants.{Closed, Open}
 use Rattle.horizontal_hull.specs.Arcs.{ArcShape}
 use Rattle.horizontal_hull.specs.Pairs.{some_two, some_three}
-use Rattle.horizontal_hull.specs.Capsules.{InBand, InCapsule, InDisc, InTapered, IsUnderTangent, ahead, aside, away, flare, in_band, in_capsule, in_disc, in_tapered, is_under_tangent, span, tangent}
+use Rattle.horizontal_hull.specs.Capsules.{InBand, InCapsule, InDisc, InTapered, ReachesRoot, ahead, aside, away, flare, in_band, in_capsule, in_disc, in_tapered, reaches_root, span, tangent, tangent_reach}
 use Rattle.horizontal_hull.specs.Triangles.{InTriangle, IsInside, in_triangle, is_inside, turn, turn_at}
 use Rattle.horizontal_hull.specs.Within.{Within, is_within}
 use Rattle.horizontal_hull.proofs.SomeFacts.{SomeThree-test, SomeTwo-test, and_test, or_test}
@@ -21,7 +21,7 @@ nat_le_test a b = grind arith
 nat_lt_test : (a b : ℕ) → IsTrue (nat_lt a b) ↔ a < b
 nat_lt_test a b = grind arith
 
-int_le_test : (a b : ℤ) → IsTrue (int_le a b) ↔ a ≤ℤ b
+pub int_le_test : (a b : ℤ) → IsTrue (int_le a b) ↔ a ≤ℤ b
 int_le_test a b = (le_in a b, le_out a b)
 
 int_lt_test : (a b : ℤ) → IsTrue (int_lt a b) ↔ a <ℤ b
@@ -30,32 +30,27 @@ int_lt_test a b = (lt_in a b, lt_out a b)
 at_most_test : (a b : ℤ) (n : ℕ) → IsTrue (is_at_most_root a b n) ↔ AtMostRoot a b n
 at_most_test a b n = (at_most_in a b n, at_most_out a b n)
 
-at_least_test : (a b : ℤ) (n : ℕ) → IsTrue (int_le (signed_square b *ℤ pos n) (signed_square a)) ↔ AtLeastRoot a b n
-at_least_test a b n = (λ t. record { at_least = le_in _ _ t }, λ h. le_out _ _ h.at_least)
-
 if_test : {P Q : Type 0} (b p q : Bool) → (IsTrue p ↔ P) → (IsTrue q ↔ Q) → IsTrue (if b then p else q) ↔ MatchBool b P Q
 if_test true p q h k = h
 if_test false p q h k = k
 
 -- ---- capsules
-pub InDisc-test : (edge : Edge) (a : ArcShape) (x : Point) (c : ℕ) → IsTrue (in_disc edge a x c) ↔ InDisc edge a x c
+InDisc-test : (edge : Edge) (a : ArcShape) (x : Point) (c : ℕ) → IsTrue (in_disc edge a x c) ↔ InDisc edge a x c
 InDisc-test Closed a x c = nat_le_test (away a x) ((a.radius + c) * (a.radius + c))
 InDisc-test Open a x c = nat_lt_test (away a x) ((a.radius + c) * (a.radius + c))
 
-pub IsUnderTangent-test : (edge : Edge) (a b : ArcShape) (x : Point) (c : ℕ) → IsTrue (is_under_tangent edge a b x c) ↔ IsUnderTangent edge a b x c
-IsUnderTangent-test Closed a b x c = at_least_test (pos ((a.radius + c) * span a b) +ℤ pos (flare a b) *ℤ ahead a b x) (pos (aside a b x)) (tangent a b)
-IsUnderTangent-test Open a b x c =
-    let l : ℤ = pos ((a.radius + c) * span a b) +ℤ pos (flare a b) *ℤ ahead a b x in
-    (above_in l (pos (aside a b x)) (tangent a b), above_out l (pos (aside a b x)) (tangent a b))
+ReachesRoot-test : (edge : Edge) (a : ℤ) (b n : ℕ) → IsTrue (reaches_root edge a b n) ↔ ReachesRoot edge a b n
+ReachesRoot-test Closed a b n = (at_least_in a (pos b) n, at_least_out a (pos b) n)
+ReachesRoot-test Open a b n = (above_in a (pos b) n, above_out a (pos b) n)
 
-pub InBand-test : (edge : Edge) (a b : ArcShape) (x : Point) (c : ℕ) → IsTrue (in_band edge a b x c) ↔ InBand edge a b x c
+InBand-test : (edge : Edge) (a b : ArcShape) (x : Point) (c : ℕ) → IsTrue (in_band edge a b x c) ↔ InBand edge a b x c
 InBand-test edge a b x c =
     let p : Bool = is_at_most_root (neg_ℤ (pos (flare a b * aside a b x))) (ahead a b x) (tangent a b) in
     let q : Bool = is_at_most_root (pos (flare a b * aside a b x)) (pos (span a b) -ℤ ahead a b x) (tangent a b) in
-    let r : Bool = is_under_tangent edge a b x c in
+    let r : Bool = reaches_root edge (tangent_reach a b x c) (aside a b x) (tangent a b) in
     let hp = at_most_test (neg_ℤ (pos (flare a b * aside a b x))) (ahead a b x) (tangent a b) in
     let hq = at_most_test (pos (flare a b * aside a b x)) (pos (span a b) -ℤ ahead a b x) (tangent a b) in
-    let hr = IsUnderTangent-test edge a b x c in (
+    let hr = ReachesRoot-test edge (tangent_reach a b x c) (aside a b x) (tangent a b) in (
       λ t. record { after = hp.0 (first_true p q r t); before = hq.0 (second_true p q r t); under = hr.0 (third_true p q r t) },
       λ h. all_true p q r (hp.1 h.after) (hq.1 h.before) (hr.1 h.under),
     )
@@ -66,13 +61,13 @@ InTapered-test edge a b x c =
     (and_test (nat_lt (flare a b * flare a b) (span a b)) (in_disc edge a x c || in_band edge a b x c) (nat_lt_test (flare a b * flare a b) (span a b))
     (or_test (in_disc edge a x c) (in_band edge a b x c) (InDisc-test edge a x c) (InBand-test edge a b x c)))
 
-pub InCapsule-test : (edge : Edge) (a b : ArcShape) (x : Point) (c : ℕ) → IsTrue (in_capsule edge a b x c) ↔ InCapsule edge a b x c
+InCapsule-test : (edge : Edge) (a b : ArcShape) (x : Point) (c : ℕ) → IsTrue (in_capsule edge a b x c) ↔ InCapsule edge a b x c
 unfolding in_capsule
 InCapsule-test edge a b x c =
     if_test (nat_le a.radius b.radius) (in_tapered edge a b x c) (in_tapered edge b a x c) (InTapered-test edge a b x c) (InTapered-test edge b a x c)
 
 -- ---- triangles
-pub IsInside-test : (a b d : ArcShape) (x : Point) → IsTrue (is_inside a b d x) ↔ IsInside a b d x
+IsInside-test : (a b d : ArcShape) (x : Point) → IsTrue (is_inside a b d x) ↔ IsInside a b d x
 IsInside-test a b d x =
     let h =
     and_test (int_lt (pos 0) (turn a b d) && int_le (pos 0) (turn_at x a b)) (int_le (pos 0) (turn_at x b d) && int_le (pos 0) (turn_at x d a))
@@ -82,7 +77,7 @@ IsInside-test a b d x =
       λ k. h.1 ((k.proper, k.first), (k.second, k.third)),
     )
 
-pub InTriangle-test : (a b d : ArcShape) (x : Point) → IsTrue (in_triangle a b d x) ↔ InTriangle a b d x
+InTriangle-test : (a b d : ArcShape) (x : Point) → IsTrue (in_triangle a b d x) ↔ InTriangle a b d x
 unfolding in_triangle
 InTriangle-test a b d x = or_test (is_inside a b d x) (is_inside a d b x) (IsInside-test a b d x) (IsInside-test a d b x)
 

@@ -6,19 +6,16 @@ use Rattle.grid_exact.specs.declared.point.Point.{Point}
 use Rattle.grid_exact.specs.Area.{Has}
 use Rattle.horizontal_hull.specs.declared.edge.Edge.{Edge}
 use Rattle.horizontal_hull.specs.declared.edge.Edge.TheVariants.{Closed}
+use Rattle.horizontal_hull.specs.declared.sizes.TheConstants.{CONICAL_RUN}
 use Rattle.horizontal_hull.specs.Arcs.{ArcShape}
 use Rattle.horizontal_hull.specs.Pairs.{some_three, some_two}
 use Rattle.horizontal_hull.specs.Capsules.{in_capsule}
 use Rattle.horizontal_hull.specs.Triangles.{in_triangle}
 use Rattle.horizontal_hull.specs.Within.{Within, is_within}
 use Rattle.horizontal_hull.specs.Reaches.{IsReached}
+use Rattle.horizontal_hull.proofs.SomeFacts.{false_test}
 use Rattle.horizontal_hull.proofs.Tests.{Within-test}
 use Rattle.horizontal_hull.proofs.Reach.{Within_reach}
-
--- a test that refutes what it tests answered false
-pub false_test : {P : Type 0} (p : Bool) → (IsTrue p ↔ P) → (P → ⊥) → p ≡ false
-false_test true h n = absurd (n (h.0 refl))
-false_test false h n = refl
 
 -- ---- the two parts of what is within
 abbrev in_capsules : Edge → List ArcShape → Point → ℕ → Bool
@@ -64,8 +61,8 @@ within_beyond edge arcs x c p n h =
     rw e (Within-test edge arcs x c)
 
 -- ---- outside the box that the arcs reach into
-pub not_reached : (reach : Area) (edge : Edge) (arcs : List ArcShape) (x : Point) (c : ℕ) → All (IsReached reach) arcs → c ≤ 40000 → (Has reach x → ⊥) → Within edge arcs x c → ⊥
+pub not_reached : (reach : Area) (edge : Edge) (arcs : List ArcShape) (x : Point) (c : ℕ) → All (IsReached reach) arcs → c ≤ CONICAL_RUN → (Has reach x → ⊥) → Within edge arcs x c → ⊥
 not_reached reach edge arcs x c h l n w = n (Within_reach reach edge arcs x c h l w)
 
-pub not_within : (reach : Area) (edge : Edge) (arcs : List ArcShape) (x : Point) (c : ℕ) → All (IsReached reach) arcs → c ≤ 40000 → (Has reach x → ⊥) → false ≡ is_within edge arcs x c
+pub not_within : (reach : Area) (edge : Edge) (arcs : List ArcShape) (x : Point) (c : ℕ) → All (IsReached reach) arcs → c ≤ CONICAL_RUN → (Has reach x → ⊥) → false ≡ is_within edge arcs x c
 not_within reach edge arcs x c h l n = sym (false_test (is_within edge arcs x c) (Within-test edge arcs x c) (not_reached reach edge arcs x c h l n))

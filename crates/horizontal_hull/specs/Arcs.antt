@@ -1,11 +1,13 @@
 -- The arcs whose tangents bound the horizontal surface: 77.19(a).
-use Rattle.std.specs.Prelude.{ℕ, ℤ, pos, ◌+ℤ◌, List, [], ◌∷◌, unsigned_abs}
+use Rattle.std.specs.Prelude.{ℕ, ℤ, ◌+ℤ◌, List, [], ◌∷◌, unsigned_abs, if◌then◌else◌}
 use Rattle.std.specs.List.{flat_map}
-use Rattle.airport_register.specs.declared.runway.Runway.{Runway}
-use Rattle.airport_register.specs.declared.airfield.Airport.{Airport}
+use Rattle.airfields.specs.declared.runway.Runway.{Runway}
+use Rattle.airfields.specs.declared.airfield.Airport.{Airport}
+use Rattle.airfields.specs.Categories.{has_civil_surfaces}
 use Rattle.runway_lines.specs.Ends.{center_x, center_y, class_of}
 use Rattle.runway_lines.specs.declared.end.End.{End}
 use Rattle.runway_lines.specs.declared.end.End.TheVariants.{One, Two}
+use Rattle.horizontal_hull.specs.declared.sizes.TheConstants.{HORIZONTAL_RISE}
 
 -- an arc of a radius about a center
 pub record ArcShape : Type 0 where
@@ -20,10 +22,14 @@ arc r end = record { x = center_x r end; y = center_y r end; radius = unsigned_a
 abbrev pub arcs_of_runway : Runway → List ArcShape
 arcs_of_runway r = arc r One ∷ arc r Two ∷ []
 
+-- the arcs of an airport: those of its runways, where its category has the surfaces of 77.19, which is for civil airports
+abbrev pub arcs_of : Airport → List ArcShape
+arcs_of a = if has_civil_surfaces a.category then flat_map arcs_of_runway a.runways else []
+
 -- the arcs of an airport, and the elevation of its horizontal surface, 150 feet above the established airport elevation
 pub record Dome : Type 0 where
   pub arcs : List ArcShape
   pub level : ℤ
 
 unfoldable pub dome_of : Airport → Dome
-dome_of a = record { arcs = flat_map arcs_of_runway a.runways; level = a.elevation +ℤ pos 1500 }
+dome_of a = record { arcs = arcs_of a; level = a.elevation +ℤ HORIZONTAL_RISE }

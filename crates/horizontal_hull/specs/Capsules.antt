@@ -1,9 +1,9 @@
 -- Discs about centers of arcs, and what lies between the tangents of two arcs: 77.19(a), (b).
-use Rattle.std.specs.Prelude.{ℕ, ℤ, pos, neg_ℤ, ◌+◌, ◌-◌, ◌*◌, ◌≤◌, ◌<◌, ◌+ℤ◌, ◌-ℤ◌, ◌*ℤ◌, unsigned_abs, ◌⊎◌, nat_le, nat_lt, int_le, int_lt, Bool, ◌&&◌, ◌||◌, if◌then◌else◌}
+use Rattle.std.specs.Prelude.{ℕ, ℤ, pos, neg_ℤ, ◌+◌, ◌-◌, ◌*◌, ◌≤◌, ◌<◌, ◌+ℤ◌, ◌-ℤ◌, ◌*ℤ◌, unsigned_abs, ◌⊎◌, nat_le, nat_lt, Bool, ◌&&◌, ◌||◌, if◌then◌else◌}
 use Rattle.std.specs.Bool.{MatchBool}
 use Rattle.grid_exact.specs.declared.point.Point.{Point}
-use Rattle.grid_exact.specs.Root.{AtMostRoot, AtLeastRoot, AboveRoot, signed_square}
-use Rattle.grid_exact.specs.Excess.{is_at_most_root}
+use Rattle.grid_exact.specs.Root.{AtMostRoot, AtLeastRoot, AboveRoot}
+use Rattle.grid_exact.specs.Excess.{is_above_root, is_at_least_root, is_at_most_root}
 use Rattle.grid_exact.specs.Vector.{along_of, across_of, length_of}
 use Rattle.horizontal_hull.specs.declared.edge.Edge.{Edge}
 use Rattle.horizontal_hull.specs.declared.edge.Edge.TheVariants.{Closed, Open}
@@ -39,10 +39,19 @@ ahead a b x = along_of (b.x -ℤ a.x) (b.y -ℤ a.y) (x.x -ℤ a.x) (x.y -ℤ a.
 abbrev pub aside : ArcShape → ArcShape → Point → ℕ
 aside a b x = unsigned_abs (across_of (b.x -ℤ a.x) (b.y -ℤ a.y) (x.x -ℤ a.x) (x.y -ℤ a.y))
 
--- not beyond the tangent of the arcs with radii raised by c
+-- how far beside that line a tangent of the arcs with radii raised by c passes the point, times their distance and times the length of
+-- the tangent
+abbrev pub tangent_reach : ArcShape → ArcShape → Point → ℕ → ℤ
+tangent_reach a b x c = pos ((a.radius + c) * span a b) +ℤ pos (flare a b) *ℤ ahead a b x
+
+-- a >= b * sqrt(n), or a > b * sqrt(n) without the edge
+abbrev pub ReachesRoot : Edge → ℤ → ℕ → ℕ → Type 0
+ReachesRoot Closed a b n = AtLeastRoot a (pos b) n
+ReachesRoot Open a b n = AboveRoot a (pos b) n
+
+-- not beyond that tangent
 abbrev pub IsUnderTangent : Edge → ArcShape → ArcShape → Point → ℕ → Type 0
-IsUnderTangent Closed a b x c = AtLeastRoot (pos ((a.radius + c) * span a b) +ℤ pos (flare a b) *ℤ ahead a b x) (pos (aside a b x)) (tangent a b)
-IsUnderTangent Open a b x c = AboveRoot (pos ((a.radius + c) * span a b) +ℤ pos (flare a b) *ℤ ahead a b x) (pos (aside a b x)) (tangent a b)
+IsUnderTangent edge a b x c = ReachesRoot edge (tangent_reach a b x c) (aside a b x) (tangent a b)
 
 -- between the two tangents and the points where they touch the arcs
 pub record InBand (edge : Edge) (a b : ArcShape) (x : Point) (c : ℕ) : Type 0 where
@@ -64,17 +73,15 @@ abbrev pub in_disc : Edge → ArcShape → Point → ℕ → Bool
 in_disc Closed a x c = nat_le (away a x) ((a.radius + c) * (a.radius + c))
 in_disc Open a x c = nat_lt (away a x) ((a.radius + c) * (a.radius + c))
 
-abbrev pub is_under_tangent : Edge → ArcShape → ArcShape → Point → ℕ → Bool
-is_under_tangent Closed a b x c =
-    int_le (signed_square (pos (aside a b x)) *ℤ pos (tangent a b)) (signed_square (pos ((a.radius + c) * span a b) +ℤ pos (flare a b) *ℤ ahead a b x))
-is_under_tangent Open a b x c =
-    int_lt (signed_square (pos (aside a b x)) *ℤ pos (tangent a b)) (signed_square (pos ((a.radius + c) * span a b) +ℤ pos (flare a b) *ℤ ahead a b x))
+abbrev pub reaches_root : Edge → ℤ → ℕ → ℕ → Bool
+reaches_root Closed a b n = is_at_least_root a (pos b) n
+reaches_root Open a b n = is_above_root a (pos b) n
 
 abbrev pub in_band : Edge → ArcShape → ArcShape → Point → ℕ → Bool
 in_band edge a b x c =
     is_at_most_root (neg_ℤ (pos (flare a b * aside a b x))) (ahead a b x) (tangent a b)
     && is_at_most_root (pos (flare a b * aside a b x)) (pos (span a b) -ℤ ahead a b x) (tangent a b)
-    && is_under_tangent edge a b x c
+    && reaches_root edge (tangent_reach a b x c) (aside a b x) (tangent a b)
 
 abbrev pub in_tapered : Edge → ArcShape → ArcShape → Point → ℕ → Bool
 in_tapered edge a b x c = in_disc edge b x c || (nat_lt (flare a b * flare a b) (span a b) && (in_disc edge a x c || in_band edge a b x c))

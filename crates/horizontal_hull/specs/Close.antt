@@ -1,4 +1,4 @@
--- How near to one another the arcs of one airport and the points are that lie within them.
+-- For proofs alone: how near to one another the arcs of one airport and the points are that lie within them.
 use Rattle.std.specs.Prelude.{ℤ, pos, ◌+ℤ◌, ◌-ℤ◌, ◌≤◌, ◌≤ℤ◌, ◌^◌, List, unsigned_abs}
 use Rattle.std.specs.List.{All}
 use Rattle.grid_exact.specs.declared.area.Area.{Area}
@@ -6,19 +6,20 @@ use Rattle.grid_exact.specs.declared.point.Point.{Point}
 use Rattle.grid_exact.specs.Area.{Has}
 use Rattle.horizontal_hull.specs.Arcs.{ArcShape}
 use Rattle.horizontal_hull.specs.Reaches.{IsReached}
+use Rattle.horizontal_hull.specs.declared.sizes.TheConstants.{ARC_MOST, BOX_REACH, BOX_SIDE, CENTERS_APART, CENTER_REACH, POINT_APART}
 
--- an arc of an airport with this reference point: runway ends are at most 400,000 from it, and centers 2,000 from them
+-- an arc of an airport with this reference point
 pub record IsNearReference (arp : Point) (a : ArcShape) : Type 0 where
-  pub x : unsigned_abs (a.x -ℤ arp.x) ≤ 402000
-  pub y : unsigned_abs (a.y -ℤ arp.y) ≤ 402000
-  pub radius : a.radius ≤ 100000
+  pub x : unsigned_abs (a.x -ℤ arp.x) ≤ CENTER_REACH
+  pub y : unsigned_abs (a.y -ℤ arp.y) ≤ CENTER_REACH
+  pub radius : a.radius ≤ ARC_MOST
 
--- a box about the reference point, as far as arcs can reach that are 140,000 past centers
+-- a box about the reference point, as far as its surfaces can reach
 pub record IsAbout (arp : Point) (box : Area) : Type 0 where
-  pub west : (arp.x -ℤ pos 542000) ≤ℤ box.x0
-  pub east : box.x1 ≤ℤ (arp.x +ℤ pos 542000)
-  pub south : (arp.y -ℤ pos 542000) ≤ℤ box.y0
-  pub north : box.y1 ≤ℤ (arp.y +ℤ pos 542000)
+  pub west : (arp.x -ℤ pos BOX_REACH) ≤ℤ box.x0
+  pub east : box.x1 ≤ℤ (arp.x +ℤ pos BOX_REACH)
+  pub south : (arp.y -ℤ pos BOX_REACH) ≤ℤ box.y0
+  pub north : box.y1 ≤ℤ (arp.y +ℤ pos BOX_REACH)
 
 -- the first box has all of the second
 pub record IsWider (a b : Area) : Type 0 where
@@ -27,10 +28,10 @@ pub record IsWider (a b : Area) : Type 0 where
   pub south : a.y0 ≤ℤ b.y0
   pub north : b.y1 ≤ℤ a.y1
 
--- a box that reaches 140,000 past the centers of one airport
+-- a box about the centers of one airport, as far as its surfaces can reach
 pub record IsSmallBox (box : Area) : Type 0 where
-  pub wide : box.x1 ≤ℤ (box.x0 +ℤ pos 1084000)
-  pub high : box.y1 ≤ℤ (box.y0 +ℤ pos 1084000)
+  pub wide : box.x1 ≤ℤ (box.x0 +ℤ pos BOX_SIDE)
+  pub high : box.y1 ≤ℤ (box.y0 +ℤ pos BOX_SIDE)
 
 -- what a hull is made of: its arcs reach into its box, and its level is small
 pub record IsHull (arcs : List ArcShape) (reach : Area) (level : ℤ) : Type 0 where
@@ -47,11 +48,11 @@ pub record AreClose (arcs : List ArcShape) (x : Point) : Type 0 where
 
 -- two arcs of one airport, and a point near them
 pub record IsNearBoth (a b : ArcShape) (x : Point) : Type 0 where
-  pub way_x : unsigned_abs (b.x -ℤ a.x) ≤ 804000
-  pub way_y : unsigned_abs (b.y -ℤ a.y) ≤ 804000
-  pub first_x : unsigned_abs (x.x -ℤ a.x) ≤ 944000
-  pub first_y : unsigned_abs (x.y -ℤ a.y) ≤ 944000
-  pub second_x : unsigned_abs (x.x -ℤ b.x) ≤ 944000
-  pub second_y : unsigned_abs (x.y -ℤ b.y) ≤ 944000
-  pub first_radius : a.radius ≤ 100000
-  pub second_radius : b.radius ≤ 100000
+  pub way_x : unsigned_abs (b.x -ℤ a.x) ≤ CENTERS_APART
+  pub way_y : unsigned_abs (b.y -ℤ a.y) ≤ CENTERS_APART
+  pub first_x : unsigned_abs (x.x -ℤ a.x) ≤ POINT_APART
+  pub first_y : unsigned_abs (x.y -ℤ a.y) ≤ POINT_APART
+  pub second_x : unsigned_abs (x.x -ℤ b.x) ≤ POINT_APART
+  pub second_y : unsigned_abs (x.y -ℤ b.y) ≤ POINT_APART
+  pub first_radius : a.radius ≤ ARC_MOST
+  pub second_radius : b.radius ≤ ARC_MOST

@@ -3,6 +3,7 @@ pub mod Pairs
 pub mod Capsules
 pub mod Triangles
 pub mod Within
+pub mod Standings
 pub mod Reaches
 pub mod Close
 pub mod Bands

@@ -1,4 +1,4 @@
--- Some, some two, and some three of a list, each with those behind it.
+-- Some, some two, and some three of a list, each with those after it.
 use Rattle.std.specs.Prelude.{List, [], ◌∷◌, ◌⊎◌, Bool, false, ◌||◌}
 use Rattle.std.specs.List.{list_any}
 

@@ -10,6 +10,7 @@ use Rattle.horizontal_hull.specs.Arcs.{ArcShape, Dome}
 use Rattle.horizontal_hull.specs.Pairs.{SomeTwo, SomeThree, some_two, some_three}
 use Rattle.horizontal_hull.specs.Capsules.{InCapsule, in_capsule}
 use Rattle.horizontal_hull.specs.Triangles.{InTriangle, in_triangle}
+use Rattle.horizontal_hull.specs.declared.sizes.TheConstants.{CONICAL_RISE, CONICAL_RUN, CONICAL_SLOPE}
 
 -- a point is at most c beyond the arcs joined by their tangents: it lies in the tapered capsule of some two arcs with radii raised by
 -- c, or in the triangle of some three centers. Each runway has two centers, so that every disc lies in a capsule
@@ -23,12 +24,12 @@ horizontal d x = flat_surface (Within Closed d.arcs x 0) d.level
 -- ---- the conical surface goes outward from there for 4,000 feet and upward 20 to 1
 
 pub record ConicalCovers (d : Dome) (x : Point) : Type 0 where
-  pub within_outer : Within Closed d.arcs x 40000
+  pub within_outer : Within Closed d.arcs x CONICAL_RUN
   pub not_inner : ¬ Within Closed d.arcs x 0
 
 -- how far out a level is that many tenths of a foot above the horizontal surface
 abbrev pub run_to : Dome → ℤ → ℕ
-run_to d z = 20 * unsigned_abs (z -ℤ d.level)
+run_to d z = CONICAL_SLOPE * unsigned_abs (z -ℤ d.level)
 
 pub record AtConical (d : Dome) (x : Point) (z : ℤ) : Type 0 where
   pub not_below : d.level ≤ℤ z
@@ -52,7 +53,7 @@ pub record IsLeastConical (d : Dome) (x : Point) (z : ℤ) : Type 0 where
 -- covers it, else none
 abbrev pub IsCap : Dome → Point → Cap → Type 0
 IsCap d x (Level z) = (Within Closed d.arcs x 0 × (z ≡ d.level)) ⊎ (ConicalCovers d x × IsLeastConical d x z)
-IsCap d x Beyond = ¬ Within Closed d.arcs x 40000
+IsCap d x Beyond = ¬ Within Closed d.arcs x CONICAL_RUN
 
 -- ---- the same as tests that compute
 
@@ -69,17 +70,17 @@ abbrev pub is_above_conical : Dome → Point → ℤ → Bool
 is_above_conical d x z = int_le d.level z && is_within Open d.arcs x (run_to d z)
 
 abbrev pub conical_covers : Dome → Point → Bool
-conical_covers d x = is_within Closed d.arcs x 40000 && not (is_within Closed d.arcs x 0)
+conical_covers d x = is_within Closed d.arcs x CONICAL_RUN && not (is_within Closed d.arcs x 0)
 
 unfoldable pub conical_excess : Dome → Point → ℤ → Option ℕ
 conical_excess d x top = excess_of (conical_covers d x) (is_above_conical d x) (is_at_conical d x) most_excess top
 
 -- how far below the outer edge's level, 200 feet above the horizontal surface, the least level is
 abbrev pub below_edge : Dome → Point → ℕ
-below_edge d x = greatest_up_to (λ e. is_at_conical d x (d.level +ℤ pos 2000 -ℤ pos e)) 2000
+below_edge d x = greatest_up_to (λ e. is_at_conical d x (d.level +ℤ pos CONICAL_RISE -ℤ pos e)) CONICAL_RISE
 
 unfoldable pub cap_of : Dome → Point → Cap
 cap_of d x =
     if is_within Closed d.arcs x 0 then Level d.level
-    else if is_within Closed d.arcs x 40000 then Level (d.level +ℤ pos 2000 -ℤ pos (below_edge d x))
+    else if is_within Closed d.arcs x CONICAL_RUN then Level (d.level +ℤ pos CONICAL_RISE -ℤ pos (below_edge d x))
     else Beyond

@@ -1,10 +1,11 @@
 //! Arcs about the ends of primary surfaces.
 
 ghost use Rattle.std.specs.Prelude.{◌≡◌, ◌≤◌, ◌-ℤ◌};
-ghost use Rattle.airport_register.specs.Runways.{IsProper};
+ghost use Rattle.airfields.specs.Runways.{IsProper};
 ghost use Rattle.horizontal_hull.specs.Arcs.{arc as arc_of};
 
-use airport_register::Runway;
+use crate::sizes::ARC_MOST;
+use airfields::Runway;
 use grid_exact::{Point, Start, Vector};
 use runway_lines::{End, center, class};
 use std::marker::Model;
@@ -29,7 +30,7 @@ impl Arc {
     pub(crate) fn of(runway: &Runway, end: End) -> Arc
         requires proper { IsProper runway.now }
         ensures shape { result ≡ arc_of runway.now end }
-        ensures radius { result.radius ≤ 100000 }
+        ensures radius { result.radius ≤ ARC_MOST }
     {
         Arc {
             center: center(runway, end),

@@ -2,12 +2,13 @@
 
 ghost use Rattle.std.specs.Prelude.{◌≡◌, ◌↔◌, ◌+◌, ◌-◌, ◌*◌, ◌^◌, ◌<◌, ◌≤◌, ◌+ℤ◌, ◌-ℤ◌, ◌*ℤ◌, neg_ℤ, pos, unsigned_abs, IsTrue};
 ghost use Rattle.grid_exact.specs.Root.{AtMostRoot};
-ghost use Rattle.horizontal_hull.specs.Bands.{IsBand, ReachesRoot};
-ghost use Rattle.horizontal_hull.specs.Capsules.{ahead, aside, flare, span};
+ghost use Rattle.horizontal_hull.specs.Bands.{IsBand, IsBandOf};
+ghost use Rattle.horizontal_hull.specs.Capsules.{ReachesRoot};
 ghost use Rattle.horizontal_hull.specs.Close.{IsNearBoth};
 
 use crate::arc::Arc;
 use crate::edge::Edge;
+use crate::sizes::CONICAL_RUN;
 use grid_exact::{Point, is_above_root, is_at_least_root, is_at_most_root, plus, scale};
 
 /// A point beside the line from the center of an arc to the center of another one, whose radius is not the smaller.
@@ -31,12 +32,8 @@ impl Band {
     pub(crate) fn of(a: &Arc, b: &Arc, x: &Point, c: u32) -> Band
         requires near { IsNearBoth a.now b.now x.now }
         requires order { a.now.radius ≤ b.now.radius }
-        requires run { c ≤ 40000 }
-        ensures square { result.square ≡ span a.now b.now }
-        ensures along { result.along ≡ ahead a.now b.now x.now }
-        ensures across { result.across ≡ aside a.now b.now x.now }
-        ensures growth { result.growth ≡ flare a.now b.now }
-        ensures radius { result.radius ≡ a.now.radius + c }
+        requires run { c ≤ CONICAL_RUN }
+        ensures { IsBandOf a.now b.now x.now c result.square result.along result.across result.growth result.radius }
     {
         let way = a.to_arc(b);
         let seen = a.to_point(x);
@@ -57,7 +54,7 @@ impl Band {
         growth * growth < self.square
     }
 
-    /// The square of the length of a tangent.
+    /// The square of the length of a tangent; 0 where the larger disc holds the smaller one, and there is none.
     fn tangent(&self) -> u64
         ensures value { result ≡ self.now.square - self.now.growth * self.now.growth }
         ensures size { result ≤ 2 ^ 41 }
@@ -75,7 +72,7 @@ impl Band {
     }
 
     /// Whether the point is not before where the tangents touch the first arc.
-    #[tactic(auto, using(crate::proofs::Sizes::bands))]
+    #[tactic(auto, using(crate::proofs::BandSizes::bands))]
     pub(crate) fn is_after(&self) -> bool
         ensures { IsTrue result ↔ AtMostRoot (neg_ℤ (pos (self.now.growth * self.now.across))) self.now.along (self.now.square - self.now.growth * self.now.growth) }
     {
@@ -83,7 +80,7 @@ impl Band {
     }
 
     /// Whether the point is not past where the tangents touch the second arc.
-    #[tactic(auto, using(crate::proofs::Sizes::bands))]
+    #[tactic(auto, using(crate::proofs::BandSizes::bands))]
     pub(crate) fn is_before(&self) -> bool
         ensures { IsTrue result ↔ AtMostRoot (pos (self.now.growth * self.now.across)) (pos self.now.square -ℤ self.now.along) (self.now.square - self.now.growth * self.now.growth) }
     {
@@ -95,7 +92,7 @@ impl Band {
     }
 
     /// How far beside the line a tangent passes, times the distance between the centers and times the length of the tangent.
-    #[tactic(auto, using(crate::proofs::Sizes::bands))]
+    #[tactic(auto, using(crate::proofs::BandSizes::bands))]
     fn width(&self) -> i128
         ensures value { result ≡ pos (self.now.radius * self.now.square) +ℤ pos self.now.growth *ℤ self.now.along }
         ensures size { unsigned_abs result < 2 ^ 62 }
@@ -107,7 +104,7 @@ impl Band {
     }
 
     /// Whether the point is not beyond a tangent.
-    #[tactic(auto, using(crate::proofs::Sizes::bands))]
+    #[tactic(auto, using(crate::proofs::BandSizes::bands))]
     pub(crate) fn is_under(&self, edge: Edge) -> bool
         ensures { IsTrue result ↔ ReachesRoot edge (pos (self.now.radius * self.now.square) +ℤ pos self.now.growth *ℤ self.now.along) self.now.across (self.now.square - self.now.growth * self.now.growth) }
     {

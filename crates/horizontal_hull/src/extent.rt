@@ -7,17 +7,18 @@ ghost use Rattle.horizontal_hull.specs.Reaches.{IsReached};
 ghost use Rattle.horizontal_hull.specs.Close.{IsAbout, IsNearReference, IsSmallBox, IsWider};
 
 use crate::arc::Arc;
+use crate::sizes::{CENTER_REACH, OUTER_MOST};
 use grid_exact::{Area, Point, Start};
 
-/// The greatest radius, and how far the conical surface goes outward from there.
-const REACH: i64 = 140_000;
+/// How far the surfaces can reach from a center, as a coordinate.
+const REACH: i64 = OUTER_MOST as i64;
 
 /// The box about a center, as far as its arc and the conical surface around it can reach.
 fn around(center: Start) -> Area
-    ensures west { result.x0 ≡ center.x -ℤ pos 140000 }
-    ensures east { result.x1 ≡ center.x +ℤ pos 140000 }
-    ensures south { result.y0 ≡ center.y -ℤ pos 140000 }
-    ensures north { result.y1 ≡ center.y +ℤ pos 140000 }
+    ensures west { result.x0 ≡ center.x -ℤ pos OUTER_MOST }
+    ensures east { result.x1 ≡ center.x +ℤ pos OUTER_MOST }
+    ensures south { result.y0 ≡ center.y -ℤ pos OUTER_MOST }
+    ensures north { result.y1 ≡ center.y +ℤ pos OUTER_MOST }
 {
     Area {
         x0: center.x - REACH,
@@ -44,8 +45,8 @@ fn joined(a: &Area, b: &Area) -> Area
 /// The center of the first arc, or the reference point where there is none.
 fn first_center(arcs: &[Arc], arp: &Point) -> Start
     requires near { All (IsNearReference arp.now) arcs.now }
-    ensures x { unsigned_abs (result.x -ℤ arp.now.x) ≤ 402000 }
-    ensures y { unsigned_abs (result.y -ℤ arp.now.y) ≤ 402000 }
+    ensures x { unsigned_abs (result.x -ℤ arp.now.x) ≤ CENTER_REACH }
+    ensures y { unsigned_abs (result.y -ℤ arp.now.y) ≤ CENTER_REACH }
 {
     match arcs.first() {
         Some(arc) => arc.center(),

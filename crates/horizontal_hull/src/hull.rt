@@ -2,31 +2,31 @@
 
 ghost use Rattle.std.specs.Prelude.{◌≡◌, ◌↔◌, ◌*◌, ◌^◌, ◌≤◌, ℕ, IfOk, IfSome, IsTrue, unsigned_abs};
 ghost use Rattle.std.specs.List.{All, flat_map};
-ghost use Rattle.grid_exact.specs.Caps.{IsSmallCap};
+ghost use Rattle.grid_exact.specs.declared.point.Point.{Point};
 ghost use Rattle.grid_exact.specs.Excess.{IsExcess};
 ghost use Rattle.grid_exact.specs.Level.{IsLevel};
-ghost use Rattle.airport_register.specs.Airfields.{IsHeldAirport};
-ghost use Rattle.airport_register.specs.Runways.{IsProper};
-ghost use Rattle.horizontal_hull.specs.Arcs.{arcs_of_runway, dome_of};
-ghost use Rattle.horizontal_hull.specs.Within.{AboveConical, ConicalCovers, IsCap, IsLeastConical, Within, cap_of, conical, conical_excess, horizontal, horizontal_excess, is_within as is_within_of};
+ghost use Rattle.airfields.specs.Airfields.{IsHeldAirport};
+ghost use Rattle.airfields.specs.Runways.{IsProper};
+ghost use Rattle.horizontal_hull.specs.Arcs.{arcs_of, arcs_of_runway, dome_of};
+ghost use Rattle.horizontal_hull.specs.Standings.{IsStanding};
+ghost use Rattle.horizontal_hull.specs.Within.{ConicalCovers, IsCap, IsLeastConical, Within, cap_of, conical, conical_excess, horizontal, horizontal_excess, is_within as is_within_of};
 
 use crate::arc::Arc;
 use crate::edge::Edge;
 use crate::extent::extent;
+use crate::sizes::{CONICAL_RISE, CONICAL_RUN, CONICAL_SLOPE, HORIZONTAL_RISE};
 use crate::some::{is_in_some_capsule, is_in_some_triangle};
-use airport_register::{Airport, Runway};
+use crate::standing::Standing;
+use airfields::{Airport, Runway};
 use grid_exact::{Area, Cap, NoMemory, Point, flat_excess};
 use runway_lines::End;
 use std::alloc::Global;
 use std::marker::Model;
 
-/// How far the conical surface goes outward from the edge of the horizontal one: 4,000 feet.
-const OUTER_RUN: u32 = 40_000;
-
-/// How much higher its outer edge is than the horizontal surface, by its slope of 20 to 1.
-const OUTER_RISE: u32 = 2000;
-
 /// The horizontal and conical surfaces of an airport, 77.19(a) and (b), prepared for many points; seen as its arcs and its level.
+///
+/// 77.19 is for civil airports. Where the airport's category has no civil surfaces, there are no arcs: nothing is within, no cap is
+/// there, and no top is above either surface.
 #[derive(Drop)]
 pub struct Hull {
     arcs: Vec<Arc>,
@@ -46,7 +46,7 @@ impl Model for Hull {
 }
 
 /// The arcs at both ends of each runway.
-fn arcs(alloc: Global, runways: &[Runway]) -> Result<Vec<Arc>, NoMemory>
+fn arcs_about(alloc: Global, runways: &[Runway]) -> Result<Vec<Arc>, NoMemory>
     requires proper { All IsProper runways.now }
     ensures arcs { IfOk result (λ v. v.items ≡ flat_map arcs_of_runway runways.now) }
 {
@@ -58,8 +58,20 @@ fn arcs(alloc: Global, runways: &[Runway]) -> Result<Vec<Arc>, NoMemory>
     Ok(arcs)
 }
 
+/// The arcs of an airport: none where 77.19 is not for its category. A function of its own, since where the branches of a choice join a
+/// proof no longer knows which of them ran.
+fn arcs(alloc: Global, a: &Airport) -> Result<Vec<Arc>, NoMemory>
+    requires proper { All IsProper a.now.runways }
+    ensures arcs { IfOk result (λ v. v.items ≡ arcs_of a.now) }
+{
+    if !a.category.civil_surfaces() {
+        return Ok(Vec::new(alloc));
+    }
+    arcs_about(alloc, a.runways.as_slice())
+}
+
 impl Hull {
-    /// The surfaces of an airport that keeps the limits of a register's airports.
+    /// The surfaces of an airport that keeps the limits of a register's airports; without arcs where its category has no civil surfaces.
     ///
     /// # Errors
     ///
@@ -68,18 +80,18 @@ impl Hull {
         requires held { IsHeldAirport a.now }
         ensures dome { IfOk result (λ h. h ≡ dome_of a.now) }
     {
-        let arcs = arcs(alloc, a.runways.as_slice())?;
+        let arcs = arcs(alloc, a)?;
         let reach = extent(arcs.as_slice(), &a.arp);
         Ok(Hull {
             arcs,
             reach,
-            level: a.elevation + 1500,
+            level: a.elevation + HORIZONTAL_RISE,
         })
     }
 
     /// Whether a point is at most `c` beyond the arcs joined by their tangents, or less than `c` without the edge.
     fn is_within(&self, edge: Edge, x: &Point, c: u32) -> bool
-        requires run { c ≤ 40000 }
+        requires run { c ≤ CONICAL_RUN }
         ensures { result ≡ is_within_of edge self.now.arcs x.now c }
     {
         if !self.reach.has(x) {
@@ -91,7 +103,7 @@ impl Hull {
 
     /// Whether a point is at most `c` beyond the arcs joined by their tangents, 77.19(a) and (b). At 0 the horizontal surface covers it.
     pub fn within(&self, x: &Point, c: u32) -> bool
-        requires run { c ≤ 40000 }
+        requires run { c ≤ CONICAL_RUN }
         ensures exact { IsTrue result ↔ Within Edge.Closed self.now.arcs x.now c }
     {
         self.is_within(Edge::Closed, x, c)
@@ -99,16 +111,16 @@ impl Hull {
 
     /// Whether a point is less than `c` beyond the arcs joined by their tangents, or in a triangle of their centers.
     pub fn strictly_within(&self, x: &Point, c: u32) -> bool
-        requires run { c ≤ 40000 }
+        requires run { c ≤ CONICAL_RUN }
         ensures exact { IsTrue result ↔ Within Edge.Open self.now.arcs x.now c }
     {
         self.is_within(Edge::Open, x, c)
     }
 
-    /// The same at a point that the horizontal surface does not cover: no triangle of centers has it.
+    /// The same at a point that the horizontal surface does not cover: no triangle of centers has it, so that only capsules are asked.
     fn is_within_beyond(&self, edge: Edge, x: &Point, c: u32) -> bool
         requires beyond { ¬ Within Edge.Closed self.now.arcs x.now 0 }
-        requires run { c ≤ 40000 }
+        requires run { c ≤ CONICAL_RUN }
         ensures { IsTrue result ↔ Within edge self.now.arcs x.now c }
     {
         if !self.reach.has(x) {
@@ -117,18 +129,19 @@ impl Hull {
         is_in_some_capsule(edge, self.arcs.as_slice(), x, c)
     }
 
-    /// How much higher than the horizontal surface the least level at or above the conical one is, at a point that this covers.
+    /// How much higher than the horizontal surface the least level at or above the conical one is, at a point that this covers: found by
+    /// halving, since what is within grows with the way outward.
     fn rise(&self, x: &Point) -> u32
         requires covers { ConicalCovers self.now x.now }
-        ensures reaches { Within Edge.Closed self.now.arcs x.now (20 * result) }
-        ensures least { (k : ℕ) → Within Edge.Closed self.now.arcs x.now (20 * k) → result ≤ k }
-        ensures most { result ≤ 2000 }
+        ensures reaches { Within Edge.Closed self.now.arcs x.now (CONICAL_SLOPE * result) }
+        ensures least { (k : ℕ) → Within Edge.Closed self.now.arcs x.now (CONICAL_SLOPE * k) → result ≤ k }
+        ensures most { result ≤ CONICAL_RISE }
     {
         let mut least = 0;
-        let mut reached = OUTER_RISE;
+        let mut reached = CONICAL_RISE;
         while least < reached {
             let middle = least + (reached - least) / 2;
-            if self.is_within_beyond(Edge::Closed, x, 20 * middle) {
+            if self.is_within_beyond(Edge::Closed, x, CONICAL_SLOPE * middle) {
                 reached = middle;
             } else {
                 least = middle + 1;
@@ -146,20 +159,54 @@ impl Hull {
         self.level + self.rise(x) as i64
     }
 
-    /// The lowest whole level at or above the horizontal and the conical surface at a point, 77.19(a) and (b); `Beyond` where neither
-    /// lies over it.
+    /// Where a point stands under the horizontal and the conical surface, 77.19(a) and (b). All other answers at the point follow from it.
+    pub fn standing(&self, x: &Point) -> Standing
+        ensures { IsStanding self.now x.now result }
+    {
+        if self.within(x, 0) {
+            return Standing::Horizontal;
+        }
+        if !self.is_within_beyond(Edge::Closed, x, CONICAL_RUN) {
+            return Standing::Beyond;
+        }
+        Standing::Conical(self.least_level(x))
+    }
+
+    /// The lowest whole level at or above the horizontal and the conical surface at a point that stands so, in tenths of a foot: 77.19(a)
+    /// and (b). `Beyond` where neither lies over it.
+    #[tactic(auto, using(crate::proofs::Listed::cap_listed))]
+    pub fn cap_at(&self, standing: &Standing) -> Cap
+        ensures exact { (x : Point) → IsStanding self.now x standing.now → IsCap self.now x result }
+        ensures value { (x : Point) → IsStanding self.now x standing.now → result ≡ cap_of self.now x }
+    {
+        match standing {
+            Standing::Horizontal => Cap::Level(self.level),
+            Standing::Conical(level) => Cap::Level(*level),
+            Standing::Beyond => Cap::Beyond,
+        }
+    }
+
+    /// The lowest whole level at or above the horizontal and the conical surface at a point, in tenths of a foot: 77.19(a) and (b).
+    /// `Beyond` where neither lies over it.
     pub fn cap(&self, x: &Point) -> Cap
         ensures exact { IsCap self.now x.now result }
         ensures value { result ≡ cap_of self.now x.now }
-        ensures level { IsSmallCap result }
     {
-        if self.within(x, 0) {
-            return Cap::Level(self.level);
+        self.cap_at(&self.standing(x))
+    }
+
+    /// How far `top` is above the horizontal surface at a point that stands so, in tenths of a foot: 77.19(a). `None` where it is not
+    /// above, and where the surface does not cover the point.
+    pub fn excess_horizontal_at(&self, standing: &Standing, top: i64) -> Option<u32>
+        requires top { IsLevel top }
+        ensures exact { (x : Point) → IsStanding self.now x standing.now → IsExcess (horizontal self.now x) top result }
+        ensures value { (x : Point) → IsStanding self.now x standing.now → result ≡ horizontal_excess self.now x top }
+    {
+        match standing {
+            Standing::Horizontal => flat_excess(self.level, top),
+            Standing::Conical(_) => None,
+            Standing::Beyond => None,
         }
-        if !self.is_within_beyond(Edge::Closed, x, OUTER_RUN) {
-            return Cap::Beyond;
-        }
-        Cap::Level(self.least_level(x))
     }
 
     /// How far `top` is above the horizontal surface at a point, in tenths of a foot: 77.19(a). `None` where it is not above, and where
@@ -172,27 +219,44 @@ impl Hull {
         if top <= self.level {
             return None;
         }
-        if !self.within(x, 0) {
-            return None;
-        }
-        flat_excess(self.level, top)
+        self.excess_horizontal_at(&self.standing(x), top)
     }
 
-    /// Whether `top` is above the conical surface at a point that this covers.
-    #[tactic(auto, using(crate::proofs::Caps::AboveConical_far))]
-    fn is_above_conical(&self, x: &Point, top: i64) -> bool
+    /// How far `top` is above the conical surface, at a point that this covers, by the least whole level at or above it. The surface lies
+    /// at that level or less than one below it, so that only at the level itself the point has to be asked once more.
+    fn excess_over_conical(&self, x: &Point, least: i64, top: i64) -> Option<u32>
         requires covers { ConicalCovers self.now x.now }
+        requires least { IsLeastConical self.now x.now least }
         requires top { IsLevel top }
-        ensures { IsTrue result ↔ AboveConical self.now x.now top }
+        ensures exact { IsExcess (conical self.now x.now) top result }
+        ensures value { result ≡ conical_excess self.now x.now top }
     {
-        if top < self.level {
-            return false;
+        // First of all: that the hull's level is read tells the proof how large `least` can be.
+        let rise = (least - self.level) as u32;
+        if top < least {
+            return None;
         }
-        let rise = (top - self.level) as u32;
-        if rise > OUTER_RISE {
-            return true;
+        if least < top {
+            return Some((top - least) as u32);
         }
-        self.is_within_beyond(Edge::Open, x, 20 * rise)
+        if !self.is_within_beyond(Edge::Open, x, CONICAL_SLOPE * rise) {
+            return None;
+        }
+        Some(0)
+    }
+
+    /// How far `top` is above the conical surface at a point that stands so, in tenths of a foot, rounded down: 77.19(b). `None` where it
+    /// is not above, and where the surface does not cover the point.
+    pub fn excess_conical_at(&self, x: &Point, standing: &Standing, top: i64) -> Option<u32>
+        requires standing { IsStanding self.now x.now standing.now }
+        requires top { IsLevel top }
+        ensures exact { IsExcess (conical self.now x.now) top result }
+        ensures value { result ≡ conical_excess self.now x.now top }
+    {
+        match standing {
+            Standing::Conical(least) => self.excess_over_conical(x, *least, top),
+            Standing::Horizontal | Standing::Beyond => None,
+        }
     }
 
     /// How far `top` is above the conical surface at a point, in tenths of a foot, rounded down: 77.19(b). `None` where it is not above,
@@ -205,15 +269,6 @@ impl Hull {
         if top < self.level {
             return None;
         }
-        if self.within(x, 0) {
-            return None;
-        }
-        if !self.is_within_beyond(Edge::Closed, x, OUTER_RUN) {
-            return None;
-        }
-        if !self.is_above_conical(x, top) {
-            return None;
-        }
-        Some((top - self.least_level(x)) as u32)
+        self.excess_conical_at(x, &self.standing(x), top)
     }
 }

@@ -1,19 +1,18 @@
 //! Worked values: distances from the convex hulls of the discs, computed apart from this crate.
 
+ghost use Rattle.std.specs.Prelude.{◌≤◌};
 ghost use Rattle.grid_exact.specs.Level.{IsLevel};
 
-use crate::Hull;
-use airport_register::{
-    Airfield, Amendment, Category, FieldId, Register, Runway, RunwayEnd, RunwayName,
-};
+use crate::{CONICAL_RUN, Hull, Standing, cap_is, conical_excess_is, horizontal_excess_is};
+use airfields::{Airport, Category, FieldId, Runway, RunwayEnd, RunwayName, Runways};
 use grid_exact::{Cap, Point};
 use runway_classes::ApproachKind;
 use std::alloc::Global;
 use std::test::Fail;
 
-/// The register has no such airport.
+/// The airport does not keep the limits of a register's airports.
 #[derive(Clone, Copy, Debug)]
-struct NoAirport;
+struct NotHeld;
 
 fn end(at: (i64, i64), kind: ApproachKind) -> Result<RunwayEnd, Fail> {
     let at = Point::new(at.0, at.1)?;
@@ -43,31 +42,22 @@ fn large(name: &[u8], from: (i64, i64), to: (i64, i64)) -> Result<Runway, Fail> 
 }
 
 /// The surfaces of an airport at elevation 0 with these runways.
-fn hull(alloc: Global, runways: &[Runway]) -> Result<Hull, Fail> {
-    let id = FieldId::new(b"AAA")?;
-    let mut register = Register::empty(alloc);
-    register.amend(
-        alloc,
-        &Amendment::PutAirport {
-            id,
-            category: Category::PublicUse,
-            arp: Point::new(0, 0)?,
-            elevation: 0,
-        },
-    )?;
+fn hull(alloc: Global, category: Category, runways: &[Runway]) -> Result<Hull, Fail> {
+    let mut held = Runways::empty(alloc);
     for runway in runways {
-        register.amend(
-            alloc,
-            &Amendment::PutRunway {
-                id,
-                runway: *runway,
-            },
-        )?;
+        held = held.with(alloc, runway)?;
     }
-    match register.get(&id) {
-        Some(Airfield::Airport(airport)) => Ok(Hull::of(alloc, airport)?),
-        _ => Err(NoAirport)?,
+    let airport = Airport {
+        id: FieldId::new(b"AAA")?,
+        category,
+        arp: Point::new(0, 0)?,
+        elevation: 0,
+        runways: held,
+    };
+    if !airport.is_held() {
+        Err(NotHeld)?;
     }
+    Ok(Hull::of(alloc, &airport)?)
 }
 
 /// A top.
@@ -75,6 +65,13 @@ fn level(top: i16) -> i64
     ensures { IsLevel result }
 {
     i64::from(top)
+}
+
+/// A way outward.
+fn out(c: u16) -> u32
+    ensures { result ≤ CONICAL_RUN }
+{
+    u32::from(c).min(CONICAL_RUN)
 }
 
 /// What is said of a top at a point: how far it is above the surfaces, and where these end upward.
@@ -118,32 +115,103 @@ fn ask(hull: &Hull, x: i64, y: i64, top: i16) -> Result<Answer, Fail> {
 }
 
 /// A smaller and a larger arc on one line: 12 y = 5 x + 650,000 is the northern tangent.
-fn slanted(alloc: Global) -> Result<Hull, Fail> {
+fn slanted(alloc: Global, category: Category) -> Result<Hull, Fail> {
     let runways = [
         light(b"A", (0, 0), (1000, 0))?,
         large(b"B", (130_000, 0), (131_000, 0))?,
     ];
-    hull(alloc, runways.as_slice())
+    hull(alloc, category, runways.as_slice())
+}
+
+/// An airport without runways.
+fn bare(alloc: Global) -> Result<Hull, Fail> {
+    let runways: [Runway; 0] = [];
+    hull(alloc, Category::PublicUse, runways.as_slice())
+}
+
+/// Three centers far from each other: the first point asked is more than 5,000 feet from each side of their triangle.
+fn apart(alloc: Global) -> Result<Hull, Fail> {
+    let runways = [
+        light(b"A", (0, 0), (1000, 0))?,
+        light(b"B", (400_000, 0), (400_000, 1000))?,
+        light(b"C", (0, 400_000), (1000, 400_000))?,
+    ];
+    hull(alloc, Category::PublicUse, runways.as_slice())
+}
+
+/// A smaller arc inside a larger one.
+fn inside(alloc: Global) -> Result<Hull, Fail> {
+    let runways = [
+        large(b"A", (0, 0), (100_000, 0))?,
+        light(b"B", (30_000, 0), (31_000, 0))?,
+    ];
+    hull(alloc, Category::PublicUse, runways.as_slice())
+}
+
+/// The ends are as far apart as an airport's may be.
+fn greatest(alloc: Global) -> Result<Hull, Fail> {
+    let runways = [
+        large(b"A", (400_000, 400_000), (300_000, 300_000))?,
+        large(b"B", (-400_000, -400_000), (-300_000, -300_000))?,
+    ];
+    hull(alloc, Category::PublicUse, runways.as_slice())
 }
 
 #[test]
-fn slanted_tangents(rt: HostRuntime) -> Result<(), Fail> {
-    let hull = slanted(rt.alloc())?;
-    for (x, y, top, expected) in [
-        (50_000, 75_000, 1500, under_horizontal(None)),
-        (50_000, 75_000, 1501, under_horizontal(Some(1))),
-        (50_000, 75_001, 1500, under_conical(None, 1501)),
-        (50_000, 75_001, 1501, under_conical(Some(0), 1501)),
-        (50_000, -75_001, 1502, under_conical(Some(1), 1501)),
-        (50_000, 118_333, 3500, under_conical(Some(0), 3500)),
-        (50_000, 118_334, 9000, BEYOND),
-        (-50_020, 0, 1501, under_conical(None, 1501)),
-        (-50_021, 0, 1502, under_conical(Some(0), 1502)),
-        (-90_000, 0, 3500, under_conical(None, 3500)),
-        (-90_000, 0, 3501, under_conical(Some(1), 3500)),
-        (-90_001, 0, 9000, BEYOND),
+fn answers(rt: HostRuntime) -> Result<(), Fail> {
+    let military = slanted(rt.alloc(), Category::Dod)?;
+    let bare = bare(rt.alloc())?;
+    let slanted = slanted(rt.alloc(), Category::PublicUse)?;
+    let apart = apart(rt.alloc())?;
+    let inside = inside(rt.alloc())?;
+    let greatest = greatest(rt.alloc())?;
+    for (hull, x, y, top, expected) in [
+        (&slanted, 50_000, 75_000, 1500, under_horizontal(None)),
+        (&slanted, 50_000, 75_000, 1501, under_horizontal(Some(1))),
+        (&slanted, 50_000, 75_001, 1500, under_conical(None, 1501)),
+        (&slanted, 50_000, 75_001, 1501, under_conical(Some(0), 1501)),
+        (
+            &slanted,
+            50_000,
+            -75_001,
+            1502,
+            under_conical(Some(1), 1501),
+        ),
+        (
+            &slanted,
+            50_000,
+            118_333,
+            3500,
+            under_conical(Some(0), 3500),
+        ),
+        (&slanted, 50_000, 118_334, 9000, BEYOND),
+        (&slanted, -50_020, 0, 1501, under_conical(None, 1501)),
+        (&slanted, -50_021, 0, 1502, under_conical(Some(0), 1502)),
+        (&slanted, -90_000, 0, 3500, under_conical(None, 3500)),
+        (&slanted, -90_000, 0, 3501, under_conical(Some(1), 3500)),
+        (&slanted, -90_001, 0, 9000, BEYOND),
+        (&apart, 130_000, 130_000, 1501, under_horizontal(Some(1))),
+        (&apart, 235_856, 235_856, 1501, under_conical(Some(0), 1501)),
+        (&inside, 30_000, 100_000, 1501, under_horizontal(Some(1))),
+        (&inside, 30_000, 100_001, 1501, under_conical(Some(0), 1501)),
+        (&inside, -170_000, 0, 1501, BEYOND),
+        (&greatest, 70_710, -70_710, 1501, under_horizontal(Some(1))),
+        (
+            &greatest,
+            70_711,
+            -70_711,
+            1501,
+            under_conical(Some(0), 1501),
+        ),
+        (&greatest, 98_994, -98_994, 1501, under_conical(None, 3500)),
+        (&greatest, 98_995, -98_995, 1501, BEYOND),
+        (&greatest, 540_000, 400_000, 1501, under_conical(None, 3500)),
+        (&greatest, 540_001, 400_000, 1501, BEYOND),
+        (&military, 50_000, 75_000, 1501, BEYOND),
+        (&military, 50_000, 75_001, 1501, BEYOND),
+        (&bare, 0, 0, 9000, BEYOND),
     ] {
-        assert_eq!(rt; ask(&hull, x, y, top)?, expected, "at {x}, {y}");
+        assert_eq!(rt; ask(hull, x, y, top)?, expected, "at {x}, {y}");
     }
     Ok(())
 }
@@ -151,88 +219,39 @@ fn slanted_tangents(rt: HostRuntime) -> Result<(), Fail> {
 /// On both tangents, on both arcs, and on the outer edge.
 #[test]
 fn edges(rt: HostRuntime) -> Result<(), Fail> {
-    let hull = slanted(rt.alloc())?;
-    for (x, y) in [
-        (50_000, 75_000),
-        (50_000, -75_000),
-        (-50_000, 0),
-        (231_000, 0),
+    let slanted = slanted(rt.alloc(), Category::PublicUse)?;
+    let bare = bare(rt.alloc())?;
+    for (hull, x, y, c, within, strictly) in [
+        (&slanted, 50_000, 75_000, 0, true, false),
+        (&slanted, 50_000, 75_000, 1, true, true),
+        (&slanted, 50_000, -75_000, 0, true, false),
+        (&slanted, 50_000, -75_000, 1, true, true),
+        (&slanted, -50_000, 0, 0, true, false),
+        (&slanted, -50_000, 0, 1, true, true),
+        (&slanted, 231_000, 0, 0, true, false),
+        (&slanted, 231_000, 0, 1, true, true),
+        (&slanted, 271_000, 0, 40_000, true, false),
+        (&slanted, 271_000, 0, 39_999, false, false),
+        (&bare, 0, 0, 40_000, false, false),
     ] {
         let point = Point::new(x, y)?;
-        assert!(rt; hull.within(&point, 0), "at {x}, {y}");
-        assert!(rt; !hull.strictly_within(&point, 0), "at {x}, {y}");
-        assert!(rt; hull.strictly_within(&point, 1), "at {x}, {y}");
+        assert_eq!(rt; hull.within(&point, out(c)), within, "at {x}, {y}, {c}");
+        assert_eq!(rt;
+            hull.strictly_within(&point, out(c)),
+            strictly,
+            "at {x}, {y}, {c}"
+        );
     }
-    let outer = Point::new(271_000, 0)?;
-    assert!(rt; hull.within(&outer, 40_000));
-    assert!(rt; !hull.strictly_within(&outer, 40_000));
-    assert!(rt; !hull.within(&outer, 39_999));
-    Ok(())
-}
-
-/// The first point is more than 5,000 feet from each side of the triangle.
-#[test]
-fn three_runways_far_apart(rt: HostRuntime) -> Result<(), Fail> {
-    let runways = [
-        light(b"A", (0, 0), (1000, 0))?,
-        light(b"B", (400_000, 0), (400_000, 1000))?,
-        light(b"C", (0, 400_000), (1000, 400_000))?,
-    ];
-    let hull = hull(rt.alloc(), runways.as_slice())?;
-    for (x, y, expected) in [
-        (130_000, 130_000, under_horizontal(Some(1))),
-        (235_856, 235_856, under_conical(Some(0), 1501)),
-    ] {
-        assert_eq!(rt; ask(&hull, x, y, 1501)?, expected, "at {x}, {y}");
-    }
+    assert_eq!(rt;
+        slanted.standing(&Point::new(271_000, 0)?),
+        Standing::Conical(3500)
+    );
     Ok(())
 }
 
 #[test]
-fn a_smaller_arc_inside_a_larger_one(rt: HostRuntime) -> Result<(), Fail> {
-    let runways = [
-        large(b"A", (0, 0), (100_000, 0))?,
-        light(b"B", (30_000, 0), (31_000, 0))?,
-    ];
-    let hull = hull(rt.alloc(), runways.as_slice())?;
-    for (x, y, expected) in [
-        (30_000, 100_000, under_horizontal(Some(1))),
-        (30_000, 100_001, under_conical(Some(0), 1501)),
-        (-170_000, 0, BEYOND),
-    ] {
-        assert_eq!(rt; ask(&hull, x, y, 1501)?, expected, "at {x}, {y}");
-    }
-    Ok(())
-}
-
-/// The ends are as far apart as an airport's may be.
-#[test]
-fn greatest_spans(rt: HostRuntime) -> Result<(), Fail> {
-    let runways = [
-        large(b"A", (400_000, 400_000), (300_000, 300_000))?,
-        large(b"B", (-400_000, -400_000), (-300_000, -300_000))?,
-    ];
-    let hull = hull(rt.alloc(), runways.as_slice())?;
-    for (x, y, expected) in [
-        (70_710, -70_710, under_horizontal(Some(1))),
-        (70_711, -70_711, under_conical(Some(0), 1501)),
-        (98_994, -98_994, under_conical(None, 3500)),
-        (98_995, -98_995, BEYOND),
-        (540_000, 400_000, under_conical(None, 3500)),
-        (540_001, 400_000, BEYOND),
-    ] {
-        assert_eq!(rt; ask(&hull, x, y, 1501)?, expected, "at {x}, {y}");
-    }
-    Ok(())
-}
-
-#[test]
-fn no_runways(rt: HostRuntime) -> Result<(), Fail> {
-    let runways: [Runway; 0] = [];
-    let hull = hull(rt.alloc(), runways.as_slice())?;
-    let point = Point::new(0, 0)?;
-    assert_eq!(rt; ask(&hull, 0, 0, 9000)?, BEYOND);
-    assert!(rt; !hull.within(&point, 40_000));
-    assert!(rt; !hull.strictly_within(&point, 40_000));
-    Ok(())
+fn laws() {
+    horizontal_excess_is();
+    conical_excess_is();
+    cap_is();
 }

@@ -10,7 +10,13 @@ mod extent;
 mod hull;
 #[cfg(test)]
 mod hull_tests;
+mod laws;
+mod sizes;
 mod some;
+mod standing;
 mod triangle;
 
 pub use hull::Hull;
+pub use laws::{cap_is, conical_excess_is, horizontal_excess_is};
+pub use sizes::{CONICAL_RISE, CONICAL_RUN, CONICAL_SLOPE, HORIZONTAL_RISE};
+pub use standing::Standing;

@@ -10,13 +10,14 @@ ghost use Rattle.horizontal_hull.specs.Triangles.{in_triangle};
 use crate::arc::Arc;
 use crate::capsule::is_in_capsule;
 use crate::edge::Edge;
+use crate::sizes::CONICAL_RUN;
 use crate::triangle::is_in_triangle;
 use grid_exact::Point;
 
 /// Whether a point lies in the capsule of an arc and one of others, with radii raised by `c`.
 fn is_in_capsule_with(edge: Edge, a: &Arc, others: &[Arc], x: &Point, c: u32) -> bool
     requires close { AreClose (a.now ∷ others.now) x.now }
-    requires run { c ≤ 40000 }
+    requires run { c ≤ CONICAL_RUN }
     ensures { result ≡ list_any (λ b. in_capsule edge a.now b x.now c) others.now }
 {
     for b in others {
@@ -30,7 +31,7 @@ fn is_in_capsule_with(edge: Edge, a: &Arc, others: &[Arc], x: &Point, c: u32) ->
 /// Whether a point lies in the capsule of some two arcs with radii raised by `c`.
 pub(crate) fn is_in_some_capsule(edge: Edge, arcs: &[Arc], x: &Point, c: u32) -> bool
     requires close { AreClose arcs.now x.now }
-    requires run { c ≤ 40000 }
+    requires run { c ≤ CONICAL_RUN }
     ensures { result ≡ some_two (λ a b. in_capsule edge a b x.now c) arcs.now }
 {
     for (i, a) in arcs.iter().enumerate() {

@@ -24,6 +24,7 @@ fn is_not_right(x: &Point, a: &Arc, b: &Arc) -> bool
 fn is_inside(a: &Arc, b: &Arc, d: &Arc, x: &Point) -> bool
     ensures { result ≡ is_inside_of a.now b.now d.now x.now }
 {
+    // In pairs: of a longer row of `&&` a goal stays open.
     (is_left_turn(a, b, d) && is_not_right(x, a, b))
         && (is_not_right(x, b, d) && is_not_right(x, d, a))
 }

@@ -1,2 +1,4 @@
+pub mod Sound
 pub mod SurfaceFacts
 pub mod TransitionFacts
+pub mod ExcessLaws

@@ -1,26 +1,30 @@
 -- The slopes of transitional surfaces, what they cover, and excesses by the tests that compute it.
-use Rattle.std.proofs.Common.{◌≡◌, ℕ, ◌*◌, ◌^◌, ◌<◌, ◌≤◌, ℤ, pos, ◌+ℤ◌, ◌-ℤ◌, ◌*ℤ◌, ◌<ℤ◌, unsigned_abs, arith, ap, sym, ◌∙◌, refl, Option, Bool, true, false, ◌&&◌, int_le, int_lt}
-use Rattle.std.specs.Prelude.{IfSome}
+use Rattle.std.proofs.Common.{◌≡◌, ℕ, ◌*◌, ◌^◌, ◌<◌, ◌≤◌, ℤ, pos, ◌+ℤ◌, ◌-ℤ◌, ◌*ℤ◌, ◌<ℤ◌, unsigned_abs, arith, sym, subst, refl, Option, Bool, true, false, ◌&&◌, int_le, int_lt}
+use Rattle.std.specs.Prelude.{IfSome, ⊤}
 use Rattle.std.proofs.Math.IntN.{*ℤ_comm}
-use Rattle.std.proofs.lemmas.Int.{ints, by_lt_z}
+use Rattle.std.proofs.lemmas.Int.{ints, by_lt_z, unsigned_abs-mul}
 use Rattle.std.proofs.lemmas.Nat.{mul-le}
 use Rattle.grid_exact.specs.Root.{AtLeastRoot, signed_square}
-use Rattle.grid_exact.specs.Excess.{IsExcess, is_at_most_root}
-use Rattle.grid_exact.specs.Lines.{IsSquare, along, aside, square}
+use Rattle.grid_exact.specs.Level.{Reaches}
+use Rattle.grid_exact.specs.Excess.{IsExcess, root_surface, is_at_least_root, is_at_most_root}
+use Rattle.grid_exact.specs.Lines.{Offset, offset}
 use Rattle.grid_exact.specs.declared.cap.Cap.{Cap}
 use Rattle.grid_exact.specs.declared.cap.Cap.TheVariants.{Level, Beyond}
 use Rattle.grid_exact.specs.declared.point.Point.{Point}
 use Rattle.grid_exact.proofs.ExcessLemmas.{root_excess_of-is}
-use Rattle.grid_exact.proofs.IntLaws.{mul-le_left, mul-lt_right, mul-sub, sub-mul, mul_assoc, signed_square_le, signed_square_lt}
-use Rattle.grid_exact.proofs.TestFacts.{all_true, at_most_in, at_most_out, first_true, le_in, le_out, lt_in, lt_out, second_true, third_true}
-use Rattle.airport_register.specs.declared.runway.Runway.{Runway}
+use Rattle.grid_exact.proofs.IntLaws.{mul-le_left, mul-lt_right, signed_square_le, signed_square_lt}
+use Rattle.grid_exact.proofs.Sizes.{abs_sub_le}
+use Rattle.grid_exact.proofs.TestFacts.{all_true, at_least_in, at_least_out, at_most_in, at_most_out, first_true, le_in, le_out, lt_in, lt_out, second_true, third_true}
+use Rattle.airfields.specs.declared.runway.Runway.{Runway}
 use Rattle.runway_lines.specs.declared.end.End.{End}
 use Rattle.imaginary_surfaces.specs.Primaries.{IsWidth, Primary}
 use Rattle.imaginary_surfaces.specs.Approaches.{Approach, IsRise, outside}
-use Rattle.imaginary_surfaces.specs.Transitions.{ReachesBesidePrimary, EndsBesidePrimary, CoversBesidePrimary, shift_beside_primary, reaches_beside_primary, ends_beside_primary}
-use Rattle.imaginary_surfaces.specs.Transitions.{ReachesBesideApproach, EndsBesideApproach, CoversBesideApproach, left_beside_approach, factor_beside_approach, shift_beside_approach}
-use Rattle.imaginary_surfaces.specs.Transitions.{reaches_beside_approach, ends_beside_approach, is_at_least_root}
+use Rattle.imaginary_surfaces.specs.Transitions.{EndsAt, Incline, TransitionCovers, ends_at, transition, transition_excess_of}
+use Rattle.imaginary_surfaces.specs.Transitions.{ReachesBesidePrimary, incline_beside_primary, reaches_beside_primary}
+use Rattle.imaginary_surfaces.specs.Transitions.{GoesBeyond, ReachesBesideApproach, goes_beyond, incline_beside_approach, reaches_beside_approach}
 use Rattle.imaginary_surfaces.specs.Strips.{primary_of, approach_of, primary_transition_surface, approach_transition_surface, primary_transition_excess, approach_transition_excess}
+use Rattle.imaginary_surfaces.proofs.SurfaceFacts.{root_for}
+use Rattle.imaginary_surfaces.specs.declared.measures.TheConstants.{APPROACH_FACTOR, HALF_WIDTH_SCALE, SCALED_REACH}
 
 -- what is at least the root of a positive factor is positive
 pub from_side_positive : (a w : ℤ) (n : ℕ) → pos 0 <ℤ w → 0 < n → AtLeastRoot a w n → pos 0 <ℤ a
@@ -29,18 +33,10 @@ from_side_positive a w n p r h =
     (λ l. l)
     (λ l. absurd (omega (arith, ints, mul-lt_right (signed_square (pos 0)) (signed_square w) n r (signed_square_lt (pos 0) w p), signed_square_le a (pos 0) l, h.at_least)))
 
-pub outside_positive : (a : Approach) (x : Point) → IsWidth a.width → IsSquare (square a.line) → ReachesBesideApproach a x → pos 0 <ℤ outside a x
-outside_positive a x w n h = from_side_positive (outside a x) (pos 20 *ℤ a.width) (square a.line) (omega (arith, ints, w.least)) n.some h.from_side
+pub outside_positive : (a : Approach) (o : Offset) → IsWidth a.width → 0 < o.square → ReachesBesideApproach a o → pos 0 <ℤ outside a o
+outside_positive a o w n h = from_side_positive (outside a o) (HALF_WIDTH_SCALE *ℤ a.width) o.square (omega (arith, ints, w.least)) n h.from_side
 
--- s * (40 * q - k * m) + 280 * m = 40 * s * q + (280 - k * s) * m
-pub left_is : (s k m : ℤ) (q : ℕ) → s *ℤ (pos (40 * q) -ℤ k *ℤ m) +ℤ pos 280 *ℤ m ≡ pos 40 *ℤ s *ℤ pos q +ℤ (pos 280 -ℤ k *ℤ s) *ℤ m
-left_is s k m q =
-    let a : s *ℤ pos (40 * q) ≡ pos 40 *ℤ s *ℤ pos q =
-    ap (λ z. s *ℤ z) (omega (arith, ints)) ∙ (sym (mul_assoc s (pos 40) (pos q)) ∙ ap (λ z. z *ℤ pos q) (*ℤ_comm s (pos 40))) in
-    let b : s *ℤ (k *ℤ m) ≡ (k *ℤ s) *ℤ m = sym (mul_assoc s k m) ∙ ap (λ z. z *ℤ m) (*ℤ_comm s k) in
-    omega (arith, ints, a, b, mul-sub s (pos (40 * q)) (k *ℤ m), sub-mul (pos 280) (k *ℤ s) m)
-
-pub left_positive : (s out m : ℤ) → pos 0 <ℤ s → pos 0 <ℤ out → pos 0 <ℤ m → pos 0 <ℤ (s *ℤ out +ℤ pos 280 *ℤ m)
+pub left_positive : (s out m : ℤ) → pos 0 <ℤ s → pos 0 <ℤ out → pos 0 <ℤ m → pos 0 <ℤ (s *ℤ out +ℤ APPROACH_FACTOR *ℤ m)
 left_positive s out m p q r = omega (arith, ints, mul-le_left s (pos 0) out p (omega (arith, ints, q)), *ℤ_comm s (pos 0), r)
 
 -- sizes of the two parts of what a slope has at the line
@@ -49,22 +45,45 @@ pub record ShiftParts (slope from_base from_side : ℤ) : Type 0 where
   pub base_size : unsigned_abs from_base ≤ unsigned_abs slope * (280 * 2 ^ 19)
   pub side_size : unsigned_abs from_side ≤ unsigned_abs slope * 200000
 
-pub shift_parts : (slope base width left right : ℤ) → IsRise slope base → unsigned_abs width ≤ 10000 →
-    unsigned_abs left ≡ unsigned_abs (pos 280 *ℤ slope) * unsigned_abs base → unsigned_abs right ≡ unsigned_abs (pos 20 *ℤ slope) * unsigned_abs width → ShiftParts slope left right
-shift_parts slope base width left right rise w el er =
-    let a : unsigned_abs (pos 280 *ℤ slope) ≡ 280 * unsigned_abs slope = omega (arith, ints, rise.rises) in
-    let b : unsigned_abs (pos 20 *ℤ slope) ≡ 20 * unsigned_abs slope = omega (arith, ints, rise.rises) in
+pub shift_parts : (slope base width left right : ℤ) → IsRise slope base → IsWidth width →
+    unsigned_abs left ≡ unsigned_abs (APPROACH_FACTOR *ℤ slope) * unsigned_abs base → unsigned_abs right ≡ unsigned_abs (HALF_WIDTH_SCALE *ℤ slope) * unsigned_abs width → ShiftParts slope left right
+shift_parts slope base width left right rise wide el er =
+    let w : unsigned_abs width ≤ 10000 = omega (arith, ints, wide.least, wide.most) in
+    let a : unsigned_abs (APPROACH_FACTOR *ℤ slope) ≡ 280 * unsigned_abs slope = omega (arith, ints, rise.rises) in
+    let b : unsigned_abs (HALF_WIDTH_SCALE *ℤ slope) ≡ 20 * unsigned_abs slope = omega (arith, ints, rise.rises) in
     let p : unsigned_abs left ≤ (280 * unsigned_abs slope) * 2 ^ 19 = rw (el, a) (mul-le (280 * unsigned_abs slope) (unsigned_abs base) (280 * unsigned_abs slope) (2 ^ 19) (omega arith) rise.base_size) in
     let q : unsigned_abs right ≤ (20 * unsigned_abs slope) * 10000 = rw (er, b) (mul-le (20 * unsigned_abs slope) (unsigned_abs width) (20 * unsigned_abs slope) 10000 (omega arith) w) in
     record { slope_size = omega (arith, ints, rise.rises, rise.slope_most); base_size = omega (arith, p); side_size = omega (arith, q) }
 
+pub shift_size : (slope base width : ℤ) → IsRise slope base → IsWidth width → unsigned_abs (APPROACH_FACTOR *ℤ slope *ℤ base -ℤ HALF_WIDTH_SCALE *ℤ slope *ℤ width) ≤ unsigned_abs (APPROACH_FACTOR *ℤ slope) * 2 ^ 25
+shift_size slope base width rise wide =
+    let left = APPROACH_FACTOR *ℤ slope *ℤ base in
+    let right = HALF_WIDTH_SCALE *ℤ slope *ℤ width in
+    let parts = shift_parts slope base width left right rise wide (unsigned_abs-mul (APPROACH_FACTOR *ℤ slope) base) (unsigned_abs-mul (HALF_WIDTH_SCALE *ℤ slope) width) in
+    let a : unsigned_abs (APPROACH_FACTOR *ℤ slope) ≡ 280 * unsigned_abs slope = omega (arith, ints, rise.rises) in
+    rw a (omega (arith, abs_sub_le left right, parts.base_size, parts.side_size))
+
+-- ---- inclines whose parts are the same
+abbrev inclined : ℤ → ℤ → ℤ → ℕ → Incline
+inclined l f s n = record { left = l; factor = f; shift = s; square = n }
+
+pub same_incline : (l l' f f' s s' : ℤ) (n n' : ℕ) → l ≡ l' → f ≡ f' → s ≡ s' → n ≡ n' → inclined l f s n ≡ inclined l' f' s' n'
+same_incline l l' f f' s s' n n' a b d e = rw (a, b, d, e)
+
+-- ---- a slope is a transitional surface where that one reaches the point: it ends at a limit, or goes beyond
+pub transition_up_to : (C B : Type 0) (i j : Incline) (l top : ℤ) (r : Option ℕ) → j ≡ i → C → IsExcess (root_surface (Reaches j.left j.factor j.shift j.square l) j.left j.factor j.shift j.square) top r →
+    IsExcess (transition C i B (Level l)) top r
+transition_up_to C B i j l top r e c h =
+    root_for (Reaches i.left i.factor i.shift i.square l) (TransitionCovers C i B (Level l)) i.left i.factor i.shift i.square top r
+    (λ q b. record { reached = c; limited = q }) (λ (q : TransitionCovers C i B (Level l)). q.limited)
+    (subst (λ (z : Incline). IsExcess (root_surface (Reaches z.left z.factor z.shift z.square l) z.left z.factor z.shift z.square) top r) e h)
+
+pub transition_beyond : (C B : Type 0) (i j : Incline) (top : ℤ) (r : Option ℕ) → j ≡ i → C → B → IsExcess (root_surface ⊤ j.left j.factor j.shift j.square) top r → IsExcess (transition C i B Beyond) top r
+transition_beyond C B i j top r e c b h =
+    root_for ⊤ (TransitionCovers C i B Beyond) i.left i.factor i.shift i.square top r (λ q d. record { reached = c; limited = b }) (λ q. tt)
+    (subst (λ (z : Incline). IsExcess (root_surface ⊤ z.left z.factor z.shift z.square) top r) e h)
+
 -- ---- what covers a point, as the tests compute it
-at_least_out : (a b : ℤ) (n : ℕ) → AtLeastRoot a b n → is_at_least_root a b n ≡ true
-at_least_out a b n h = grind (arith, ints, h.at_least)
-
-at_least_in : (a b : ℤ) (n : ℕ) → is_at_least_root a b n ≡ true → AtLeastRoot a b n
-at_least_in a b n h = grind (arith, ints)
-
 both_true : (a b : Bool) → a ≡ true → b ≡ true → a && b ≡ true
 both_true a b x y = rw (x, y) refl
 
@@ -76,93 +95,108 @@ right_true : (a b : Bool) → a && b ≡ true → b ≡ true
 right_true true b h = h
 right_true false b h = absurd (cc)
 
-primary_reached : (p : Primary) (x : Point) → ReachesBesidePrimary p x → reaches_beside_primary p x ≡ true
+pub primary_reached : (p : Primary) (o : Offset) → ReachesBesidePrimary p o → reaches_beside_primary p o ≡ true
 unfolding reaches_beside_primary
-primary_reached p x h =
-    let m = along p.line x in
-    let n = square p.line in
-    let q = pos (2 * aside p.line x) in
-    all_true (int_le (pos 0) m) (int_le m (pos n)) (is_at_least_root q p.width n) (le_out (pos 0) m h.past_start) (le_out m (pos n) h.before_end) (at_least_out q p.width n h.from_side)
+primary_reached p o h =
+    let q = pos (2 * o.aside) in
+    all_true (int_le (pos 0) o.along) (int_le o.along (pos o.square)) (is_at_least_root q p.width o.square)
+    (le_out (pos 0) o.along h.past_start) (le_out o.along (pos o.square) h.before_end) (at_least_out q p.width o.square h.from_side)
 
-primary_reaches : (p : Primary) (x : Point) → reaches_beside_primary p x ≡ true → ReachesBesidePrimary p x
+pub primary_reaches : (p : Primary) (o : Offset) → reaches_beside_primary p o ≡ true → ReachesBesidePrimary p o
 unfolding reaches_beside_primary
-primary_reaches p x h =
-    let m = along p.line x in
-    let n = square p.line in
-    let q = pos (2 * aside p.line x) in
-    let a = int_le (pos 0) m in
-    let b = int_le m (pos n) in
-    let d = is_at_least_root q p.width n in
+primary_reaches p o h =
+    let q = pos (2 * o.aside) in
+    let a = int_le (pos 0) o.along in
+    let b = int_le o.along (pos o.square) in
+    let d = is_at_least_root q p.width o.square in
     record {
-      past_start = le_in (pos 0) m (first_true a b d h);
-      before_end = le_in m (pos n) (second_true a b d h);
-      from_side = at_least_in q p.width n (third_true a b d h);
+      past_start = le_in (pos 0) o.along (first_true a b d h);
+      before_end = le_in o.along (pos o.square) (second_true a b d h);
+      from_side = at_least_in q p.width o.square (third_true a b d h);
     }
 
-primary_ended : (p : Primary) (x : Point) (cap : Cap) → EndsBesidePrimary p x cap → ends_beside_primary p x cap ≡ true
-primary_ended p x (Level l) h = at_most_out (pos (2 * aside p.line x)) (pos 14 *ℤ l -ℤ shift_beside_primary p x) (square p.line) h
-primary_ended p x Beyond h = absurd h
-
-primary_ends : (p : Primary) (x : Point) (cap : Cap) → ends_beside_primary p x cap ≡ true → EndsBesidePrimary p x cap
-primary_ends p x (Level l) h = at_most_in (pos (2 * aside p.line x)) (pos 14 *ℤ l -ℤ shift_beside_primary p x) (square p.line) h
-primary_ends p x Beyond h = absurd (cc)
-
-approach_reached : (a : Approach) (x : Point) → ReachesBesideApproach a x → reaches_beside_approach a x ≡ true
+pub approach_reached : (a : Approach) (o : Offset) → ReachesBesideApproach a o → reaches_beside_approach a o ≡ true
 unfolding reaches_beside_approach
-approach_reached a x h =
-    let m = along a.line x in
-    let n = square a.line in
-    let out = outside a x in
-    all_true (int_lt (pos 0) m) (is_at_most_root m a.class.length n) (is_at_least_root out (pos 20 *ℤ a.width) n)
-    (lt_out (pos 0) m h.ahead) (at_most_out m a.class.length n h.not_past) (at_least_out out (pos 20 *ℤ a.width) n h.from_side)
+approach_reached a o h =
+    let half = HALF_WIDTH_SCALE *ℤ a.width in
+    all_true (int_lt (pos 0) o.along) (is_at_most_root o.along a.class.length o.square) (is_at_least_root (outside a o) half o.square)
+    (lt_out (pos 0) o.along h.ahead) (at_most_out o.along a.class.length o.square h.not_past) (at_least_out (outside a o) half o.square h.from_side)
 
-approach_reaches : (a : Approach) (x : Point) → reaches_beside_approach a x ≡ true → ReachesBesideApproach a x
+pub approach_reaches : (a : Approach) (o : Offset) → reaches_beside_approach a o ≡ true → ReachesBesideApproach a o
 unfolding reaches_beside_approach
-approach_reaches a x h =
-    let m = along a.line x in
-    let n = square a.line in
-    let out = outside a x in
-    let b = int_lt (pos 0) m in
-    let d = is_at_most_root m a.class.length n in
-    let e = is_at_least_root out (pos 20 *ℤ a.width) n in
+approach_reaches a o h =
+    let half = HALF_WIDTH_SCALE *ℤ a.width in
+    let b = int_lt (pos 0) o.along in
+    let d = is_at_most_root o.along a.class.length o.square in
+    let e = is_at_least_root (outside a o) half o.square in
     record {
-      ahead = lt_in (pos 0) m (first_true b d e h);
-      not_past = at_most_in m a.class.length n (second_true b d e h);
-      from_side = at_least_in out (pos 20 *ℤ a.width) n (third_true b d e h);
+      ahead = lt_in (pos 0) o.along (first_true b d e h);
+      not_past = at_most_in o.along a.class.length o.square (second_true b d e h);
+      from_side = at_least_in (outside a o) half o.square (third_true b d e h);
     }
 
-approach_ended : (a : Approach) (x : Point) (cap : Cap) → EndsBesideApproach a x cap → ends_beside_approach a x cap ≡ true
-approach_ended a x (Level l) h = at_most_out (left_beside_approach a x) (factor_beside_approach a x *ℤ l -ℤ shift_beside_approach a x) (square a.line) h
-approach_ended a x Beyond h =
-    let near = pos 20 *ℤ a.width +ℤ pos 2000000 in
-    both_true a.precision (is_at_most_root (outside a x) near (square a.line)) h.precision (at_most_out (outside a x) near (square a.line) h.near)
+pub beyond_out : (a : Approach) (o : Offset) → GoesBeyond a o → goes_beyond a o ≡ true
+unfolding goes_beyond
+beyond_out a o h =
+    let far = HALF_WIDTH_SCALE *ℤ a.width +ℤ SCALED_REACH in
+    both_true a.precision (is_at_most_root (outside a o) far o.square) h.precision (at_most_out (outside a o) far o.square h.near)
 
-approach_ends : (a : Approach) (x : Point) (cap : Cap) → ends_beside_approach a x cap ≡ true → EndsBesideApproach a x cap
-approach_ends a x (Level l) h = at_most_in (left_beside_approach a x) (factor_beside_approach a x *ℤ l -ℤ shift_beside_approach a x) (square a.line) h
-approach_ends a x Beyond h =
-    let near = pos 20 *ℤ a.width +ℤ pos 2000000 in
-    let t = is_at_most_root (outside a x) near (square a.line) in
-    record { precision = left_true a.precision t h; near = at_most_in (outside a x) near (square a.line) (right_true a.precision t h) }
+pub beyond_in : (a : Approach) (o : Offset) → goes_beyond a o ≡ true → GoesBeyond a o
+unfolding goes_beyond
+beyond_in a o h =
+    let far = HALF_WIDTH_SCALE *ℤ a.width +ℤ SCALED_REACH in
+    let t = is_at_most_root (outside a o) far o.square in
+    record { precision = left_true a.precision t h; near = at_most_in (outside a o) far o.square (right_true a.precision t h) }
+
+-- a surface's two conditions, and the tests that compute them
+pub record TransitionTests (reaches : Type 0) (t : Bool) (beyond : Type 0) (u : Bool) : Type 0 where
+  pub reaches_out : reaches → t ≡ true
+  pub reaches_in : t ≡ true → reaches
+  pub beyond_out : beyond → u ≡ true
+  pub beyond_in : u ≡ true → beyond
+
+ended : (i : Incline) (B : Type 0) (u : Bool) (cap : Cap) → (B → u ≡ true) → EndsAt i B cap → ends_at i u cap ≡ true
+ended i B u (Level l) out h = at_most_out i.left (i.factor *ℤ l -ℤ i.shift) i.square h
+ended i B u Beyond out h = out h
+
+ends : (i : Incline) (B : Type 0) (u : Bool) (cap : Cap) → (u ≡ true → B) → ends_at i u cap ≡ true → EndsAt i B cap
+ends i B u (Level l) in_ h = at_most_in i.left (i.factor *ℤ l -ℤ i.shift) i.square h
+ends i B u Beyond in_ h = in_ h
+
+pub transition_out : (C : Type 0) (t : Bool) (i : Incline) (B : Type 0) (u : Bool) (cap : Cap) → TransitionTests C t B u → TransitionCovers C i B cap → t && ends_at i u cap ≡ true
+transition_out C t i B u cap tests h = both_true t (ends_at i u cap) (tests.reaches_out h.reached) (ended i B u cap tests.beyond_out h.limited)
+
+pub transition_in : (C : Type 0) (t : Bool) (i : Incline) (B : Type 0) (u : Bool) (cap : Cap) → TransitionTests C t B u → t && ends_at i u cap ≡ true → TransitionCovers C i B cap
+transition_in C t i B u cap tests h = record {
+  reached = tests.reaches_in (left_true t (ends_at i u cap) h);
+  limited = ends i B u cap tests.beyond_in (right_true t (ends_at i u cap) h);
+}
+
+pub primary_tests : (p : Primary) (o : Offset) → TransitionTests (ReachesBesidePrimary p o) (reaches_beside_primary p o) ⊥ false
+primary_tests p o = record { reaches_out = primary_reached p o; reaches_in = primary_reaches p o; beyond_out = λ h. absurd h; beyond_in = λ h. cc }
+
+pub approach_tests : (a : Approach) (o : Offset) → TransitionTests (ReachesBesideApproach a o) (reaches_beside_approach a o) (GoesBeyond a o) (goes_beyond a o)
+approach_tests a o = record { reaches_out = approach_reached a o; reaches_in = approach_reaches a o; beyond_out = beyond_out a o; beyond_in = beyond_in a o }
 
 -- ---- an excess is what the tests compute
+transition_listed : (C : Type 0) (t : Bool) (i : Incline) (B : Type 0) (u : Bool) (cap : Cap) (top : ℤ) (e : Option ℕ) → TransitionTests C t B u → IfSome e (λ d. d ≤ 2 ^ 26) →
+    IsExcess (transition C i B cap) top e → e ≡ transition_excess_of t i u cap top
+transition_listed C t i B u cap top e tests size h =
+    sym (root_excess_of-is (TransitionCovers C i B cap) (t && ends_at i u cap) i.left i.factor i.shift i.square top e
+    (transition_out C t i B u cap tests) (transition_in C t i B u cap tests) size h)
+
 pub primary_transition_listed : (r : Runway) (x : Point) (cap : Cap) (top : ℤ) (e : Option ℕ) → IfSome e (λ d. d ≤ 2 ^ 26) → IsExcess (primary_transition_surface r x cap) top e →
     e ≡ primary_transition_excess r x cap top
 unfolding primary_transition_excess
 primary_transition_listed r x cap top e size h =
     let p = primary_of r in
-    let t = reaches_beside_primary p x in
-    let u = ends_beside_primary p x cap in
-    sym (root_excess_of-is (CoversBesidePrimary p x cap) (t && u) (pos (2 * aside p.line x)) (pos 14) (shift_beside_primary p x) (square p.line) top e
-    (λ (k : CoversBesidePrimary p x cap). both_true t u (primary_reached p x k.reaches) (primary_ended p x cap k.limited))
-    (λ k. record { reaches = primary_reaches p x (left_true t u k); limited = primary_ends p x cap (right_true t u k) }) size h)
+    let o = offset p.line x in
+    transition_listed (ReachesBesidePrimary p o) (reaches_beside_primary p o) (incline_beside_primary p o x) ⊥ false cap top e (primary_tests p o) size h
 
 pub approach_transition_listed : (r : Runway) (end : End) (x : Point) (cap : Cap) (top : ℤ) (e : Option ℕ) → IfSome e (λ d. d ≤ 2 ^ 26) → IsExcess (approach_transition_surface r end x cap) top e →
     e ≡ approach_transition_excess r end x cap top
 unfolding approach_transition_excess
 approach_transition_listed r end x cap top e size h =
     let a = approach_of r end in
-    let t = reaches_beside_approach a x in
-    let u = ends_beside_approach a x cap in
-    sym (root_excess_of-is (CoversBesideApproach a x cap) (t && u) (left_beside_approach a x) (factor_beside_approach a x) (shift_beside_approach a x) (square a.line) top e
-    (λ (k : CoversBesideApproach a x cap). both_true t u (approach_reached a x k.reaches) (approach_ended a x cap k.limited))
-    (λ k. record { reaches = approach_reaches a x (left_true t u k); limited = approach_ends a x cap (right_true t u k) }) size h)
+    let o = offset a.line x in
+    transition_listed (ReachesBesideApproach a o) (reaches_beside_approach a o) (incline_beside_approach a o) (GoesBeyond a o) (goes_beyond a o) cap top e (approach_tests a o) size h

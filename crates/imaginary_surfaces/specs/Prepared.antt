@@ -1,7 +1,7 @@
--- What is prepared of a runway.
+-- For proofs alone: what is prepared of a runway.
 use Rattle.std.specs.Prelude.{◌≡◌}
-use Rattle.airport_register.specs.declared.runway.Runway.{Runway}
-use Rattle.airport_register.specs.Runways.{IsProper}
+use Rattle.airfields.specs.declared.runway.Runway.{Runway}
+use Rattle.airfields.specs.Runways.{IsProper}
 use Rattle.imaginary_surfaces.specs.Shapes.{primary_shape, approach_shape}
 use Rattle.imaginary_surfaces.specs.Strips.{primary_of, approach_of}
 use Rattle.imaginary_surfaces.specs.declared.primary.PrimarySurface.{PrimarySurface}

@@ -1,7 +1,9 @@
--- What the prepared parts of a runway are.
+-- For proofs alone: what the prepared parts of a runway are.
 use Rattle.grid_exact.specs.Axes.{line_of}
+use Rattle.grid_exact.specs.declared.slope.Slope.{Slope}
 use Rattle.imaginary_surfaces.specs.Primaries.{Primary}
 use Rattle.imaginary_surfaces.specs.Approaches.{Approach}
+use Rattle.imaginary_surfaces.specs.Transitions.{Incline}
 use Rattle.runway_lines.specs.Profiles.{profile}
 use Rattle.imaginary_surfaces.specs.declared.primary.PrimarySurface.{PrimarySurface}
 use Rattle.imaginary_surfaces.specs.declared.approach.ApproachSurface.{ApproachSurface}
@@ -11,3 +13,6 @@ primary_shape p = record { line = line_of p.axis; width = p.width; profile = pro
 
 abbrev pub approach_shape : ApproachSurface → Approach
 approach_shape a = record { line = line_of a.axis; width = a.width; class = a.class; z = a.z; precision = a.precision }
+
+abbrev pub incline_of : Slope → Incline
+incline_of s = record { left = s.a; factor = s.k; shift = s.c; square = s.n }

@@ -1,14 +1,15 @@
 -- The primary surface, the approach surfaces and the transitional surfaces of a runway: 77.19(c), (d), (e).
-use Rattle.std.specs.Prelude.{ℕ, ℤ, Option}
+use Rattle.std.specs.Prelude.{ℕ, ℤ, Option, ◌≡◌}
 use Rattle.grid_exact.specs.Excess.{Surface}
 use Rattle.grid_exact.specs.declared.cap.Cap.{Cap}
 use Rattle.grid_exact.specs.declared.point.Point.{Point}
-use Rattle.airport_register.specs.declared.runway.Runway.{Runway}
-use Rattle.airport_register.specs.Runways.{is_precision}
+use Rattle.airfields.specs.declared.runway.Runway.{Runway}
+use Rattle.airfields.specs.Runways.{is_precision}
 use Rattle.runway_lines.specs.declared.end.End.{End}
 use Rattle.runway_lines.specs.declared.end.End.TheVariants.{One, Two}
 use Rattle.runway_lines.specs.Ends.{other, end_of, line_between, class_of, end_class_of}
 use Rattle.runway_lines.specs.Profiles.{profile_of}
+use Rattle.imaginary_surfaces.specs.declared.excesses.StripExcesses.{StripExcesses}
 use Rattle.imaginary_surfaces.specs.Primaries.{Primary, primary, excess_over_primary}
 use Rattle.imaginary_surfaces.specs.Approaches.{Approach, approach, excess_over_approach}
 use Rattle.imaginary_surfaces.specs.Transitions.{beside_primary, beside_approach, excess_beside_primary, excess_beside_approach}
@@ -51,3 +52,12 @@ primary_transition_excess r x cap top = excess_beside_primary (primary_of r) x c
 
 unfoldable pub approach_transition_excess : Runway → End → Point → Cap → ℤ → Option ℕ
 approach_transition_excess r end x cap top = excess_beside_approach (approach_of r end) x cap top
+
+-- all six at once
+pub record IsStripExcesses (r : Runway) (x : Point) (top : ℤ) (cap : Cap) (e : StripExcesses) : Type 0 where
+  pub primary : e.primary ≡ primary_excess r x top
+  pub approach1 : e.approach1 ≡ approach_excess r One x top
+  pub approach2 : e.approach2 ≡ approach_excess r Two x top
+  pub beside_primary : e.beside_primary ≡ primary_transition_excess r x cap top
+  pub beside_approach1 : e.beside_approach1 ≡ approach_transition_excess r One x cap top
+  pub beside_approach2 : e.beside_approach2 ≡ approach_transition_excess r Two x cap top

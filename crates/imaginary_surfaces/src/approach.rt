@@ -6,11 +6,13 @@ ghost use Rattle.grid_exact.specs.Level.{IsLevel};
 ghost use Rattle.grid_exact.specs.Root.{AtMostRoot};
 ghost use Rattle.imaginary_surfaces.specs.Approaches.{IsApproach, IsRise};
 
-use grid_exact::{Axis, Point, Slope, is_above_root, is_at_most_root, minus, product, scale};
-use runway_classes::EndClass;
+use crate::measures::{HALF_WIDTH_SCALE, SECOND_SLOPE_DROP};
+use grid_exact::{Axis, Offset, Slope, is_above_root, is_at_most_root, minus, product, scale};
+use runway_classes::{EndClass, WIDENING_SCALE};
 
 /// The approach surface of an end, 77.19(d): it begins at the end of the primary surface with that one's width, and goes outward
-/// and upward along the extended centerline.
+/// and upward along the extended centerline. Its calls take where the point lies by that line, which is worked out once for all of
+/// them.
 #[derive(Clone, Copy)]
 pub(crate) struct ApproachSurface {
     /// From the center of the primary surface's end, as far as its other end is away.
@@ -32,77 +34,74 @@ pub(crate) struct Rise {
 }
 
 impl ApproachSurface {
-    ghost use Rattle.grid_exact.specs.Axes.{axis_along, axis_square};
-    ghost use Rattle.imaginary_surfaces.specs.Approaches.{ApproachCovers, approach, outside as outside_of, is_past_split as is_past_split_of, slope_at, base_at};
+    ghost use Rattle.imaginary_surfaces.specs.Approaches.{ApproachCovers, approach_at, outside as outside_of, is_past_split as is_past_split_of, slope_at, base_at};
     ghost use Rattle.imaginary_surfaces.specs.Shapes.{approach_shape};
 
     /// Whether a point is ahead of the end.
-    pub(crate) fn is_ahead(&self, point: &Point) -> bool
-        ensures { IsTrue result ↔ (pos 0 <ℤ axis_along self.now.axis point.now) }
+    pub(crate) fn is_ahead(&self, at: &Offset) -> bool
+        ensures { IsTrue result ↔ (pos 0 <ℤ at.now.along) }
     {
-        0 < self.axis.along(point)
+        0 < at.along()
     }
 
     /// Whether a point is not past its outer end.
-    pub(crate) fn is_not_past(&self, point: &Point) -> bool
-        ensures { IsTrue result ↔ AtMostRoot (axis_along self.now.axis point.now) self.now.class.length (axis_square self.now.axis) }
+    #[tactic(auto, using(grid_exact::proofs::Sizes::fits))]
+    pub(crate) fn is_not_past(&self, at: &Offset) -> bool
+        ensures { IsTrue result ↔ AtMostRoot at.now.along self.now.class.length at.now.square }
     {
-        is_at_most_root(
-            self.axis.along(point),
-            self.class.length as i128,
-            self.axis.square(),
-        )
+        is_at_most_root(at.along(), self.class.length as i128, at.square())
     }
 
     /// How far a point is to a side less what the half width has grown, in fortieths, times the vector's length.
-    pub(crate) fn outside(&self, point: &Point) -> i128
-        ensures value { result ≡ outside_of (approach_shape self.now) point.now }
+    pub(crate) fn outside(&self, at: &Offset) -> i128
+        ensures value { result ≡ outside_of (approach_shape self.now) at.now }
         ensures size { unsigned_abs result ≤ 2 ^ 52 }
     {
         minus(
-            scale(40, self.axis.aside(point)),
-            scale(self.class.k, self.axis.along(point)),
+            scale(WIDENING_SCALE, at.aside()),
+            scale(self.class.k, at.along()),
         )
+    }
+
+    /// Half the width at the end of the primary surface, in fortieths.
+    pub(crate) fn half_width(&self) -> i128
+        ensures value { result ≡ HALF_WIDTH_SCALE *ℤ self.now.width }
+        ensures size { unsigned_abs result ≤ 2 ^ 18 }
+    {
+        product(HALF_WIDTH_SCALE, self.width)
     }
 
     /// Whether a point is within the half width there.
-    fn is_not_beside(&self, point: &Point) -> bool
-        ensures { IsTrue result ↔ AtMostRoot (outside_of (approach_shape self.now) point.now) (pos 20 *ℤ self.now.width) (axis_square self.now.axis) }
+    #[tactic(auto, using(grid_exact::proofs::Sizes::fits))]
+    fn is_not_beside(&self, at: &Offset) -> bool
+        ensures { IsTrue result ↔ AtMostRoot (outside_of (approach_shape self.now) at.now) (HALF_WIDTH_SCALE *ℤ self.now.width) at.now.square }
     {
-        is_at_most_root(
-            self.outside(point),
-            product(20, self.width),
-            self.axis.square(),
-        )
+        is_at_most_root(self.outside(at), self.half_width(), at.square())
     }
 
     /// Whether it covers a point.
-    fn covers(&self, point: &Point) -> bool
-        ensures { IsTrue result ↔ ApproachCovers (approach_shape self.now) point.now }
+    fn covers(&self, at: &Offset) -> bool
+        ensures { IsTrue result ↔ ApproachCovers (approach_shape self.now) at.now }
     {
-        self.is_ahead(point) && self.is_not_past(point) && self.is_not_beside(point)
+        self.is_ahead(at) && self.is_not_past(at) && self.is_not_beside(at)
     }
 
     /// Whether a point is past where the second slope begins.
-    fn is_past_split(&self, point: &Point) -> bool
-        ensures { result ≡ is_past_split_of (approach_shape self.now) point.now }
+    fn is_past_split(&self, at: &Offset) -> bool
+        ensures { result ≡ is_past_split_of (approach_shape self.now) at.now }
     {
-        is_above_root(
-            self.axis.along(point),
-            self.class.split as i128,
-            self.axis.square(),
-        )
+        is_above_root(at.along(), self.class.split as i128, at.square())
     }
 
-    /// The slope over a point. The second one goes on where the first one ends: 100,000 / 50 is 500 less than 100,000 / 40.
-    pub(crate) fn rise(&self, point: &Point) -> Rise
-        ensures slope { result.slope ≡ slope_at (approach_shape self.now) point.now }
-        ensures base { result.base ≡ base_at (approach_shape self.now) point.now }
+    /// The slope over a point.
+    pub(crate) fn rise(&self, at: &Offset) -> Rise
+        ensures slope { result.slope ≡ slope_at (approach_shape self.now) at.now }
+        ensures base { result.base ≡ base_at (approach_shape self.now) at.now }
     {
-        if self.is_past_split(point) {
+        if self.is_past_split(at) {
             return Rise {
                 slope: self.class.slope2,
-                base: self.z - 500,
+                base: self.z - SECOND_SLOPE_DROP,
             };
         }
         Rise {
@@ -112,16 +111,16 @@ impl ApproachSurface {
     }
 
     /// How far `top` is above it at a point, or `None` where it is not above, or the surface does not cover the point.
-    pub(crate) fn excess(&self, point: &Point, top: i64) -> Option<u32>
+    pub(crate) fn excess(&self, at: &Offset, top: i64) -> Option<u32>
         requires top { IsLevel top }
-        ensures exact { IsExcess (approach (approach_shape self.now) point.now) top result }
+        ensures exact { IsExcess (approach_at (approach_shape self.now) at.now) top result }
         ensures size { IfSome result (λ e. e ≤ 2 ^ 26) }
     {
-        if !self.covers(point) {
+        if !self.covers(at) {
             return None;
         }
-        let rise = self.rise(point);
+        let rise = self.rise(at);
         let base = product(rise.slope, rise.base);
-        Slope::rising(self.axis.along(point), rise.slope, base, self.axis.square()).excess(top)
+        Slope::rising(at.along(), rise.slope, base, at.square()).excess(top)
     }
 }

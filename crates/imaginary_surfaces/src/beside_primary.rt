@@ -1,101 +1,73 @@
 //! The transitional surface beside the primary surface.
 
-ghost use Rattle.std.specs.Prelude.{◌≡◌, ◌↔◌, ◌*◌, ◌^◌, ◌≤◌, pos, unsigned_abs, IsTrue, IfSome};
-ghost use Rattle.grid_exact.specs.Caps.{IsSmallCap};
+ghost use Rattle.std.specs.Prelude.{◌≡◌, ◌↔◌, ◌*◌, ◌^◌, ◌≤◌, ◌*ℤ◌, ◌-ℤ◌, pos, unsigned_abs, IsTrue, IfSome};
 ghost use Rattle.grid_exact.specs.Excess.{IsExcess};
 ghost use Rattle.grid_exact.specs.Level.{IsLevel};
 ghost use Rattle.grid_exact.specs.Root.{AtLeastRoot};
 
-use crate::limit::is_up_to;
+use crate::measures::PRIMARY_FACTOR;
 use crate::primary::PrimarySurface;
-use grid_exact::{Cap, Point, Slope, is_at_least_root, minus, product, scale};
+use crate::slope_end::excess_up_to;
+use grid_exact::{Cap, Offset, Point, Slope, is_at_least_root, minus, product};
 
 impl PrimarySurface {
-    ghost use Rattle.grid_exact.specs.Axes.{axis_aside, axis_square};
-    ghost use Rattle.grid_exact.specs.declared.cap.Cap.TheVariants.{Level};
     ghost use Rattle.imaginary_surfaces.specs.Shapes.{primary_shape};
-    ghost use Rattle.imaginary_surfaces.specs.Transitions.{ReachesBesidePrimary, beside_primary, shift_beside_primary};
-
-    /// Twice how far a point is to a side of the line, times the vector's length.
-    fn twice_aside(&self, point: &Point) -> i128
-        ensures value { result ≡ pos (2 * axis_aside self.now.axis point.now) }
-        ensures size { unsigned_abs result ≤ 2 ^ 46 }
-    {
-        scale(2, self.axis.aside(point))
-    }
+    ghost use Rattle.imaginary_surfaces.specs.Transitions.{ReachesBesidePrimary, beside_primary_at, incline_beside_primary};
 
     /// Whether a point is at least half the width from the line.
-    fn is_from_side(&self, point: &Point) -> bool
-        ensures { IsTrue result ↔ AtLeastRoot (pos (2 * axis_aside self.now.axis point.now)) self.now.width (axis_square self.now.axis) }
+    fn is_from_side(&self, at: &Offset) -> bool
+        ensures { IsTrue result ↔ AtLeastRoot (pos (2 * at.now.aside)) self.now.width at.now.square }
     {
-        is_at_least_root(
-            self.twice_aside(point),
-            self.width as i128,
-            self.axis.square(),
-        )
+        is_at_least_root(self.twice_aside(at), self.width as i128, at.square())
     }
 
     /// Whether the transitional surface reaches a point.
-    fn reaches_beside(&self, point: &Point) -> bool
-        ensures { IsTrue result ↔ ReachesBesidePrimary (primary_shape self.now) point.now }
+    fn reaches_beside(&self, at: &Offset) -> bool
+        ensures { IsTrue result ↔ ReachesBesidePrimary (primary_shape self.now) at.now }
     {
-        self.is_past_start(point) && self.is_before_end(point) && self.is_from_side(point)
+        self.is_past_start(at) && self.is_before_end(at) && self.is_from_side(at)
     }
 
-    /// Fourteen times the elevation, less the width: what the slope of 7 to 1 from the side has at the line.
-    fn shift_beside(&self, point: &Point) -> i128
-        ensures value { result ≡ shift_beside_primary (primary_shape self.now) point.now }
+    /// The elevation, less the width, each as much as the slope from the side asks for: what that slope has at the line.
+    fn shift_beside(&self, at: &Offset, x: &Point) -> i128
+        ensures value { result ≡ (incline_beside_primary (primary_shape self.now) at.now x.now).shift }
         ensures size { unsigned_abs result ≤ 2 ^ 24 }
     {
         minus(
-            product(14, self.centerline.elevation(point)),
+            product(PRIMARY_FACTOR, self.centerline.elevation(x)),
             self.width as i128,
         )
     }
 
     /// The slope of the transitional surface over a point that it reaches.
-    fn slope_beside(&self, point: &Point) -> Slope
-        requires reaches { ReachesBesidePrimary (primary_shape self.now) point.now }
-        ensures a { result.a ≡ pos (2 * axis_aside self.now.axis point.now) }
-        ensures k { result.k ≡ pos 14 }
-        ensures c { result.c ≡ shift_beside_primary (primary_shape self.now) point.now }
-        ensures n { result.n ≡ axis_square self.now.axis }
+    fn slope_beside(&self, at: &Offset, x: &Point) -> Slope
+        requires reaches { ReachesBesidePrimary (primary_shape self.now) at.now }
+        ensures left { result.a ≡ (incline_beside_primary (primary_shape self.now) at.now x.now).left }
+        ensures factor { result.k ≡ (incline_beside_primary (primary_shape self.now) at.now x.now).factor }
+        ensures shift { result.c ≡ (incline_beside_primary (primary_shape self.now) at.now x.now).shift }
+        ensures square { result.n ≡ at.now.square }
     {
         Slope::rising(
-            self.twice_aside(point),
-            14,
-            self.shift_beside(point),
-            self.axis.square(),
+            self.twice_aside(at),
+            PRIMARY_FACTOR,
+            self.shift_beside(at, x),
+            at.square(),
         )
-    }
-
-    /// How far `top` is above the transitional surface at a point where it ends at `limit` at the highest.
-    fn excess_up_to(&self, point: &Point, top: i64, limit: i64) -> Option<u32>
-        requires top { IsLevel top }
-        requires limit { IsLevel limit }
-        ensures exact { IsExcess (beside_primary (primary_shape self.now) point.now (Level limit)) top result }
-        ensures size { IfSome result (λ e. e ≤ 2 ^ 26) }
-    {
-        if !self.reaches_beside(point) {
-            return None;
-        }
-        let slope = self.slope_beside(point);
-        if !is_up_to(&slope, limit) {
-            return None;
-        }
-        slope.excess(top)
     }
 
     /// How far `top` is above the transitional surface at a point, or `None` where it is not above, or the surface does not cover
     /// the point.
-    pub(crate) fn excess_beside(&self, point: &Point, top: i64, cap: &Cap) -> Option<u32>
+    pub(crate) fn excess_beside(&self, at: &Offset, x: &Point, top: i64, cap: &Cap) -> Option<u32>
         requires top { IsLevel top }
-        requires cap { IsSmallCap cap.now }
-        ensures exact { IsExcess (beside_primary (primary_shape self.now) point.now cap.now) top result }
+        ensures exact { IsExcess (beside_primary_at (primary_shape self.now) at.now x.now cap.now) top result }
         ensures size { IfSome result (λ e. e ≤ 2 ^ 26) }
     {
-        match cap {
-            Cap::Level(limit) => self.excess_up_to(point, top, *limit),
+        if !self.reaches_beside(at) {
+            return None;
+        }
+        // by value, since that tells that the limit is an i64
+        match *cap {
+            Cap::Level(limit) => excess_up_to(&self.slope_beside(at, x), top, limit),
             Cap::Beyond => None,
         }
     }

@@ -5,11 +5,20 @@
 mod approach;
 mod beside_approach;
 mod beside_primary;
-mod limit;
+mod excesses;
+mod laws;
+mod measures;
 mod prepare;
 mod primary;
+mod slope_end;
 mod strip;
 
+pub use excesses::StripExcesses;
+pub use laws::{
+    approach_excess_is, approach_transition_excess_is, primary_excess_is,
+    primary_transition_excess_is,
+};
+pub use measures::{SECOND_SLOPE_DROP, TRANSITION_REACH, TRANSITION_SLOPE};
 pub use runway_lines::End;
 pub use strip::Strip;
 

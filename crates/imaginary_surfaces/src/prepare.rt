@@ -1,13 +1,13 @@
 //! What the surfaces of a runway are, from its lines and its class.
 
 ghost use Rattle.std.specs.Prelude.{◌≡◌};
-ghost use Rattle.airport_register.specs.Runways.{IsProper};
+ghost use Rattle.airfields.specs.Runways.{IsProper};
 ghost use Rattle.imaginary_surfaces.specs.Shapes.{primary_shape, approach_shape};
 ghost use Rattle.imaginary_surfaces.specs.Strips.{primary_of, approach_of};
 
 use crate::approach::ApproachSurface;
 use crate::primary::PrimarySurface;
-use airport_register::Runway;
+use airfields::Runway;
 use runway_lines::{Centerline, End, between, class, end_class, outward};
 
 /// The primary surface of a runway.

@@ -1,16 +1,16 @@
 //! The primary surface.
 
-ghost use Rattle.std.specs.Prelude.{◌≡◌, ◌↔◌, ◌*◌, ◌^◌, ◌≤◌, ◌≤ℤ◌, pos, IsTrue, IfSome};
+ghost use Rattle.std.specs.Prelude.{◌≡◌, ◌↔◌, ◌*◌, ◌^◌, ◌≤◌, ◌≤ℤ◌, pos, unsigned_abs, IsTrue, IfSome};
 ghost use Rattle.grid_exact.specs.Excess.{IsExcess};
 ghost use Rattle.grid_exact.specs.Level.{IsLevel};
 ghost use Rattle.grid_exact.specs.Root.{AtMostRoot};
 ghost use Rattle.imaginary_surfaces.specs.Primaries.{IsWidth};
 
-use grid_exact::{Axis, Point, flat_excess, is_at_most_root, scale};
+use grid_exact::{Axis, Offset, Point, flat_excess, is_at_most_root, scale};
 use runway_lines::Centerline;
 
 /// The primary surface of a runway, 77.19(c): a strip about the line between its two ends, at the elevation of the nearest point
-/// of the runway's centerline.
+/// of the runway's centerline. Its calls take where the point lies by that line, which is worked out once for all of them.
 #[derive(Clone, Copy)]
 pub(crate) struct PrimarySurface {
     pub(crate) axis: Axis,
@@ -20,48 +20,54 @@ pub(crate) struct PrimarySurface {
 }
 
 impl PrimarySurface {
-    ghost use Rattle.grid_exact.specs.Axes.{axis_along, axis_aside, axis_square};
-    ghost use Rattle.imaginary_surfaces.specs.Primaries.{PrimaryCovers, primary};
+    ghost use Rattle.imaginary_surfaces.specs.Primaries.{PrimaryCovers, primary_at};
     ghost use Rattle.imaginary_surfaces.specs.Shapes.{primary_shape};
 
     /// Whether a point is not before the first end.
-    pub(crate) fn is_past_start(&self, point: &Point) -> bool
-        ensures { IsTrue result ↔ (pos 0 ≤ℤ axis_along self.now.axis point.now) }
+    pub(crate) fn is_past_start(&self, at: &Offset) -> bool
+        ensures { IsTrue result ↔ (pos 0 ≤ℤ at.now.along) }
     {
-        0 <= self.axis.along(point)
+        0 <= at.along()
     }
 
     /// Whether a point is not past the second end.
-    pub(crate) fn is_before_end(&self, point: &Point) -> bool
-        ensures { IsTrue result ↔ (axis_along self.now.axis point.now ≤ℤ pos (axis_square self.now.axis)) }
+    pub(crate) fn is_before_end(&self, at: &Offset) -> bool
+        ensures { IsTrue result ↔ (at.now.along ≤ℤ pos at.now.square) }
     {
-        self.axis.along(point) <= self.axis.square() as i128
+        at.along() <= at.square() as i128
+    }
+
+    /// Twice how far a point is to a side of the line, times the vector's length.
+    pub(crate) fn twice_aside(&self, at: &Offset) -> i128
+        ensures value { result ≡ pos (2 * at.now.aside) }
+        ensures size { unsigned_abs result ≤ 2 ^ 46 }
+    {
+        scale(2, at.aside())
     }
 
     /// Whether a point is at most half the width from the line.
-    fn is_not_beside(&self, point: &Point) -> bool
-        ensures { IsTrue result ↔ AtMostRoot (pos (2 * axis_aside self.now.axis point.now)) self.now.width (axis_square self.now.axis) }
+    fn is_not_beside(&self, at: &Offset) -> bool
+        ensures { IsTrue result ↔ AtMostRoot (pos (2 * at.now.aside)) self.now.width at.now.square }
     {
-        let twice = scale(2, self.axis.aside(point));
-        is_at_most_root(twice, self.width as i128, self.axis.square())
+        is_at_most_root(self.twice_aside(at), self.width as i128, at.square())
     }
 
     /// Whether it covers a point.
-    fn covers(&self, point: &Point) -> bool
-        ensures { IsTrue result ↔ PrimaryCovers (primary_shape self.now) point.now }
+    fn covers(&self, at: &Offset) -> bool
+        ensures { IsTrue result ↔ PrimaryCovers (primary_shape self.now) at.now }
     {
-        self.is_past_start(point) && self.is_before_end(point) && self.is_not_beside(point)
+        self.is_past_start(at) && self.is_before_end(at) && self.is_not_beside(at)
     }
 
     /// How far `top` is above it at a point, or `None` where it is not above, or the surface does not cover the point.
-    pub(crate) fn excess(&self, point: &Point, top: i64) -> Option<u32>
+    pub(crate) fn excess(&self, at: &Offset, x: &Point, top: i64) -> Option<u32>
         requires top { IsLevel top }
-        ensures exact { IsExcess (primary (primary_shape self.now) point.now) top result }
+        ensures exact { IsExcess (primary_at (primary_shape self.now) at.now x.now) top result }
         ensures size { IfSome result (λ e. e ≤ 2 ^ 26) }
     {
-        if !self.covers(point) {
+        if !self.covers(at) {
             return None;
         }
-        flat_excess(self.centerline.elevation(point), top)
+        flat_excess(self.centerline.elevation(x), top)
     }
 }

@@ -1,20 +1,21 @@
 //! The surfaces of one runway.
 
 ghost use Rattle.std.specs.Prelude.{◌≡◌};
-ghost use Rattle.grid_exact.specs.Caps.{IsSmallCap};
 ghost use Rattle.grid_exact.specs.Excess.{IsExcess};
 ghost use Rattle.grid_exact.specs.Level.{IsLevel};
-ghost use Rattle.airport_register.specs.Runways.{IsProper};
+ghost use Rattle.grid_exact.specs.Lines.{offset as offset_of};
+ghost use Rattle.airfields.specs.Runways.{IsProper};
 ghost use Rattle.imaginary_surfaces.specs.Shapes.{approach_shape};
 ghost use Rattle.runway_lines.specs.Ends.{AreCenters, centers as centers_of};
-ghost use Rattle.imaginary_surfaces.specs.Strips.{approach_of, primary_surface, approach_surface, primary_excess, approach_excess};
+ghost use Rattle.imaginary_surfaces.specs.Strips.{primary_of, approach_of, IsStripExcesses, primary_surface, approach_surface, primary_excess, approach_excess};
 ghost use Rattle.imaginary_surfaces.specs.Strips.{primary_transition_surface, approach_transition_surface, primary_transition_excess, approach_transition_excess};
 
 use crate::approach::ApproachSurface;
+use crate::excesses::StripExcesses;
 use crate::prepare::{approach, primary};
 use crate::primary::PrimarySurface;
-use airport_register::Runway;
-use grid_exact::{Cap, Point};
+use airfields::Runway;
+use grid_exact::{Cap, Offset, Point};
 use runway_lines::End;
 use std::marker::Model;
 
@@ -28,7 +29,7 @@ pub struct Strip {
 }
 
 impl Model for Strip {
-    ghost use Rattle.airport_register.specs.declared.runway.Runway.{Runway};
+    ghost use Rattle.airfields.specs.declared.runway.Runway.{Runway};
     ghost use Rattle.imaginary_surfaces.specs.Prepared.{IsPrepared};
 
     ghost Value = { Runway };
@@ -69,6 +70,61 @@ impl Strip {
         }
     }
 
+    /// Where a point lies by the line of the primary surface.
+    fn by_primary(&self, x: &Point) -> Offset
+        ensures { result ≡ offset_of (primary_of self.now).line x.now }
+    {
+        self.primary.axis.offset(x)
+    }
+
+    /// Where a point lies by the line of the approach surface of this end.
+    fn by_approach(&self, end: End, x: &Point) -> Offset
+        ensures { result ≡ offset_of (approach_of self.now end).line x.now }
+    {
+        self.approach(end).axis.offset(x)
+    }
+
+    /// How far `top` is above the primary surface at a point that lies so by its line.
+    fn over_primary(&self, at: &Offset, x: &Point, top: i64) -> Option<u32>
+        requires at { at.now ≡ offset_of (primary_of self.now).line x.now }
+        requires top { IsLevel top }
+        ensures exact { IsExcess (primary_surface self.now x.now) top result }
+        ensures value { result ≡ primary_excess self.now x.now top }
+    {
+        self.primary.excess(at, x, top)
+    }
+
+    /// How far `top` is above the approach surface of an end at a point that lies so by its line; the clauses alone name the point.
+    fn over_approach(&self, end: End, at: &Offset, x: &Point, top: i64) -> Option<u32>
+        requires at { at.now ≡ offset_of (approach_of self.now end).line x.now }
+        requires top { IsLevel top }
+        ensures exact { IsExcess (approach_surface self.now end x.now) top result }
+        ensures value { result ≡ approach_excess self.now end x.now top }
+    {
+        self.approach(end).excess(at, top)
+    }
+
+    /// How far `top` is above the transitional surface beside the primary surface at a point that lies so by that one's line.
+    fn beside_primary(&self, at: &Offset, x: &Point, top: i64, cap: &Cap) -> Option<u32>
+        requires at { at.now ≡ offset_of (primary_of self.now).line x.now }
+        requires top { IsLevel top }
+        ensures exact { IsExcess (primary_transition_surface self.now x.now cap.now) top result }
+        ensures value { result ≡ primary_transition_excess self.now x.now cap.now top }
+    {
+        self.primary.excess_beside(at, x, top, cap)
+    }
+
+    /// How far `top` is above the transitional surface beside the approach surface of an end at a point that lies so by that one's
+    /// line; the clauses alone name the point.
+    fn beside_approach(&self, end: End, at: &Offset, x: &Point, top: i64, cap: &Cap) -> Option<u32>
+        requires at { at.now ≡ offset_of (approach_of self.now end).line x.now }
+        requires top { IsLevel top }
+        ensures exact { IsExcess (approach_transition_surface self.now end x.now cap.now) top result }
+        ensures value { result ≡ approach_transition_excess self.now end x.now cap.now top }
+    {
+        self.approach(end).excess_beside(at, top, cap)
+    }
+
     /// How far `top` is above the primary surface at a point, in tenths of a foot, rounded down: 77.19(c). `None` where it is not
     /// above, and where the surface does not cover the point.
     pub fn excess_primary(&self, x: &Point, top: i64) -> Option<u32>
@@ -76,7 +132,7 @@ impl Strip {
         ensures exact { IsExcess (primary_surface self.now x.now) top result }
         ensures value { result ≡ primary_excess self.now x.now top }
     {
-        self.primary.excess(x, top)
+        self.over_primary(&self.by_primary(x), x, top)
     }
 
     /// How far `top` is above the approach surface of an end at a point, in tenths of a foot, rounded down: 77.19(d). `None` where
@@ -86,24 +142,23 @@ impl Strip {
         ensures exact { IsExcess (approach_surface self.now end x.now) top result }
         ensures value { result ≡ approach_excess self.now end x.now top }
     {
-        self.approach(end).excess(x, top)
+        self.over_approach(end, &self.by_approach(end, x), x, top)
     }
 
     /// How far `top` is above the transitional surface beside the primary surface at a point, in tenths of a foot, rounded down:
-    /// 77.19(e). `cap` is where the horizontal and conical surfaces end upward at the point. `None` where it is not above, and where
-    /// the surface does not cover the point.
+    /// 77.19(e). `cap`, at any level, is where the horizontal and conical surfaces end upward at the point. `None` where it is not
+    /// above, and where the surface does not cover the point.
     pub fn excess_transition_primary(&self, x: &Point, top: i64, cap: &Cap) -> Option<u32>
         requires top { IsLevel top }
-        requires cap { IsSmallCap cap.now }
         ensures exact { IsExcess (primary_transition_surface self.now x.now cap.now) top result }
         ensures value { result ≡ primary_transition_excess self.now x.now cap.now top }
     {
-        self.primary.excess_beside(x, top, cap)
+        self.beside_primary(&self.by_primary(x), x, top, cap)
     }
 
-    /// How far `top` is above the transitional surface beside the approach surface of an end at a point, in tenths of a foot, rounded
-    /// down: 77.19(e). `cap` is where the horizontal and conical surfaces end upward at the point. `None` where it is not above, and
-    /// where the surface does not cover the point.
+    /// How far `top` is above the transitional surface beside the approach surface of an end at a point, in tenths of a foot,
+    /// rounded down: 77.19(e). `cap`, at any level, is where the horizontal and conical surfaces end upward at the point. `None`
+    /// where it is not above, and where the surface does not cover the point.
     pub fn excess_transition_approach(
         &self,
         end: End,
@@ -112,11 +167,29 @@ impl Strip {
         cap: &Cap,
     ) -> Option<u32>
         requires top { IsLevel top }
-        requires cap { IsSmallCap cap.now }
         ensures exact { IsExcess (approach_transition_surface self.now end x.now cap.now) top result }
         ensures value { result ≡ approach_transition_excess self.now end x.now cap.now top }
     {
-        self.approach(end).excess_beside(x, top, cap)
+        self.beside_approach(end, &self.by_approach(end, x), x, top, cap)
+    }
+
+    /// How far `top` is above each of the six surfaces at a point: 77.19(c), (d) and (e). `cap` is where the horizontal and conical
+    /// surfaces end upward at the point. Where the point lies by a line is worked out once for the surfaces along it.
+    pub fn excesses(&self, x: &Point, top: i64, cap: &Cap) -> StripExcesses
+        requires top { IsLevel top }
+        ensures value { IsStripExcesses self.now x.now top cap.now result }
+    {
+        let at = self.by_primary(x);
+        let at1 = self.by_approach(End::One, x);
+        let at2 = self.by_approach(End::Two, x);
+        StripExcesses {
+            primary: self.over_primary(&at, x, top),
+            approach1: self.over_approach(End::One, &at1, x, top),
+            approach2: self.over_approach(End::Two, &at2, x, top),
+            beside_primary: self.beside_primary(&at, x, top, cap),
+            beside_approach1: self.beside_approach(End::One, &at1, x, top, cap),
+            beside_approach2: self.beside_approach(End::Two, &at2, x, top, cap),
+        }
     }
 
     /// The two ends of the primary surface on the extended centerline, each by its two coordinates: 77.19(c). They are the ends of

@@ -1,8 +1,9 @@
 -- Structures that need no notice: 77.9(e).
-use Rattle.std.specs.Prelude.{pos, int_le, not, ◌&&◌, Bool, true, false, Option, Some, None, if◌then◌else◌}
-use Rattle.airport_register.specs.Sites.{Site}
-use Rattle.airport_register.specs.declared.structure.StructureKind.{StructureKind}
-use Rattle.airport_register.specs.declared.structure.StructureKind.TheVariants as kinds
+use Rattle.std.specs.Prelude.{int_le, not, ◌&&◌, Bool, true, false, Option, Some, None, if◌then◌else◌}
+use Rattle.airfields.specs.Sites.{Site}
+use Rattle.airfields.specs.declared.structure.StructureKind.{StructureKind}
+use Rattle.airfields.specs.declared.structure.StructureKind.TheVariants as kinds
+use Rattle.notice_slopes.specs.declared.without_notice.TheConstants.{LOW_ANTENNA}
 use Rattle.notice_slopes.specs.declared.exemption.Exemption.{Exemption}
 use Rattle.notice_slopes.specs.declared.exemption.Exemption.TheVariants.{Shielded, Device, OtherRule, Antenna}
 
@@ -17,7 +18,7 @@ is_antenna kinds.Water = false
 
 -- an antenna structure of 20 feet or less in height, except one that would increase the height of another antenna structure
 abbrev pub is_low_antenna : Site → Bool
-is_low_antenna s = is_antenna s.kind && int_le s.height (pos 200) && not s.flags.increases
+is_low_antenna s = is_antenna s.kind && int_le s.height LOW_ANTENNA && not s.flags.increases
 
 -- the first of the four that applies: (1) shielded, (2) a device, (3) under another regulation, (4) a low antenna
 abbrev pub exemption_of : Site → Option Exemption

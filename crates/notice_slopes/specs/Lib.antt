@@ -1,11 +1,7 @@
-pub mod Distances
-pub mod Measures
-pub mod Nearest
-pub mod Candidates
-pub mod Laws
-pub mod Slopes
-pub mod Surfaces
-pub mod Notices
+pub use Rattle.runway_notice.specs.Distances
+pub use Rattle.runway_notice.specs.Nearest
+pub use Rattle.runway_notice.specs.Slopes
+pub use Rattle.runway_notice.specs.Surfaces
+pub use Rattle.runway_notice.specs.Notices
 pub mod Exemptions
 pub mod OnAirfields
-pub mod Areas

@@ -1,11 +1,11 @@
 -- Construction on airports and heliports: 77.9(d).
 use Rattle.std.specs.Prelude.{List, Option, Bool, option_and_then, false}
 use Rattle.std.specs.Option.{option_map_or}
-use Rattle.airport_register.specs.Airfields.{category_of}
+use Rattle.airfields.specs.Airfields.{category_of}
 use Rattle.airport_register.specs.Amendments.{airfield_at}
-use Rattle.airport_register.specs.Categories.{is_described}
-use Rattle.airport_register.specs.Sites.{Site}
-use Rattle.airport_register.specs.declared.airfield.Airfield.{Airfield}
+use Rattle.airfields.specs.Categories.{is_described}
+use Rattle.airfields.specs.Sites.{Site}
+use Rattle.airfields.specs.declared.airfield.Airfield.{Airfield}
 
 -- the registered airfield that the structure is on
 abbrev pub airfield_of : List Airfield → Site → Option Airfield

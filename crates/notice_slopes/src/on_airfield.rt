@@ -3,7 +3,8 @@
 ghost use Rattle.std.specs.Prelude.{◌≡◌};
 ghost use Rattle.notice_slopes.specs.OnAirfields.{is_on_described};
 
-use airport_register::{Filing, Register};
+use airfields::Filing;
+use airport_register::Register;
 
 /// Whether the structure is on a registered airport or heliport that 77.9(d) describes.
 pub fn rule_d(r: &Register, f: &Filing) -> bool

@@ -4,14 +4,17 @@ ghost use Rattle.std.specs.Prelude.{◌≡◌};
 ghost use Rattle.notice_slopes.specs.Exemptions.{exemption_of, is_low_antenna as is_low_antenna_of};
 
 use crate::exemption::Exemption;
-use airport_register::{Filing, StructureKind};
+use airfields::{Filing, StructureKind};
+
+/// The greatest height of an antenna structure that needs no notice, in tenths of a foot: 20 feet, 77.9(e)(4).
+pub const LOW_ANTENNA: i64 = 200;
 
 /// Whether it is an antenna structure of at most 20 feet that increases the height of no other one.
 fn is_low_antenna(filing: &Filing) -> bool
     ensures { result ≡ is_low_antenna_of filing.now }
 {
     match filing.kind {
-        StructureKind::Antenna => filing.height <= 200 && !filing.flags.increases,
+        StructureKind::Antenna => filing.height <= LOW_ANTENNA && !filing.flags.increases,
         _ => false,
     }
 }

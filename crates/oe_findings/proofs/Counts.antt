@@ -6,14 +6,17 @@ use Rattle.std.proofs.lemmas.List.{length-append}
 use Rattle.std.proofs.Math.Nat.{min-eq_left}
 use Rattle.grid_exact.specs.declared.cap.Cap.{Cap}
 use Rattle.grid_exact.specs.declared.point.Point.{Point}
-use Rattle.airport_register.specs.Airfields.{IsHeld, IsRegister}
-use Rattle.airport_register.specs.Categories.{has_civil_surfaces, is_described}
-use Rattle.airport_register.specs.Sites.{Site}
-use Rattle.airport_register.specs.declared.airfield.Airport.{Airport}
-use Rattle.airport_register.specs.declared.airfield.Heliport.{Heliport}
-use Rattle.airport_register.specs.declared.airfield.Airfield.{Airfield}
-use Rattle.airport_register.specs.declared.airfield.Airfield.TheVariants.{Airport as AnAirport, Heliport as AHeliport}
-use Rattle.airport_register.specs.declared.runway.Runway.{Runway}
+use Rattle.airfields.specs.Airfields.{IsHeld}
+use Rattle.airport_register.specs.Registers.{IsRegister}
+use Rattle.airfields.specs.Categories.{has_civil_surfaces}
+use Rattle.airfields.specs.declared.runways.TheConstants.{MOST_RUNWAYS}
+use Rattle.airport_register.specs.declared.register.TheConstants.{MOST_AIRFIELDS}
+use Rattle.airfields.specs.Sites.{Site}
+use Rattle.airfields.specs.declared.airfield.Airport.{Airport}
+use Rattle.airfields.specs.declared.airfield.Heliport.{Heliport}
+use Rattle.airfields.specs.declared.airfield.Airfield.{Airfield}
+use Rattle.airfields.specs.declared.airfield.Airfield.TheVariants.{Airport as AnAirport, Heliport as AHeliport}
+use Rattle.airfields.specs.declared.runway.Runway.{Runway}
 use Rattle.height_rules.specs.AboveGround.{notice_excess, height_excess}
 use Rattle.height_rules.specs.Heights.{notice_top, standards_top}
 use Rattle.height_rules.specs.NearAirport.{near_excess}
@@ -26,8 +29,8 @@ use Rattle.heliport_surfaces.specs.declared.parts.PadEnd.TheVariants as pad_ends
 use Rattle.heliport_surfaces.specs.declared.parts.Beside.TheVariants as sides
 use Rattle.notice_slopes.specs.Exemptions.{exemption_of}
 use Rattle.notice_slopes.specs.OnAirfields.{is_on_described}
-use Rattle.notice_slopes.specs.Notices.{notice_slope}
-use Rattle.oe_findings.specs.List.{entries, no_key, field_key, runway_key, of_runway, of_civil, of_pad, of_airfield, rule_a, rule_b3, slope_finding, slope_entries, on_airfield, notices_of, notices_if_due, findings_of}
+use Rattle.runway_notice.specs.Notices.{notice_slope}
+use Rattle.oe_findings.specs.List.{entries, no_key, field_key, runway_key, of_runway, of_runways, of_surfaces, of_pad, of_airfield, rule_a, rule_b3, slope_finding, slope_entries, on_airfield, notices_of, notices_if_due, findings_of}
 use Rattle.oe_findings.specs.Verdicts.{tally_of, verdict_of, asks_notice, is_obstruction}
 use Rattle.oe_findings.specs.declared.finding.Finding.{Finding}
 use Rattle.oe_findings.specs.declared.finding.SurfaceKey.{SurfaceKey}
@@ -69,15 +72,25 @@ of_one_runway id at top cap r =
     six_parts (entries rules.Primary k0 x1) (entries rules.Approach k1 x2) (entries rules.Approach k2 x3) (entries rules.Transition k0 x4) (entries rules.Transition k1 x5) (entries rules.Transition k2 x6)
     (one rules.Primary k0 x1) (one rules.Approach k1 x2) (one rules.Approach k2 x3) (one rules.Transition k0 x4) (one rules.Transition k1 x5) (one rules.Transition k2 x6)
 
-of_all_civil : (at : Point) (top : ℤ) (a : Airport) → length a.runways ≤ 16 → length (of_civil at top a) ≤ 98
-of_all_civil at top a few =
+-- a list that is given, or none
+either : {A : Type 0} (b : Bool) (xs : List A) (n : ℕ) → length xs ≤ n → length (if b then xs else []) ≤ n
+either true xs n h = h
+either false xs n h = omega arith
+
+of_all_runways : (at : Point) (top : ℤ) (a : Airport) → length a.runways ≤ MOST_RUNWAYS → length (of_runways at top a) ≤ 96
+of_all_runways at top a few =
+    let entries_of = of_runway a.id at top (cap_of (dome_of a) at) in
+    let all = any_parts entries_of 6 (of_one_runway a.id at top (cap_of (dome_of a) at)) a.runways in
+    either (has_civil_surfaces a.category) (flat_map entries_of a.runways) 96 (omega (arith, all, few))
+
+of_all_surfaces : (at : Point) (top : ℤ) (a : Airport) → length a.runways ≤ MOST_RUNWAYS → length (of_surfaces at top a) ≤ 98
+of_all_surfaces at top a few =
     let k = field_key a.id 0 in
     let x1 = horizontal_excess (dome_of a) at top in
     let x2 = conical_excess (dome_of a) at top in
-    let f = of_runway a.id at top (cap_of (dome_of a) at) in
-    two_parts (entries rules.Horizontal k x1 ++ entries rules.Conical k x2) (flat_map f a.runways) 2 96
+    two_parts (entries rules.Horizontal k x1 ++ entries rules.Conical k x2) (of_runways at top a) 2 96
     (two_parts (entries rules.Horizontal k x1) (entries rules.Conical k x2) 1 1 (one rules.Horizontal k x1) (one rules.Conical k x2))
-    (omega (arith, any_parts f 6 (of_one_runway a.id at top (cap_of (dome_of a) at)) a.runways, few))
+    (of_all_runways at top a few)
 
 of_one_pad : (at : Point) (top : ℤ) (h : Heliport) → length (of_pad at top h) ≤ 6
 of_one_pad at top h =
@@ -93,11 +106,6 @@ of_one_pad at top h =
     six_parts (entries rules.PadPrimary k0 x1) (entries rules.PadApproach k1 x2) (entries rules.PadApproach k2 x3) (entries rules.PadTransition k0 x4) (entries rules.PadTransition k1 x5) (entries rules.PadTransition k2 x6)
     (one rules.PadPrimary k0 x1) (one rules.PadApproach k1 x2) (one rules.PadApproach k2 x3) (one rules.PadTransition k0 x4) (one rules.PadTransition k1 x5) (one rules.PadTransition k2 x6)
 
--- a list that is given, or none
-either : {A : Type 0} (b : Bool) (xs : List A) (n : ℕ) → length xs ≤ n → length (if b then xs else []) ≤ n
-either true xs n h = h
-either false xs n h = omega arith
-
 at_most_one : {A X : Type 0} (f : X → A) (o : Option X) → length (option_to_list (option_map f o)) ≤ 1
 at_most_one f None = omega arith
 at_most_one f (Some x) = omega arith
@@ -105,19 +113,17 @@ at_most_one f (Some x) = omega arith
 of_one_airfield : (site : Site) (f : Airfield) → IsHeld f → length (of_airfield site f) ≤ 99
 of_one_airfield site (AnAirport a) held =
     let top = standards_top site in
-    two_parts (entries rules.Near (field_key a.id 0) (near_excess a site)) (if has_civil_surfaces a.category then of_civil site.at top a else []) 1 98
-    (one rules.Near (field_key a.id 0) (near_excess a site)) (either (has_civil_surfaces a.category) (of_civil site.at top a) 98 (of_all_civil site.at top a held.number))
+    two_parts (entries rules.Near (field_key a.id 0) (near_excess a site)) (of_surfaces site.at top a) 1 98
+    (one rules.Near (field_key a.id 0) (near_excess a site)) (of_all_surfaces site.at top a held.number)
 of_one_airfield site (AHeliport h) held =
-    let m = either (is_described h.category) (of_pad site.at (standards_top site) h) 6 (of_one_pad site.at (standards_top site) h) in
-    omega (arith, m)
+    omega (arith, of_one_pad site.at (standards_top site) h)
 
 one_slope : (site : Site) (f : Airfield) → length (slope_entries site f) ≤ 1
 one_slope site (AnAirport a) = at_most_one (slope_finding site a.id) (notice_slope a site.at (notice_top site))
 one_slope site (AHeliport h) =
-    let x = pad_notice_excess h site.at (notice_top site) in
-    either (is_described h.category) (entries (rule_b3 site) (field_key h.id 0) x) 1 (one (rule_b3 site) (field_key h.id 0) x)
+    one (rule_b3 site) (field_key h.id 0) (pad_notice_excess h site.at (notice_top site))
 
-all_notices : (airfields : List Airfield) (site : Site) → length airfields ≤ 4096 → length (notices_of airfields site) ≤ 4098
+all_notices : (airfields : List Airfield) (site : Site) → length airfields ≤ MOST_AIRFIELDS → length (notices_of airfields site) ≤ 4098
 all_notices airfields site number =
     let first = entries (rule_a site) no_key (notice_excess site) in
     let slopes = flat_map (slope_entries site) airfields in

@@ -1,14 +1,20 @@
 -- Entries that are taken one after the other.
-use Rattle.std.proofs.Common.{◌≡◌, ℕ, List, ◌++◌, Option, subst}
+use Rattle.std.proofs.Common.{◌≡◌, ℕ, List, ◌++◌, Option, Result, Ok, Err, subst}
+use Rattle.std.specs.Prelude.{OnOk}
 use Rattle.oe_findings.specs.List.{entries}
 use Rattle.oe_findings.specs.declared.finding.Finding.{Finding}
 use Rattle.oe_findings.specs.declared.finding.SurfaceKey.{SurfaceKey}
 use Rattle.oe_findings.specs.declared.finding.Rule.{Rule}
 use Rattle.oe_findings.proofs.ListFacts.{both}
 
--- the list with some more findings behind it was taken
+-- the list followed by some more findings was taken
 abbrev pub Puts : (Old New : List Finding → Type 0) → List Finding → Type 0
 Puts Old New more = (list : List Finding) → Old list → New (list ++ more)
+
+-- what follows where a call returned
+pub where_ok : {X E A B : Type 0} (r : Result X E) → (A → B) → OnOk r A → OnOk r B
+where_ok (Ok x) f h = f h
+where_ok (Err e) f h = h
 
 -- an entry whose excess is known
 pub told : (Old New : List Finding → Type 0) (rule : Rule) (key : SurfaceKey) (x y : Option ℕ) → x ≡ y → Puts Old New (entries rule key x) → Puts Old New (entries rule key y)

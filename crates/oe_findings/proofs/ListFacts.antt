@@ -4,7 +4,7 @@ use Rattle.std.specs.Prelude.{slice_get}
 use Rattle.std.specs.List.{flat_map}
 use Rattle.std.proofs.lemmas.List.{map-append, flat_map_more, take_more, append-nil}
 
-at_place : {X : Type 0} (xs : List X) (i : ℕ) (x : X) → slice_get xs i ≡ Some x → (i < length xs) × (get_or xs i x ≡ x)
+pub at_place : {X : Type 0} (xs : List X) (i : ℕ) (x : X) → slice_get xs i ≡ Some x → (i < length xs) × (get_or xs i x ≡ x)
 at_place [] i x e = absurd (cc)
 at_place (y ∷ xs) zero x e = (omega arith, cc)
 at_place (y ∷ xs) (suc i) x e = let r = at_place xs i x e in (omega (arith, r.0), r.1)

@@ -5,8 +5,8 @@ use Rattle.std.specs.Option.{option_eq}
 use Rattle.std.specs.Cmp.Lexicographic.{bytes_decides}
 use Rattle.std.proofs.lemmas.Bool.Decides.{Decides-and, Decides-eqb}
 use denote.Enum.Bare.{same_true, true_same}
-use Rattle.airport_register.specs.contracts.names.FieldIdPartialEq.TheImpl.{eq-value as field_eq}
-use Rattle.airport_register.specs.contracts.names.RunwayNamePartialEq.TheImpl.{eq-value as runway_eq}
+use Rattle.airfields.specs.contracts.names.FieldIdPartialEq.TheImpl.{eq-value as field_eq}
+use Rattle.airfields.specs.contracts.names.RunwayNamePartialEq.TheImpl.{eq-value as runway_eq}
 use Rattle.oe_findings.specs.contracts.finding.FindingPartialEq.TheImpl.{eq-value as finding_eq}
 use Rattle.oe_findings.specs.contracts.finding.Rule.{the_type as rule_type}
 use Rattle.oe_findings.specs.declared.finding.Finding.{Finding}

@@ -2,12 +2,12 @@
 use Rattle.std.proofs.Common.{◌≡◌, ℕ, ℤ, List, [], ◌∷◌, Option, Some, sym, ap, ◌∙◌, subst}
 use Rattle.std.specs.Option.{option_map, option_to_list}
 use Rattle.grid_exact.specs.declared.point.Point.{Point}
-use Rattle.airport_register.specs.Sites.{Site}
-use Rattle.airport_register.specs.declared.airfield.Airport.{Airport}
-use Rattle.airport_register.specs.declared.airfield.Airfield.TheVariants.{Airport as AnAirport}
+use Rattle.airfields.specs.Sites.{Site}
+use Rattle.airfields.specs.declared.airfield.Airport.{Airport}
+use Rattle.airfields.specs.declared.airfield.Airfield.TheVariants.{Airport as AnAirport}
 use Rattle.height_rules.specs.Heights.{notice_top}
-use Rattle.notice_slopes.specs.Notices.{notice_slope}
-use Rattle.notice_slopes.specs.declared.slope.Slope.{Slope}
+use Rattle.runway_notice.specs.Notices.{notice_slope}
+use Rattle.runway_notice.specs.declared.slope.Slope.{Slope}
 use Rattle.oe_findings.specs.List.{rule_b, runway_key, slope_entries, slope_finding}
 use Rattle.oe_findings.specs.declared.finding.Finding.{Finding}
 use Rattle.oe_findings.specs.declared.finding.SurfaceKey.{SurfaceKey}

@@ -4,13 +4,13 @@ use Rattle.std.specs.List.{flat_map}
 use Rattle.std.specs.Option.{option_to_list}
 use Rattle.grid_exact.specs.declared.point.Point.{Point}
 use Rattle.grid_exact.specs.declared.cap.Cap.{Cap}
-use Rattle.airport_register.specs.Categories.{has_civil_surfaces, is_described}
-use Rattle.airport_register.specs.Sites.{Site, is_traverse_way}
-use Rattle.airport_register.specs.declared.airfield.Airport.{Airport}
-use Rattle.airport_register.specs.declared.airfield.Heliport.{Heliport}
-use Rattle.airport_register.specs.declared.runway.Runway.{Runway}
-use Rattle.airport_register.specs.declared.airfield.Airfield.{Airfield}
-use Rattle.airport_register.specs.declared.airfield.Airfield.TheVariants.{Airport as AnAirport, Heliport as AHeliport}
+use Rattle.airfields.specs.Categories.{has_civil_surfaces}
+use Rattle.airfields.specs.Sites.{Site, is_traverse_way}
+use Rattle.airfields.specs.declared.airfield.Airport.{Airport}
+use Rattle.airfields.specs.declared.airfield.Heliport.{Heliport}
+use Rattle.airfields.specs.declared.runway.Runway.{Runway}
+use Rattle.airfields.specs.declared.airfield.Airfield.{Airfield}
+use Rattle.airfields.specs.declared.airfield.Airfield.TheVariants.{Airport as AnAirport, Heliport as AHeliport}
 use Rattle.height_rules.specs.AboveGround.{notice_excess, height_excess}
 use Rattle.height_rules.specs.Heights.{notice_top, standards_top}
 use Rattle.height_rules.specs.NearAirport.{near_excess}
@@ -23,10 +23,10 @@ use Rattle.heliport_surfaces.specs.declared.parts.PadEnd.TheVariants as pad_ends
 use Rattle.heliport_surfaces.specs.declared.parts.Beside.TheVariants as sides
 use Rattle.notice_slopes.specs.Exemptions.{exemption_of}
 use Rattle.notice_slopes.specs.OnAirfields.{is_on_described}
-use Rattle.notice_slopes.specs.Notices.{notice_slope}
-use Rattle.notice_slopes.specs.declared.slope.Slope.{Slope}
-use Rattle.notice_slopes.specs.declared.slope.Sub.{Sub}
-use Rattle.notice_slopes.specs.declared.slope.Sub.TheVariants.{B1, B2}
+use Rattle.runway_notice.specs.Notices.{notice_slope}
+use Rattle.runway_notice.specs.declared.slope.Slope.{Slope}
+use Rattle.runway_notice.specs.declared.slope.Sub.{Sub}
+use Rattle.runway_notice.specs.declared.slope.Sub.TheVariants.{B1, B2}
 use Rattle.oe_findings.specs.declared.finding.Finding.{Finding}
 use Rattle.oe_findings.specs.declared.finding.SurfaceKey.{SurfaceKey}
 use Rattle.oe_findings.specs.declared.finding.Rule.{Rule}
@@ -61,12 +61,16 @@ of_runway id at top cap r =
     ++ entries rules.Transition (runway_key id r.name 1) (approach_transition_excess r ends.One at cap top)
     ++ entries rules.Transition (runway_key id r.name 2) (approach_transition_excess r ends.Two at cap top)
 
--- the entries of the civil surfaces of 77.19: horizontal, conical, then those of each runway in order of their names
-abbrev pub of_civil : Point → ℤ → Airport → List Finding
-of_civil at top a =
+-- the entries of the surfaces of an airport's runways, in order of their names: 77.19 is for civil airports alone
+abbrev pub of_runways : Point → ℤ → Airport → List Finding
+of_runways at top a = if has_civil_surfaces a.category then flat_map (of_runway a.id at top (cap_of (dome_of a) at)) a.runways else []
+
+-- the entries of the surfaces of 77.19: horizontal, conical, then those of each runway
+abbrev pub of_surfaces : Point → ℤ → Airport → List Finding
+of_surfaces at top a =
     entries rules.Horizontal (field_key a.id 0) (horizontal_excess (dome_of a) at top)
     ++ entries rules.Conical (field_key a.id 0) (conical_excess (dome_of a) at top)
-    ++ flat_map (of_runway a.id at top (cap_of (dome_of a) at)) a.runways
+    ++ of_runways at top a
 
 -- the entries of the surfaces of a heliport, 77.23: primary, approach, and transitional
 abbrev pub of_pad : Point → ℤ → Heliport → List Finding
@@ -78,11 +82,10 @@ of_pad at top h =
     ++ entries rules.PadTransition (field_key h.id 1) (pad_transition_excess h sides.ApproachOne at top)
     ++ entries rules.PadTransition (field_key h.id 2) (pad_transition_excess h sides.ApproachTwo at top)
 
--- the standards of one airfield: the height near an airport of 77.17(a)(2), and the imaginary surfaces that its category has
+-- the standards of one airfield: the height near an airport of 77.17(a)(2), and the imaginary surfaces that it has
 abbrev pub of_airfield : Site → Airfield → List Finding
-of_airfield site (AnAirport a) =
-    entries rules.Near (field_key a.id 0) (near_excess a site) ++ (if has_civil_surfaces a.category then of_civil site.at (standards_top site) a else [])
-of_airfield site (AHeliport h) = if is_described h.category then of_pad site.at (standards_top site) h else []
+of_airfield site (AnAirport a) = entries rules.Near (field_key a.id 0) (near_excess a site) ++ of_surfaces site.at (standards_top site) a
+of_airfield site (AHeliport h) = of_pad site.at (standards_top site) h
 
 -- ---- notice
 
@@ -104,8 +107,7 @@ slope_finding site id s = record { rule = rule_b site s.sub; key = runway_key id
 -- the notice slope of one airfield, 77.9(b)
 abbrev pub slope_entries : Site → Airfield → List Finding
 slope_entries site (AnAirport a) = option_to_list (option_map (slope_finding site a.id) (notice_slope a site.at (notice_top site)))
-slope_entries site (AHeliport h) =
-    if is_described h.category then entries (rule_b3 site) (field_key h.id 0) (pad_notice_excess h site.at (notice_top site)) else []
+slope_entries site (AHeliport h) = entries (rule_b3 site) (field_key h.id 0) (pad_notice_excess h site.at (notice_top site))
 
 -- construction on an airfield of 77.9(d), which has no height
 abbrev pub on_airfield : List Airfield → Site → List Finding

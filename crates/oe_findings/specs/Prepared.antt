@@ -1,8 +1,8 @@
 -- What is prepared of an airfield.
 use Rattle.std.specs.declared.sync.Arc.{Arc}
 use Rattle.std.specs.Arc.{arc_value}
-use Rattle.airport_register.specs.declared.airfield.Airfield.{Airfield}
-use Rattle.airport_register.specs.declared.airfield.Airfield.TheVariants as airfields
+use Rattle.airfields.specs.declared.airfield.Airfield.{Airfield}
+use Rattle.airfields.specs.declared.airfield.Airfield.TheVariants as airfields
 use Rattle.oe_findings.specs.declared.prepared.Prepared.{Prepared}
 use Rattle.oe_findings.specs.declared.prepared.Prepared.TheVariants as prepared
 

@@ -1,9 +1,9 @@
 -- What is prepared of an airport.
 use Rattle.std.specs.Prelude.{List, ◌≡◌}
-use Rattle.airport_register.specs.Airfields.{IsHeldAirport}
+use Rattle.airfields.specs.Airfields.{IsHeldAirport}
 use Rattle.horizontal_hull.specs.Arcs.{Dome, dome_of}
-use Rattle.airport_register.specs.declared.runway.Runway.{Runway}
-use Rattle.airport_register.specs.declared.airfield.Airport.{Airport}
+use Rattle.airfields.specs.declared.runway.Runway.{Runway}
+use Rattle.airfields.specs.declared.airfield.Airport.{Airport}
 
 -- the airport keeps its limits, and the surfaces are those of its runways
 pub record IsPreparedAirport (a : Airport) (hull : Dome) (strips : List Runway) : Type 0 where

@@ -6,7 +6,7 @@ ghost use Rattle.oe_findings.specs.declared.finding.Finding.{Finding as AFinding
 
 use crate::collector::Collector;
 use crate::finding::{Finding, Rule, SurfaceKey};
-use airport_register::{FieldId, RunwayName};
+use airfields::{FieldId, RunwayName};
 use grid_exact::NoMemory;
 
 /// The key of a rule that looks at no airfield.
@@ -42,7 +42,7 @@ pub(crate) fn runway_key(field: FieldId, runway: RunwayName, part: u8) -> Surfac
     }
 }
 
-/// Puts the entry of a rule behind the others, where it is exceeded.
+/// Hands over the entry of a rule, where it is exceeded.
 pub(crate) fn put_entry<C: Collector>(
     out: &mut C,
     rule: Rule,
@@ -58,7 +58,7 @@ pub(crate) fn put_entry<C: Collector>(
     Ok(())
 }
 
-/// Puts the entry of a surface of an airfield behind the others, where it is exceeded.
+/// Hands over the entry of a surface of an airfield, where it is exceeded.
 pub(crate) fn put_on_field<C: Collector>(
     out: &mut C,
     rule: Rule,
@@ -72,7 +72,7 @@ pub(crate) fn put_on_field<C: Collector>(
     put_entry(out, rule, field_key(field, part), excess)
 }
 
-/// Puts the entry of a surface of a runway behind the others, where it is exceeded.
+/// Hands over the entry of a surface of a runway, where it is exceeded.
 pub(crate) fn put_on_runway<C: Collector>(
     out: &mut C,
     rule: Rule,

@@ -1,17 +1,15 @@
 //! The airfields of a register with their surfaces, prepared for many structures.
 
-ghost use Rattle.std.specs.Prelude.{◌≡◌, [], length, map, IfOk, IfSome, OnOk, OnErr, option_copied};
+ghost use Rattle.std.specs.Prelude.{◌≡◌, [], map, IfOk, IfSome, option_map};
 ghost use Rattle.std.specs.Arc.{arc_value};
-ghost use Rattle.std.specs.List.Sorted.{IsBinarySearchResult, IsSearchInRange};
-ghost use Rattle.ordered_list.specs.Ordered.{put_by, removed_by};
-ghost use Rattle.airport_register.specs.Names.{name_cmp};
-ghost use Rattle.airport_register.specs.Airfields.{id_of, IsHeld, IsRegister};
+ghost use Rattle.airfields.specs.Airfields.{IsHeld};
 ghost use Rattle.airport_register.specs.Amendments.{replaced};
-ghost use Rattle.oe_findings.specs.Prepared.{airfield_of, shared_airfield};
+ghost use Rattle.oe_findings.specs.Prepared.{shared_airfield};
 
 use crate::prepared::Prepared;
-use airport_register::{Airfield, FieldId, Register};
+use airport_register::{Changed, Register};
 use grid_exact::NoMemory;
+use ordered_list::OrderedList;
 use std::alloc::Global;
 use std::marker::Model;
 use std::sync::Arc;
@@ -19,28 +17,17 @@ use std::sync::Arc;
 /// The airfields of a register with their surfaces; seen as the list of the airfields in rising order of name.
 #[derive(Drop)]
 pub(crate) struct PreparedFields {
-    items: Vec<Arc<Prepared>>,
+    items: OrderedList<Arc<Prepared>>,
 }
 
 impl Model for PreparedFields {
     ghost use Rattle.std.specs.Prelude.{List, map};
-    ghost use Rattle.airport_register.specs.Airfields.{IsRegister};
-    ghost use Rattle.airport_register.specs.declared.airfield.Airfield.{Airfield};
+    ghost use Rattle.airfields.specs.declared.airfield.Airfield.{Airfield};
     ghost use Rattle.oe_findings.specs.Prepared.{shared_airfield};
 
     ghost Value = { List Airfield };
 
-    ghost view = { λ f. map shared_airfield f.items.items };
-
-    ghost invariant = { λ f. IsRegister (map shared_airfield f.items.items) };
-}
-
-/// Where the airfield of this name stands, or where it would stand.
-fn place(items: &[Arc<Prepared>], id: &FieldId) -> Result<usize, usize>
-    ensures within { IsSearchInRange result (length items.now) }
-    ensures found { IsBinarySearchResult (λ p. name_cmp (id_of (shared_airfield p)) id.now) items.now result }
-{
-    items.binary_search_by_key(id, |prepared| *prepared.id())
+    ghost view = { λ f. map shared_airfield f.items };
 }
 
 impl PreparedFields {
@@ -49,7 +36,7 @@ impl PreparedFields {
         ensures { result ≡ [] }
     {
         PreparedFields {
-            items: Vec::new(alloc),
+            items: OrderedList::empty(alloc),
         }
     }
 
@@ -58,12 +45,12 @@ impl PreparedFields {
         ensures { IfOk result (λ f. f ≡ register.now) }
     {
         register.limits();
-        let mut items = Vec::with_capacity(alloc, register.len())?;
+        let mut items = OrderedList::empty(alloc);
         for i in 0..register.len() {
             let Some(airfield) = register.nth(i) else {
                 unreachable!();
             };
-            items.push(Arc::new(alloc, Prepared::of(alloc, airfield)?)?)?;
+            items.put(Arc::new(alloc, Prepared::of(alloc, airfield)?)?)?;
         }
         Ok(PreparedFields { items })
     }
@@ -75,64 +62,25 @@ impl PreparedFields {
         self.items.as_slice()
     }
 
-    /// The same airfields, which share their surfaces with these.
-    fn share(&self, alloc: Global) -> Result<PreparedFields, NoMemory>
-        ensures { IfOk result (λ f. f ≡ self.now) }
-    {
-        let mut items = Vec::with_capacity(alloc, self.items.len())?;
-        for prepared in &self.items {
-            items.push(Arc::try_clone(prepared)?)?;
-        }
-        Ok(PreparedFields { items })
-    }
-
-    /// Puts the airfield in its place, instead of the one of its name.
-    fn put(&mut self, prepared: Arc<Prepared>) -> Result<(), NoMemory>
-        requires register { IsRegister (put_by name_cmp id_of (shared_airfield prepared) self.old) }
-        ensures put { OnOk result (self.new ≡ put_by name_cmp id_of (shared_airfield prepared) self.old) }
-    {
-        match place(self.items.as_slice(), prepared.id()) {
-            Ok(i) => {
-                self.items[i] = prepared;
-                Ok(())
-            }
-            Err(i) => {
-                self.items.insert(i, prepared)?;
-                Ok(())
-            }
-        }
-    }
-
-    /// Takes the airfield of this name out.
-    fn remove(&mut self, id: &FieldId)
-        ensures removed { self.new ≡ removed_by name_cmp id_of id.now self.old }
-    {
-        match place(self.items.as_slice(), id) {
-            Ok(i) => {
-                self.items.remove(i);
-            }
-            Err(_) => {}
-        }
-    }
-
-    /// The same airfields with this one under this name, or with none under it.
+    /// The airfields after a change of one of them; the others share their surfaces with these.
     pub(crate) fn replaced(
         &self,
         alloc: Global,
-        id: &FieldId,
-        airfield: Option<&Airfield>,
+        changed: &Changed,
     ) -> Result<PreparedFields, NoMemory>
-        requires held { IfSome (option_copied airfield) (λ f. IsHeld f) }
-        requires register { IsRegister (replaced id.now (option_copied airfield) self.now) }
-        ensures { IfOk result (λ f. f ≡ replaced id.now (option_copied airfield.entry) self.now) }
+        requires held { IfSome (option_map arc_value changed.now.after) (λ f. IsHeld f) }
+        ensures { IfOk result (λ f. f ≡ replaced changed.now.id (option_map arc_value changed.now.after) self.now) }
     {
-        let mut fields = self.share(alloc)?;
-        match airfield {
+        let mut items = self.items.share(alloc)?;
+        match &changed.after {
             Some(airfield) => {
-                fields.put(Arc::new(alloc, Prepared::of(alloc, airfield)?)?)?;
+                items.put(Arc::new(alloc, Prepared::of(alloc, airfield)?)?)?;
+                Ok(PreparedFields { items })
             }
-            None => fields.remove(id),
+            None => {
+                items.remove(&changed.id);
+                Ok(PreparedFields { items })
+            }
         }
-        Ok(fields)
     }
 }

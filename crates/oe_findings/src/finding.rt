@@ -2,7 +2,7 @@
 
 ghost use Rattle.std.specs.Prelude.{◌≡◌};
 
-use airport_register::{FieldId, RunwayName};
+use airfields::{FieldId, RunwayName};
 
 /// A standard or a notice rule that a structure may exceed.
 #[derive(Clone, Copy, Debug, PartialEq, Eq)]

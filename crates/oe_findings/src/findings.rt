@@ -32,7 +32,7 @@ impl Findings {
         }
     }
 
-    /// Puts a finding behind the others.
+    /// Appends a finding.
     ///
     /// # Errors
     ///

@@ -1,10 +1,10 @@
 //! The notice rules that a structure meets.
 
-ghost use Rattle.std.specs.Prelude.{◌≡◌, ◌++◌, List, OnOk, OnErr, map};
+ghost use Rattle.std.specs.Prelude.{◌≡◌, ◌≤◌, ◌+◌, ◌++◌, List, OnOk, OnErr, length, map};
 ghost use Rattle.std.specs.List.{flat_map};
 ghost use Rattle.oe_findings.specs.List.{notices_of, on_airfield, rule_a as rule_a_of, rule_b as rule_b_of, rule_b3 as rule_b3_of, slope_entries};
 ghost use Rattle.oe_findings.specs.Prepared.{airfield_of, shared_airfield};
-ghost use Rattle.airport_register.specs.declared.airfield.Airfield.TheVariants.{Airport as AnAirport, Heliport as AHeliport};
+ghost use Rattle.airfields.specs.declared.airfield.Airfield.TheVariants.{Airport as AnAirport, Heliport as AHeliport};
 ghost use Rattle.oe_findings.specs.declared.finding.Finding.{Finding as AFinding};
 
 use crate::collector::Collector;
@@ -12,12 +12,14 @@ use crate::entry::{field_key, no_field, put_entry, put_on_field, runway_key};
 use crate::finding::{Finding, Rule};
 use crate::prepared::Prepared;
 use crate::prepared_airport::PreparedAirport;
-use airport_register::{Filing, Register};
-use grid_exact::NoMemory;
+use airfields::Filing;
+use airport_register::Register;
+use grid_exact::{NoMemory, Steps};
 use height_rules::{excess_200, top_for_notice};
 use heliport_surfaces::Pad;
 use notice_slopes::{Sub, excess_notice, rule_d};
 use std::sync::Arc;
+use std::sync::ledger::Ledger;
 
 /// What 77.9(a) is called for the structure: for a traverse way, under 77.9(c).
 fn rule_a(filing: &Filing) -> Rule
@@ -53,7 +55,7 @@ fn rule_b3(filing: &Filing) -> Rule
     }
 }
 
-/// Puts the entry of the notice slope of an airport behind the others.
+/// Hands over the entry of the notice slope of an airport.
 fn put_airport_slope<C: Collector>(
     out: &mut C,
     filing: &Filing,
@@ -73,20 +75,16 @@ fn put_airport_slope<C: Collector>(
     Ok(())
 }
 
-/// Puts the entry of the notice slope of a heliport behind the others.
+/// Hands over the entry of the notice slope of a heliport.
 fn put_heliport_slope<C: Collector>(out: &mut C, filing: &Filing, pad: &Pad) -> Result<(), NoMemory>
     ensures taken { OnOk result ((list : List AFinding) → C.taken out.old list → C.taken out.new (list ++ slope_entries filing.now (AHeliport pad.now))) }
     ensures fails { OnErr result C.fails }
 {
-    let heliport = pad.heliport();
-    if heliport.category.described() {
-        let excess = pad.excess_notice(&filing.at, top_for_notice(filing));
-        put_on_field(out, rule_b3(filing), heliport.id, 0, excess)?;
-    }
-    Ok(())
+    let excess = pad.excess_notice(&filing.at, top_for_notice(filing));
+    put_on_field(out, rule_b3(filing), pad.heliport().id, 0, excess)
 }
 
-/// Puts the entry of the notice slope of one airfield behind the others.
+/// Hands over the entry of the notice slope of one airfield.
 fn put_slope<C: Collector>(
     out: &mut C,
     filing: &Filing,
@@ -101,22 +99,25 @@ fn put_slope<C: Collector>(
     }
 }
 
-/// Puts the entries of the notice slopes of all airfields behind the others, in order of their names.
-fn put_slopes<C: Collector>(
+/// Hands over the entries of the notice slopes of all airfields, in order of their names; each airfield is a step.
+fn put_slopes<C: Collector, L: Ledger>(
     out: &mut C,
     filing: &Filing,
     fields: &[Arc<Prepared>],
+    steps: &mut Steps<L>,
 ) -> Result<(), NoMemory>
     ensures taken { OnOk result ((list : List AFinding) → C.taken out.old list → C.taken out.new (list ++ flat_map (slope_entries filing.now) (map shared_airfield fields.now))) }
     ensures fails { OnErr result C.fails }
+    ensures steps { steps.new ≤ steps.old + length fields.now }
 {
     for prepared in fields {
+        steps.tick();
         put_slope(out, filing, prepared)?;
     }
     Ok(())
 }
 
-/// Puts the entry of construction on an airfield behind the others, 77.9(d).
+/// Hands over the entry of construction on an airfield, 77.9(d).
 pub(crate) fn put_on_airfield<C: Collector>(
     out: &mut C,
     register: &Register,
@@ -138,18 +139,20 @@ pub(crate) fn put_on_airfield<C: Collector>(
     Ok(())
 }
 
-/// Puts the notice rules that the structure meets behind the others, in their order.
-pub(crate) fn put_notices<C: Collector>(
+/// Hands over the notice rules that the structure meets, in their order.
+pub(crate) fn put_notices<C: Collector, L: Ledger>(
     out: &mut C,
     register: &Register,
     fields: &[Arc<Prepared>],
     filing: &Filing,
+    steps: &mut Steps<L>,
 ) -> Result<(), NoMemory>
     requires same { map shared_airfield fields.now ≡ register.now }
     ensures taken { OnOk result ((list : List AFinding) → C.taken out.old list → C.taken out.new (list ++ notices_of register.now filing.now)) }
     ensures fails { OnErr result C.fails }
+    ensures steps { steps.new ≤ steps.old + length fields.now }
 {
     put_entry(out, rule_a(filing), no_field(), excess_200(filing))?;
-    put_slopes(out, filing, fields)?;
+    put_slopes(out, filing, fields, steps)?;
     put_on_airfield(out, register, filing)
 }

@@ -1,12 +1,13 @@
 //! Airfields with their surfaces, prepared for many structures.
 
 ghost use Rattle.std.specs.Prelude.{◌≡◌, IfOk};
-ghost use Rattle.airport_register.specs.Airfields.{id_of, IsHeld};
+ghost use Rattle.airfields.specs.Airfields.{id_of, IsHeld};
 
 use crate::prepared_airport::PreparedAirport;
-use airport_register::{Airfield, FieldId};
+use airfields::{Airfield, FieldId};
 use grid_exact::NoMemory;
 use heliport_surfaces::Pad;
+use ordered_list::Keyed;
 use std::alloc::Global;
 
 /// An airfield with its surfaces.
@@ -40,5 +41,19 @@ impl Prepared {
             Prepared::Airport(prepared) => &prepared.airport().id,
             Prepared::Heliport(pad) => &pad.heliport().id,
         }
+    }
+}
+
+/// An airfield with its surfaces stands under its name.
+impl Keyed for Prepared {
+    ghost use Rattle.airfields.specs.Airfields.{id_of};
+    ghost use Rattle.oe_findings.specs.Prepared.{airfield_of};
+
+    type Key = FieldId;
+
+    ghost key = { λ p. id_of (airfield_of p) };
+
+    fn key(&self) -> FieldId {
+        *self.id()
     }
 }

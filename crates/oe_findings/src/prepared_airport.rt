@@ -2,11 +2,11 @@
 
 ghost use Rattle.std.specs.Prelude.{◌≡◌, List, IfOk, take};
 ghost use Rattle.std.specs.List.{All};
-ghost use Rattle.airport_register.specs.Airfields.{IsHeldAirport};
-ghost use Rattle.airport_register.specs.Runways.{IsProper};
+ghost use Rattle.airfields.specs.Airfields.{IsHeldAirport};
+ghost use Rattle.airfields.specs.Runways.{IsProper};
 ghost use Rattle.horizontal_hull.specs.Arcs.{dome_of};
 
-use airport_register::{Airport, Runway};
+use airfields::{Airport, Runway};
 use grid_exact::NoMemory;
 use horizontal_hull::Hull;
 use imaginary_surfaces::Strip;
@@ -22,7 +22,7 @@ pub(crate) struct PreparedAirport {
 }
 
 impl Model for PreparedAirport {
-    ghost use Rattle.airport_register.specs.declared.airfield.Airport.{Airport};
+    ghost use Rattle.airfields.specs.declared.airfield.Airport.{Airport};
     ghost use Rattle.oe_findings.specs.PreparedAirports.{IsPreparedAirport};
 
     ghost Value = { Airport };

@@ -1,6 +1,6 @@
 //! The register with the surfaces over it.
 
-ghost use Rattle.std.specs.Prelude.{◌≡◌, ◌≢◌, [], None, Some, IfOk, IfErr, OnOk};
+ghost use Rattle.std.specs.Prelude.{◌≡◌, ◌≢◌, ◌≤◌, ◌+◌, ◌*◌, [], None, Some, IfOk, IfErr, OnOk, length};
 ghost use Rattle.airport_register.specs.Amendments.{amended_id, first_broken, after_amendment};
 ghost use Rattle.airport_register.specs.Changes.{IsChange};
 ghost use Rattle.oe_findings.specs.List.{findings_of};
@@ -10,10 +10,12 @@ use crate::fields::PreparedFields;
 use crate::findings::Findings;
 use crate::list::put_findings;
 use crate::verdict::Verdict;
-use airport_register::{AmendRefusal, Amendment, Changed, Filing, Register};
-use grid_exact::NoMemory;
+use airfields::Filing;
+use airport_register::{AmendRefusal, Amendment, Changed, Register};
+use grid_exact::{NoMemory, Steps};
 use std::alloc::Global;
 use std::marker::Model;
+use std::sync::ledger::Ledger;
 
 /// The register with the surfaces over it, seen as the list of its airfields in rising order of name. It never changes.
 #[derive(Drop)]
@@ -24,7 +26,7 @@ pub struct Sky {
 
 impl Model for Sky {
     ghost use Rattle.std.specs.Prelude.{◌≡◌, List};
-    ghost use Rattle.airport_register.specs.declared.airfield.Airfield.{Airfield};
+    ghost use Rattle.airfields.specs.declared.airfield.Airfield.{Airfield};
 
     ghost Value = { List Airfield };
 
@@ -79,23 +81,28 @@ impl Sky {
         let mut register = self.register.share(alloc)?;
         let changed = register.amend(alloc, a)?;
         register.limits();
-        let airfield = register.get(&changed.id);
-        let fields = self.fields.replaced(alloc, &changed.id, airfield)?;
+        let fields = self.fields.replaced(alloc, &changed)?;
         Ok((Sky { register, fields }, changed))
     }
 
     /// Makes `list` the findings of a structure over all airfields: each standard and notice rule that it exceeds, in order, with
     /// how far its top is above the surface or limit, in tenths of a foot, rounded down: 77.17(a)(1) and (2), the surfaces of 77.19 and
-    /// 77.23, and the notice rules of 77.9.
+    /// 77.23, and the notice rules of 77.9. A step is one airfield whose standards, or whose notice slope, are asked for.
     ///
     /// # Errors
     ///
     /// `NoMemory` where memory was refused; the list is then some list.
-    pub fn find(&self, list: &mut Findings, filing: &Filing) -> Result<(), NoMemory>
-        ensures { OnOk result (list.new ≡ findings_of self.now filing.now) }
+    pub fn find<L: Ledger>(
+        &self,
+        list: &mut Findings,
+        filing: &Filing,
+        steps: &mut Steps<L>,
+    ) -> Result<(), NoMemory>
+        ensures found { OnOk result (list.new ≡ findings_of self.now filing.now) }
+        ensures steps { steps.new ≤ steps.old + 2 * length self.now }
     {
         list.clear();
-        put_findings(list, &self.register, self.fields.as_slice(), filing)
+        put_findings(list, &self.register, self.fields.as_slice(), filing, steps)
     }
 
     /// The same as a list of its own.
@@ -103,17 +110,30 @@ impl Sky {
     /// # Errors
     ///
     /// `NoMemory` where memory was refused.
-    pub fn findings(&self, alloc: Global, filing: &Filing) -> Result<Findings, NoMemory>
-        ensures { IfOk result (λ list. list ≡ findings_of self.now filing.now) }
+    pub fn findings<L: Ledger>(
+        &self,
+        alloc: Global,
+        filing: &Filing,
+        steps: &mut Steps<L>,
+    ) -> Result<Findings, NoMemory>
+        ensures found { IfOk result (λ list. list ≡ findings_of self.now filing.now) }
+        ensures steps { steps.new ≤ steps.old + 2 * length self.now }
     {
         let mut list = Findings::new(alloc);
-        put_findings(&mut list, &self.register, self.fields.as_slice(), filing)?;
+        put_findings(
+            &mut list,
+            &self.register,
+            self.fields.as_slice(),
+            filing,
+            steps,
+        )?;
         Ok(list)
     }
 
     /// What that list comes to. It takes no memory.
-    pub fn verdict(&self, filing: &Filing) -> Verdict
-        ensures { result ≡ verdict_of (findings_of self.now filing.now) }
+    pub fn verdict<L: Ledger>(&self, filing: &Filing, steps: &mut Steps<L>) -> Verdict
+        ensures found { result ≡ verdict_of (findings_of self.now filing.now) }
+        ensures steps { steps.new ≤ steps.old + 2 * length self.now }
     {
         self.register.limits();
         let mut verdict = Verdict {
@@ -121,7 +141,13 @@ impl Sky {
             obstruction: false,
             entries: 0,
         };
-        match put_findings(&mut verdict, &self.register, self.fields.as_slice(), filing) {
+        match put_findings(
+            &mut verdict,
+            &self.register,
+            self.fields.as_slice(),
+            filing,
+            steps,
+        ) {
             Ok(()) => verdict,
             Err(NoMemory) => unreachable!(),
         }

@@ -3,11 +3,11 @@
 ghost use Rattle.std.specs.Prelude.{◌≡◌, ◌++◌, List, OnOk, OnErr};
 ghost use Rattle.std.specs.List.{flat_map};
 ghost use Rattle.grid_exact.specs.Level.{IsLevel};
-ghost use Rattle.grid_exact.specs.Caps.{IsSmallCap};
-ghost use Rattle.height_rules.specs.Heights.{standards_top};
-ghost use Rattle.oe_findings.specs.List.{of_airfield, of_civil, of_pad, of_runway};
+ghost use Rattle.horizontal_hull.specs.Arcs.{dome_of};
+ghost use Rattle.horizontal_hull.specs.Within.{cap_of};
+ghost use Rattle.oe_findings.specs.List.{of_airfield, of_pad, of_runway, of_runways, of_surfaces};
 ghost use Rattle.oe_findings.specs.Prepared.{airfield_of};
-ghost use Rattle.airport_register.specs.declared.airfield.Airfield.TheVariants.{Airport as AnAirport, Heliport as AHeliport};
+ghost use Rattle.airfields.specs.declared.airfield.Airfield.TheVariants.{Airport as AnAirport, Heliport as AHeliport};
 ghost use Rattle.oe_findings.specs.declared.finding.Finding.{Finding as AFinding};
 
 use crate::collector::Collector;
@@ -15,13 +15,13 @@ use crate::entry::{put_on_field, put_on_runway};
 use crate::finding::Rule;
 use crate::prepared::Prepared;
 use crate::prepared_airport::PreparedAirport;
-use airport_register::{FieldId, Filing};
+use airfields::{FieldId, Filing};
 use grid_exact::{Cap, NoMemory, Point};
 use height_rules::{excess_near_airport, top_for_standards};
-use heliport_surfaces::{Beside, Pad, PadEnd};
-use imaginary_surfaces::{End, Strip};
+use heliport_surfaces::Pad;
+use imaginary_surfaces::Strip;
 
-/// Puts the entries of the surfaces of one runway behind the others.
+/// Hands over the entries of the surfaces of one runway.
 fn put_runway<C: Collector>(
     out: &mut C,
     field: FieldId,
@@ -31,46 +31,43 @@ fn put_runway<C: Collector>(
     strip: &Strip,
 ) -> Result<(), NoMemory>
     requires top { IsLevel top }
-    requires cap { IsSmallCap cap.now }
     ensures taken { OnOk result ((list : List AFinding) → C.taken out.old list → C.taken out.new (list ++ of_runway field at.now top cap.now strip.now)) }
     ensures fails { OnErr result C.fails }
 {
     let name = strip.runway().name;
+    let excesses = strip.excesses(at, top, cap);
+    put_on_runway(out, Rule::Primary, field, name, 0, excesses.primary)?;
+    put_on_runway(out, Rule::Approach, field, name, 1, excesses.approach1)?;
+    put_on_runway(out, Rule::Approach, field, name, 2, excesses.approach2)?;
     put_on_runway(
         out,
-        Rule::Primary,
+        Rule::Transition,
         field,
         name,
         0,
-        strip.excess_primary(at, top),
+        excesses.beside_primary,
     )?;
     put_on_runway(
         out,
-        Rule::Approach,
+        Rule::Transition,
         field,
         name,
         1,
-        strip.excess_approach(End::One, at, top),
+        excesses.beside_approach1,
     )?;
     put_on_runway(
         out,
-        Rule::Approach,
+        Rule::Transition,
         field,
         name,
         2,
-        strip.excess_approach(End::Two, at, top),
+        excesses.beside_approach2,
     )?;
-    let beside = strip.excess_transition_primary(at, top, cap);
-    put_on_runway(out, Rule::Transition, field, name, 0, beside)?;
-    let first = strip.excess_transition_approach(End::One, at, top, cap);
-    put_on_runway(out, Rule::Transition, field, name, 1, first)?;
-    let second = strip.excess_transition_approach(End::Two, at, top, cap);
-    put_on_runway(out, Rule::Transition, field, name, 2, second)?;
     Ok(())
 }
 
-/// Puts the entries of the surfaces of runways behind the others, one runway after the other.
-fn put_runways<C: Collector>(
+/// Hands over the entries of the surfaces of runways, one runway after the other.
+fn put_strips<C: Collector>(
     out: &mut C,
     field: FieldId,
     at: &Point,
@@ -79,7 +76,6 @@ fn put_runways<C: Collector>(
     strips: &[Strip],
 ) -> Result<(), NoMemory>
     requires top { IsLevel top }
-    requires cap { IsSmallCap cap.now }
     ensures taken { OnOk result ((list : List AFinding) → C.taken out.old list → C.taken out.new (list ++ flat_map (of_runway field at.now top cap.now) strips.now)) }
     ensures fails { OnErr result C.fails }
 {
@@ -89,64 +85,78 @@ fn put_runways<C: Collector>(
     Ok(())
 }
 
-/// Puts the entries of the civil surfaces of an airport behind the others: horizontal, conical, then those of its runways in order
-/// of name.
-fn put_civil<C: Collector>(
+/// Hands over the entries of the surfaces of an airport's runways, in order of name; only a civil airport has them.
+fn put_runways<C: Collector>(
+    out: &mut C,
+    at: &Point,
+    top: i64,
+    cap: &Cap,
+    prepared: &PreparedAirport,
+) -> Result<(), NoMemory>
+    requires top { IsLevel top }
+    requires cap { cap.now ≡ cap_of (dome_of prepared.now) at.now }
+    ensures taken { OnOk result ((list : List AFinding) → C.taken out.old list → C.taken out.new (list ++ of_runways at.now top prepared.now)) }
+    ensures fails { OnErr result C.fails }
+{
+    let airport = prepared.airport();
+    if !airport.category.civil_surfaces() {
+        return Ok(());
+    }
+    put_strips(out, airport.id, at, top, cap, prepared.strips())
+}
+
+/// Hands over the entries of the surfaces of an airport: horizontal, conical, then those of its runways in order of name. How the
+/// point stands under the first two is found once, for them and for the limit of the transitional surfaces.
+fn put_surfaces<C: Collector>(
     out: &mut C,
     at: &Point,
     top: i64,
     prepared: &PreparedAirport,
 ) -> Result<(), NoMemory>
     requires top { IsLevel top }
-    ensures taken { OnOk result ((list : List AFinding) → C.taken out.old list → C.taken out.new (list ++ of_civil at.now top prepared.now)) }
+    ensures taken { OnOk result ((list : List AFinding) → C.taken out.old list → C.taken out.new (list ++ of_surfaces at.now top prepared.now)) }
     ensures fails { OnErr result C.fails }
 {
     let field = prepared.airport().id;
     let hull = prepared.hull();
-    put_on_field(
-        out,
-        Rule::Horizontal,
-        field,
-        0,
-        hull.excess_horizontal(at, top),
-    )?;
-    put_on_field(out, Rule::Conical, field, 0, hull.excess_conical(at, top))?;
-    put_runways(out, field, at, top, &hull.cap(at), prepared.strips())?;
-    Ok(())
+    let standing = hull.standing(at);
+    let horizontal = hull.excess_horizontal_at(&standing, top);
+    put_on_field(out, Rule::Horizontal, field, 0, horizontal)?;
+    let conical = hull.excess_conical_at(at, &standing, top);
+    put_on_field(out, Rule::Conical, field, 0, conical)?;
+    put_runways(out, at, top, &hull.cap_at(&standing), prepared)
 }
 
-/// Puts the entries of the surfaces of a heliport behind the others.
+/// Hands over the entries of the surfaces of a heliport.
 fn put_pad<C: Collector>(out: &mut C, at: &Point, top: i64, pad: &Pad) -> Result<(), NoMemory>
     requires top { IsLevel top }
     ensures taken { OnOk result ((list : List AFinding) → C.taken out.old list → C.taken out.new (list ++ of_pad at.now top pad.now)) }
     ensures fails { OnErr result C.fails }
 {
     let field = pad.heliport().id;
-    put_on_field(out, Rule::PadPrimary, field, 0, pad.excess_primary(at, top))?;
+    let excesses = pad.excesses(at, top);
+    put_on_field(out, Rule::PadPrimary, field, 0, excesses.primary)?;
+    put_on_field(out, Rule::PadApproach, field, 1, excesses.approach1)?;
+    put_on_field(out, Rule::PadApproach, field, 2, excesses.approach2)?;
+    put_on_field(out, Rule::PadTransition, field, 0, excesses.beside_primary)?;
     put_on_field(
         out,
-        Rule::PadApproach,
+        Rule::PadTransition,
         field,
         1,
-        pad.excess_approach(PadEnd::One, at, top),
+        excesses.beside_approach1,
     )?;
     put_on_field(
         out,
-        Rule::PadApproach,
+        Rule::PadTransition,
         field,
         2,
-        pad.excess_approach(PadEnd::Two, at, top),
+        excesses.beside_approach2,
     )?;
-    let beside = pad.excess_transition(Beside::Primary, at, top);
-    put_on_field(out, Rule::PadTransition, field, 0, beside)?;
-    let first = pad.excess_transition(Beside::ApproachOne, at, top);
-    put_on_field(out, Rule::PadTransition, field, 1, first)?;
-    let second = pad.excess_transition(Beside::ApproachTwo, at, top);
-    put_on_field(out, Rule::PadTransition, field, 2, second)?;
     Ok(())
 }
 
-/// Puts the entries of an airport behind the others.
+/// Hands over the entries of an airport.
 fn put_airport<C: Collector>(
     out: &mut C,
     filing: &Filing,
@@ -156,31 +166,12 @@ fn put_airport<C: Collector>(
     ensures fails { OnErr result C.fails }
 {
     let airport = prepared.airport();
-    put_on_field(
-        out,
-        Rule::Near,
-        airport.id,
-        0,
-        excess_near_airport(airport, filing),
-    )?;
-    if airport.category.civil_surfaces() {
-        put_civil(out, &filing.at, top_for_standards(filing), prepared)?;
-    }
-    Ok(())
+    let near = excess_near_airport(airport, filing);
+    put_on_field(out, Rule::Near, airport.id, 0, near)?;
+    put_surfaces(out, &filing.at, top_for_standards(filing), prepared)
 }
 
-/// Puts the entries of a heliport behind the others.
-fn put_heliport<C: Collector>(out: &mut C, filing: &Filing, pad: &Pad) -> Result<(), NoMemory>
-    ensures taken { OnOk result ((list : List AFinding) → C.taken out.old list → C.taken out.new (list ++ of_airfield filing.now (AHeliport pad.now))) }
-    ensures fails { OnErr result C.fails }
-{
-    if pad.heliport().category.described() {
-        put_pad(out, &filing.at, top_for_standards(filing), pad)?;
-    }
-    Ok(())
-}
-
-/// Puts the standards of one airfield behind the others.
+/// Hands over the standards of one airfield.
 pub(crate) fn put_airfield<C: Collector>(
     out: &mut C,
     filing: &Filing,
@@ -191,6 +182,6 @@ pub(crate) fn put_airfield<C: Collector>(
 {
     match prepared {
         Prepared::Airport(airport) => put_airport(out, filing, airport),
-        Prepared::Heliport(pad) => put_heliport(out, filing, pad),
+        Prepared::Heliport(pad) => put_pad(out, &filing.at, top_for_standards(filing), pad),
     }
 }

@@ -1,7 +1,8 @@
 -- Where the whole lines of a block end.
 use Rattle.std.proofs.Common.{arith, ℕ, ◌+◌, ◌-◌, ◌≡◌, ◌≤◌, ◌<◌, ◌==◌, true, List, length, Some, None, refl, sym, ◌∙◌, subst, take, drop, drop-cons, get_or, ap, suc, ◌∷◌, get_or-take, get_or-drop, length-take, length-drop, slice_range}
 use Rattle.memchr.specs.Find.{IsLastByte, is_byte}
-use Rattle.oe_http.specs.Lines.{HasFeed, WholeLinesEnd}
+use Rattle.oe_http.specs.Lines.{HasFeed}
+use Rattle.oe_http.specs.Pieces.{WholeLinesEnd}
 
 byte_test : (b : ℕ) → b ≡ 10 → (b == 10) ≡ true
 byte_test b e = rw e refl
@@ -10,25 +11,25 @@ pub lines_end_at : (bs : List ℕ) (k : ℕ) → IsLastByte (is_byte 10) bs (Som
 lines_end_at bs k h = record {
   within = omega (arith, h.0.high);
   feed = λ _. grind (arith, h.1);
-  behind = λ j low high e. h.0.after j low high (byte_test _ e);
+  after = λ j low high e. h.0.after j low high (byte_test _ e);
 }
 
 pub lines_end_none : (bs : List ℕ) → IsLastByte (is_byte 10) bs None → WholeLinesEnd bs 0
 lines_end_none bs h = record {
   within = omega arith;
   feed = λ lt. absurd (omega (arith, lt));
-  behind = λ j low high e. h j low high (byte_test _ e);
+  after = λ j low high e. h j low high (byte_test _ e);
 }
 
 pub lines_end_empty : (bs : List ℕ) → WholeLinesEnd (take 0 bs) 0
-lines_end_empty bs = record { within = omega arith; feed = λ lt. absurd (omega (arith, lt)); behind = λ j low high e. omega (arith, high) }
+lines_end_empty bs = record { within = omega arith; feed = λ lt. absurd (omega (arith, lt)); after = λ j low high e. omega (arith, high) }
 
 -- a byte of a range
 range_byte : (xs : List ℕ) (start end j : ℕ) → start + j < end → get_or (slice_range xs start end) j 0 ≡ get_or (take end xs) (start + j) 0
 range_byte xs start end j lt =
     get_or-take (end - start) (drop start xs) j 0 (omega (arith, lt)) ∙ get_or-drop start xs j 0 ∙ sym (get_or-take end xs (start + j) 0 lt)
 
--- the first byte of a range, and those behind it
+-- the first byte of a range, and those after it
 pub range_first : (xs bs : List ℕ) (start end : ℕ) → slice_range xs start end ≡ bs → end ≤ length xs → 0 < length bs → bs ≡ get_or xs start 0 ∷ slice_range xs (start + 1) end
 range_first xs bs start end e le some =
     let lt : start < end = omega (arith, some, ap length e, length-take (end - start) (drop start xs)) in
@@ -51,7 +52,7 @@ pending_feed xs bs start end feeds e h le lt = subst HasFeed e (range_feed xs st
 range_none : (xs : List ℕ) (start end feeds : ℕ) → WholeLinesEnd (take end xs) feeds → feeds ≤ start → end ≤ length xs → HasFeed (slice_range xs start end) → ⊥
 range_none xs start end feeds h low le p =
     let lt : start + p.0 < end = omega (arith, p.1, length-take (end - start) (drop start xs), length-drop start xs) in
-    h.behind (start + p.0) (omega (arith, low)) (omega (arith, lt, le, length-take end xs)) (sym (range_byte xs start end p.0 lt) ∙ p.2)
+    h.after (start + p.0) (omega (arith, low)) (omega (arith, lt, le, length-take end xs)) (sym (range_byte xs start end p.0 lt) ∙ p.2)
 
 pub pending_none : (xs bs : List ℕ) (start end feeds : ℕ) → slice_range xs start end ≡ bs → WholeLinesEnd (take end xs) feeds → end ≤ length xs → feeds ≤ start → HasFeed bs → ⊥
 pending_none xs bs start end feeds e h le low = subst (λ t. HasFeed t → ⊥) e (range_none xs start end feeds h low le)

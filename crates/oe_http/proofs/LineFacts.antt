@@ -1,18 +1,18 @@
 -- Reads, one after another, of bytes that are known where the source tells.
-use Rattle.std.proofs.Common.{arith, ℕ, ◌-◌, ◌≡◌, ◌≤◌, ◌<◌, ◌==◌, Bool, true, false, List, [], ◌∷◌, ◌++◌, length, Option, Some, None, All, refl, sym, suc, take, length-take, slice_index, cond, append-nil, ◌∙◌, ap, append_assoc, drop, ◌+◌, get_or, get_or-take, IfSome, slice_range, drop-drop}
-use Rattle.std.specs.Io.KnownBytes.{Consumes, Keeps}
-use Rattle.std.proofs.lemmas.List.Elements.{All-push, All-from_get_or}
-use Rattle.std.specs.Io.KnownBytes.{prepend_known}
-use Rattle.std.specs.List.{position_or_len}
-use Rattle.std.proofs.lemmas.List.Sums.{position_or_len_is, split_at_first}
+use Rattle.std.proofs.Common.{arith, ℕ, ◌-◌, ◌≡◌, ◌≤◌, ◌<◌, ◌==◌, Bool, true, false, List, [], ◌∷◌, ◌++◌, length, Option, Some, None, All, refl, sym, suc, take, length-take, slice_index, cond, append-nil, ◌∙◌, ap, append_assoc, drop, ◌+◌, get_or, get_or-take, slice_range, drop-drop, drop-cons, add-one, subst}
+use Rattle.std.specs.Io.KnownBytes.{Consumes, Keeps, prepend_known}
+use Rattle.std.proofs.lemmas.List.Elements.{All-append, All-from_get_or}
 use Rattle.memchr.specs.Find.{IsFirstByte, is_byte}
-use Rattle.oe_http.specs.Lines.{FeedAt}
-use Rattle.std.proofs.lemmas.List.{nil_from_length, drop-take}
-use Rattle.oe_http.specs.Pending.{FellBy}
-use Rattle.oe_http.specs.Lines.{Kept, HasRead, TakesPart, TakesRaw, GivesLine, IsSized}
+use Rattle.std.proofs.lemmas.List.{nil_from_length, drop-take, take-append-drop}
+use Rattle.std.proofs.Math.Seq.{take-length}
 use Rattle.std.specs.List.{slice_split}
 use Rattle.std.specs.Str.Lines.{lines, lines_of_parts, strip_carriage_return}
 use Rattle.std.proofs.lemmas.List.Splits.{slice_split_at, slice_split_none, length-slice_split}
+use Rattle.grid_exact.specs.declared.text.TheConstants.{LINE_LIMIT}
+use Rattle.oe_http.specs.Lines.{IsPlain, HasFeed, TakesPart, GivesLine}
+use Rattle.oe_http.specs.Pending.{Pending, FellBy}
+use Rattle.oe_http.specs.Pieces.{Kept, HasRead, TakesRaw, FirstFeed, FeedAt, IsSized}
+use Rattle.oe_http.specs.declared.lines.TheConstants.{LONGEST}
 use Rattle.oe_http.specs.declared.lines.Next.{Next}
 use Rattle.oe_http.specs.declared.lines.Next.TheVariants as next
 
@@ -28,15 +28,6 @@ consumes_on (Some xs) None z p q h k = absurd h
 consumes_on (Some xs) (Some ys) None p q h k = absurd k
 consumes_on (Some xs) (Some ys) (Some zs) p q h k = h ∙ ap (λ t. p ++ t) k ∙ sym (append_assoc p q zs)
 
-pub read_end : (x y z : Option (List ℕ)) (long : Bool) (line : List ℕ) → HasRead x y long line → Consumes y z (10 ∷ []) → TakesRaw x z true long line
-read_end x y z long line h k = record {
-  raw = h.raw;
-  takes = consumes_on x y z h.raw (10 ∷ []) h.takes k;
-  ends = λ e. absurd (cc);
-  plain = h.plain;
-  kept = h.kept;
-}
-
 pub consumes_keep : (x y z : Option (List ℕ)) (p : List ℕ) → Consumes x y p → Keeps y z → Consumes x z p
 consumes_keep None y z p h k = tt
 consumes_keep (Some xs) None z p h k = absurd h
@@ -46,14 +37,40 @@ consumes_keep (Some xs) (Some ys) (Some zs) p h k = rw k h
 pub read_part : (x y z : Option (List ℕ)) (long : Bool) (line : List ℕ) → HasRead x y long line → Keeps y z → TakesPart x z
 read_part x y z long line h k = (h.raw, consumes_keep x y z h.raw h.takes k, h.plain)
 
-pub read_on : (x y z : Option (List ℕ)) (long long' : Bool) (line line' : List ℕ) (b : ℕ) → HasRead x y long line → Consumes y z (b ∷ []) → (b == 10) ≡ false
-    → ((raw : List ℕ) → Kept line long raw → Kept line' long' (raw ++ b ∷ [])) → HasRead x z long' line'
-read_on x y z long long' line line' b h k other kept = record {
-  raw = h.raw ++ b ∷ [];
-  takes = consumes_on x y z h.raw (b ∷ []) h.takes k;
-  plain = All-push (λ c. (c == 10) ≡ false) h.raw b h.plain other;
+-- the first of some pending bytes are taken
+consumes_front : (bs : List ℕ) (left : Option (List ℕ)) (n : ℕ) → Consumes (prepend_known bs left) (prepend_known (drop n bs) left) (take n bs)
+consumes_front bs None n = tt
+consumes_front bs (Some ys) n = ap (λ t. t ++ ys) (sym (take-append-drop n bs)) ∙ append_assoc (take n bs) (drop n bs) ys
+
+pub read_on : (x y left : Option (List ℕ)) (long long' : Bool) (line line' bs bs' : List ℕ) (n : ℕ) → HasRead x y long line → Keeps y (prepend_known bs left)
+    → bs' ≡ drop n bs → IsPlain (take n bs) → ((raw : List ℕ) → Kept line long raw → Kept line' long' (raw ++ take n bs)) → HasRead x (prepend_known bs' left) long' line'
+read_on x y left long long' line line' bs bs' n h k e plain kept = rw e (record {
+  raw = h.raw ++ take n bs;
+  takes = consumes_on x (prepend_known bs left) (prepend_known (drop n bs) left) h.raw (take n bs) (consumes_keep x y (prepend_known bs left) h.raw h.takes k) (consumes_front bs left n);
+  plain = All-append (λ c. (c == 10) ≡ false) h.raw (take n bs) h.plain plain;
   kept = kept h.raw h.kept;
-}
+})
+
+-- a line feed is next
+consumes_feed : (bs : List ℕ) (left : Option (List ℕ)) → bs ≡ 10 ∷ drop 1 bs → Consumes (prepend_known bs left) (prepend_known (drop 1 bs) left) (10 ∷ [])
+consumes_feed bs None e = tt
+consumes_feed bs (Some ys) e = ap (λ t. t ++ ys) e
+
+-- the last piece of a line, and its line feed
+pub read_end : (x y left : Option (List ℕ)) (long long' : Bool) (line line' bs mid new : List ℕ) (at : ℕ) → HasRead x y long line → Keeps y (prepend_known bs left)
+    → FeedAt bs at → mid ≡ drop at bs → new ≡ drop 1 mid → ((raw : List ℕ) → Kept line long raw → Kept line' long' (raw ++ take at bs))
+    → TakesRaw x (prepend_known new left) true long' line'
+read_end x y left long long' line line' bs mid new at h k f e n kept =
+    let r = read_on x y left long long' line line' bs mid at h k e f.plain kept in
+    let one : drop 1 mid ≡ drop (at + 1) bs = ap (drop 1) e ∙ drop-drop 1 at bs in
+    let feed : mid ≡ 10 ∷ drop 1 mid = e ∙ f.feed ∙ ap (λ t. 10 ∷ t) (sym one) in
+    rw n (record {
+      raw = r.raw;
+      takes = consumes_on x (prepend_known mid left) (prepend_known (drop 1 mid) left) r.raw (10 ∷ []) r.takes (consumes_feed mid left feed);
+      ends = λ e. absurd (cc);
+      plain = r.plain;
+      kept = r.kept;
+    })
 
 -- a line that ends with a line feed
 lines_fed : (raw ys : List ℕ) → All (λ b. (b == 10) ≡ false) raw → lines ((raw ++ 10 ∷ []) ++ ys) ≡ strip_carriage_return raw ∷ lines ys
@@ -78,9 +95,9 @@ lines_last (b ∷ raw) xs ys e f h plain =
     rw (all_taken (b ∷ raw) xs ys e f, f, slice_split_none (λ c. c == 10) (b ∷ raw) plain, suc_test (length raw)) refl
 
 -- taking a carriage return off a line that is too long leaves it too long
-strip_long : (raw : List ℕ) → 8193 < length raw → 8192 < length (strip_carriage_return raw)
+strip_long : (raw : List ℕ) → LONGEST < length raw → LINE_LIMIT < length (strip_carriage_return raw)
 strip_long raw h =
-    elim (slice_index raw (length raw - 1) == 13) as (λ b. 8192 < length (cond b (take (length raw - 1) raw) raw)) [
+    elim (slice_index raw (length raw - 1) == 13) as (λ b. LINE_LIMIT < length (cond b (take (length raw - 1) raw) raw)) [
       | true ↦ omega (arith, length-take {A = ℕ})
       | false ↦ omega arith
     ]
@@ -118,36 +135,32 @@ not_true : (b : Bool) → (b ≡ true → ⊥) → b ≡ false
 not_true true h = absurd (h refl)
 not_true false h = refl
 
-pub feed_within : (bs : List ℕ) (r : Option ℕ) → IsFirstByte (is_byte 10) bs r → IfSome r (λ at. at < length bs)
-feed_within bs None h = tt
-feed_within bs (Some k) h = h.0.high
-
-pub feed_at : (bs : List ℕ) (r : Option ℕ) → IsFirstByte (is_byte 10) bs r → IfSome r (λ at. FeedAt bs at)
-feed_at bs None h = tt
-feed_at bs (Some k) h =
-    let e = position_or_len_is (λ b. b == 10) bs k 0 (omega (arith, h.0.high)) (λ j lt. not_true _ (h.0.before j (omega arith) lt)) (λ lt. h.1) in
-    let q : position_or_len (λ b. b == 10) bs < length bs = omega (arith, e, h.0.high) in
-    let byte : get_or bs k 0 ≡ 10 = grind (arith, h.1) in (
-      split_at_first (λ b. b == 10) bs 0 q ∙ rw (e, byte) refl,
-      All-from_get_or (λ b. (b == 10) ≡ false) (take k bs) 0 (λ j lt. let small : j < k = omega (arith, lt, length-take k bs) in
-          rw (get_or-take k bs j 0 small) (not_true _ (h.0.before j (omega arith) small))),
-    )
-
-pub ready_raw : (bs : List ℕ) (at : ℕ) (long : Bool) (line : List ℕ) (left : Option (List ℕ)) → FeedAt bs at → Kept line long (take at bs)
-    → TakesRaw (prepend_known bs left) (prepend_known (drop (at + 1) bs) left) true long line
-ready_raw bs at long line None f k = record { raw = take at bs; takes = tt; ends = λ e. absurd (cc); plain = f.1; kept = k }
-ready_raw bs at long line (Some ys) f k = record {
-  raw = take at bs;
-  takes = ap (λ t. t ++ ys) f.0 ∙ append_assoc (take at bs) (10 ∷ drop (at + 1) bs) ys ∙ sym (append_assoc (take at bs) (10 ∷ []) (drop (at + 1) bs ++ ys));
-  ends = λ e. absurd (cc);
-  plain = f.1;
-  kept = k;
+pub first_feed : (bs : List ℕ) (r : Option ℕ) → IsFirstByte (is_byte 10) bs r → FirstFeed bs r
+first_feed bs None h = All-from_get_or (λ b. (b == 10) ≡ false) bs 0 (λ j lt. not_true _ (h j (omega arith) lt))
+first_feed bs (Some k) h = record {
+  within = h.0.high;
+  feed = (let byte : get_or bs k 0 ≡ 10 = grind (arith, h.1) in rw (add-one, drop-cons bs k 0 h.0.high, byte) refl);
+  plain = All-from_get_or (λ b. (b == 10) ≡ false) (take k bs) 0 (λ j lt. let small : j < k = omega (arith, lt, length-take k bs) in
+      rw (get_or-take k bs j 0 small) (not_true _ (h.0.before j (omega arith) small)));
 }
 
-pub ready_short : (bs p old line new : List ℕ) (at : ℕ) (left : Option (List ℕ)) → FeedAt bs at → old ≡ [] → p ≡ bs → line ≡ old ++ take at p → new ≡ drop (at + 1) bs → at ≤ 8193
-    → TakesRaw (prepend_known bs left) (prepend_known new left) true false line
-ready_short bs p old line new at left f e q l n small =
-    rw n (ready_raw bs at false line left f (rw (l, e, q) refl, omega (arith, length-take at bs)))
+-- among bytes that have a line feed are some, and not all are plain
+pub has_some : (bs : List ℕ) → HasFeed bs → 0 < length bs
+has_some bs h = omega (arith, h.1)
+
+plain_none : (bs : List ℕ) → IsPlain bs → HasFeed bs → ⊥
+plain_none bs p h = let e = p h.0 0 h.1 in let f : (get_or bs h.0 0 == 10) ≡ true = rw h.2 refl in cc
+
+-- a line whose end was pending at first has no later piece: such a piece would be all plain
+pub late : {A P : Type 0} (old now new : Pending) (x y z : A) (piece : List ℕ) → (HasFeed old.bytes → (now ≡ old) × (y ≡ x))
+    → (0 < length now.bytes → (new ≡ now) × (z ≡ y)) → piece ≡ new.bytes → IsPlain piece → HasFeed old.bytes → P
+late old now new x y z piece same kept e plain feed =
+    let a : now.bytes ≡ old.bytes = ap (λ p. p.bytes) (same feed).0 in
+    let b = kept (rw a (has_some old.bytes feed)) in
+    absurd (plain_none old.bytes (subst IsPlain (e ∙ ap (λ p. p.bytes) b.0 ∙ a) plain) feed)
+
+pub take_plain : (bs piece : List ℕ) → piece ≡ bs → IsPlain bs → IsPlain (take (length piece) bs)
+take_plain bs piece e plain = rw (e, take-length bs) plain
 
 pub skipped : (xs bs : List ℕ) (start end count : ℕ) → slice_range xs start end ≡ bs → start ≤ end → count ≤ length bs → slice_range xs (start + count) end ≡ drop count bs
 skipped xs bs start end count e le small =

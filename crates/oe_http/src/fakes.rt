@@ -1,4 +1,5 @@
-// Streams over memory that fail at chosen calls.
+//! Streams over memory that fail at chosen calls.
+
 ghost use Rattle.std.specs.Prelude.{◌≡◌, ◌≤◌, Some, IfOk, [], drop, take, min, length};
 
 use crate::{Failed, Sink, Source};
@@ -38,7 +39,8 @@ impl FakeSource {
     }
 }
 
-// Copies the front of some bytes, as much of it as there is room for, and at most so many bytes. Answers how many.
+/// Copies the front of some bytes, as much of it as there is room for, and at most so many bytes. Answers how many.
+/// It stands apart from `read`, where the terms of its slices are too long for the proof.
 fn copy_front(buf: &mut [u8], bytes: &[u8], most: usize) -> usize
     ensures count { result ≡ min (min (length bytes.now) most) (length buf.old) }
     ensures front { take result buf.new ≡ take result bytes.now }

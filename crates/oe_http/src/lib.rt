@@ -8,7 +8,7 @@ mod stream;
 mod whole;
 
 pub use fakes::{FakeSink, FakeSource};
-pub use lines::{LineReader, Next, ReadError};
+pub use lines::{BLOCK_SIZE, INPUT_LIMIT, LineReader, Next, ReadError};
 pub use standard::{ReadSource, WriteSink};
 pub use stream::{Failed, Sink, Source};
 pub use whole::write_whole;

@@ -1,29 +1,33 @@
-// Lines end with a line feed, and the last one may end with the input.
-ghost use Rattle.std.specs.Prelude.{◌≡◌, ◌≢◌, Option, ◌≤◌, ◌<◌, ◌+◌, ◌-◌, ◌^◌, List, ℕ, [], ◌∷◌, ◌++◌, true, false, IfOk, IfErr, OnOk, OnErr, IsErrOf, IsSome, IfSome, length, slice_range, take, drop};
-ghost use Rattle.oe_http.specs.Causes.{Rose};
+//! The lines of a source. A line ends with a line feed, and the last one may end with the input.
+
+ghost use Rattle.std.specs.Prelude.{◌≡◌, ◌≢◌, Option, ◌≤◌, ◌<◌, ◌+◌, List, ℕ, [], ◌++◌, true, false, IfOk, IfErr, OnOk, OnErr, length, slice_range, take, drop};
 ghost use Rattle.std.specs.Str.Lines.{strip_carriage_return};
-ghost use Rattle.std.specs.Io.KnownBytes.{Keeps, IsAtEnd};
-ghost use Rattle.oe_http.specs.Lines.{TakesRaw, Kept, GivesLine, IsSized, FeedAt, HasFeed, TakesPart, WholeLinesEnd};
-ghost use Rattle.oe_http.specs.Pending.{Pending, unread, most_left, GivesByte, FellBy};
+ghost use Rattle.std.specs.Io.KnownBytes.{Keeps};
+ghost use Rattle.oe_http.specs.Lines.{GivesLine, TakesPart, HasFeed};
+ghost use Rattle.oe_http.specs.Pending.{Pending, unread, most_left, Reads};
+ghost use Rattle.oe_http.specs.Pieces.{TakesRaw, Turns, Kept, IsSized, FirstFeed, WholeLinesEnd, IsFilled};
 
 use crate::{Failed, Source};
+use grid_exact::{LINE_LIMIT, NoMemory};
 use memchr::{memchr, memrchr};
-use std::alloc::{AllocError, AllocFailed};
+use std::alloc::AllocError;
 use std::marker::Model;
 
-const BLOCK: usize = 65536;
+/// A reader takes at most so many bytes in one read: 64 KiB.
+pub const BLOCK_SIZE: usize = 65_536;
 
-const MOST_TAKEN: u64 = 1 << 40;
+/// No read is tried once so many bytes were taken from a source.
+pub const INPUT_LIMIT: u64 = 1 << 40;
 
-/// The longest line that is kept: 8,192 bytes, and a carriage return.
-const LONGEST: usize = 8193;
+/// So many bytes of a line are kept: one more than a line may have, which is where its carriage return stands.
+const LONGEST: usize = LINE_LIMIT + 1;
 
 /// Why no line can be read.
 #[derive(Clone, Copy, Debug, PartialEq, Eq)]
 pub enum ReadError {
     /// The source has failed.
     Failed,
-    /// 2^40 bytes were read, and more are wanted.
+    /// [`INPUT_LIMIT`] bytes were read, and more are wanted.
     InputLong,
     /// Memory was refused.
     NoMemory,
@@ -49,12 +53,12 @@ impl From<AllocError> for ReadError {
     }
 }
 
-impl<T: Drop> From<AllocFailed<T>> for ReadError {
+impl From<NoMemory> for ReadError {
     ghost use Rattle.oe_http.specs.declared.lines.ReadError.TheVariants as errors;
 
     ghost from_gives = { λ _ e. e ≡ errors.NoMemory };
 
-    fn from(_: AllocFailed<T>) -> Self {
+    fn from(_: NoMemory) -> Self {
         ReadError::NoMemory
     }
 }
@@ -62,7 +66,7 @@ impl<T: Drop> From<AllocFailed<T>> for ReadError {
 /// What comes next.
 #[derive(Clone, Copy, Debug, PartialEq, Eq)]
 pub enum Next {
-    /// A line of 8,192 bytes at most.
+    /// A line of [`LINE_LIMIT`] bytes at most.
     Whole,
     /// A line of more.
     TooLong,
@@ -70,27 +74,27 @@ pub enum Next {
     End,
 }
 
-// Keeps one more byte of a line, where there is room. Answers whether the line is long.
-fn keep_byte(line: &mut Vec<u8>, is_long: bool, byte: u8) -> Result<bool, ReadError>
-    ensures kept { IfOk result (λ long. (raw : List ℕ) → Kept line.old.items is_long raw → Kept line.new.items long (raw ++ byte ∷ [])) }
-    ensures length { length line.new.items ≤ length line.old.items + 1 }
-    ensures memory { IfErr result (λ e. e ≡ ReadError.NoMemory) }
-{
-    if is_long || line.len() >= LONGEST {
-        return Ok(true);
-    }
-    line.push(byte)?;
-    Ok(false)
-}
-
-// How a line's bytes ended, and whether they were too many.
+/// How a line's bytes ended, and whether they were too many to be kept.
 #[derive(Clone, Copy)]
 struct RawLine {
     has_feed: bool,
     is_long: bool,
 }
 
-// Takes the carriage return off the end of a line, if there is one.
+/// Keeps more bytes of a line, where there is room. Answers whether the line is long.
+fn keep(line: &mut Vec<u8>, is_long: bool, piece: &[u8]) -> Result<bool, ReadError>
+    ensures kept { IfOk result (λ long. (raw : List ℕ) → Kept line.old.items is_long raw → Kept line.new.items long (raw ++ piece.now)) }
+    ensures length { OnOk result (length line.new.items ≤ length line.old.items + length piece.now) }
+    ensures memory { IfErr result (λ e. e ≡ ReadError.NoMemory) }
+{
+    if is_long || piece.len() > LONGEST.saturating_sub(line.len()) {
+        return Ok(true);
+    }
+    line.extend_from_slice(piece)?;
+    Ok(false)
+}
+
+/// Takes the carriage return off the end of a line, if there is one.
 fn strip_return(line: &mut Vec<u8>)
     ensures { line.new.items ≡ strip_carriage_return line.old.items }
 {
@@ -99,22 +103,22 @@ fn strip_return(line: &mut Vec<u8>)
     }
 }
 
-// Whether a line is within the limit.
+/// Whether a line is within the limit.
 fn sized(line: &[u8]) -> Next
     ensures { IsSized result line.now }
 {
-    if line.len() < LONGEST {
+    if line.len() <= LINE_LIMIT {
         Next::Whole
     } else {
         Next::TooLong
     }
 }
 
-// What a line's bytes are.
+/// What a line's bytes are.
 #[tactic(auto, using(crate::proofs::LineFacts::gives_last, crate::proofs::LineFacts::gives_end))]
 fn finish(raw: RawLine, line: &mut Vec<u8>) -> Next
     ensures line { (x y : Option (List ℕ)) → TakesRaw x y raw.has_feed raw.is_long line.old.items → GivesLine x y result line.new.items }
-    ensures short { result ≡ Next.Whole → length line.new.items ≤ 8192 }
+    ensures short { result ≡ Next.Whole → length line.new.items ≤ LINE_LIMIT }
     ensures some { result ≢ Next.End → raw.is_long ≡ false → raw.has_feed ≡ false → 0 < length line.old.items }
 {
     if raw.is_long {
@@ -130,17 +134,16 @@ fn finish(raw: RawLine, line: &mut Vec<u8>) -> Next
     sized(line)
 }
 
-#[tactic(auto, using(crate::proofs::LineFacts::feed_at, crate::proofs::LineFacts::feed_within))]
-// Where the first line feed of some bytes is.
+/// Where the first line feed of some bytes is.
+#[tactic(auto, using(crate::proofs::LineFacts::first_feed))]
 fn first_feed(bytes: &[u8]) -> Option<usize>
-    ensures feed { IfSome result (λ at. FeedAt bytes.now at) }
-    ensures within { IfSome result (λ at. at < length bytes.now) }
+    ensures feed { FirstFeed bytes.now result }
 {
     memchr(b'\n', bytes)
 }
 
+/// Where the whole lines of some bytes end.
 #[tactic(auto, using(crate::proofs::FeedFacts::lines_end_at, crate::proofs::FeedFacts::lines_end_none))]
-// Where the whole lines of some bytes end.
 fn whole_lines_end(bytes: &[u8]) -> usize
     ensures { WholeLinesEnd bytes.now result }
 {
@@ -150,24 +153,29 @@ fn whole_lines_end(bytes: &[u8]) -> usize
     }
 }
 
-/// Lines of a source, which is read in blocks of 64 KiB. A contract sees the bytes that were read and not handed out,
-/// and how many were read.
+/// Lines of a source, which is read in blocks of [`BLOCK_SIZE`] bytes. A contract sees the bytes that were read and
+/// not handed out, and how many were read.
 #[derive(Drop)]
 pub struct LineReader {
-    block: [u8; BLOCK],
+    block: [u8; BLOCK_SIZE],
     start: usize,
     end: usize,
-    // Where the whole lines of the block end.
+    /// Where the whole lines of the block end: so `has_line` searches nothing.
     feeds: usize,
     taken: u64,
 }
 
 impl Model for LineReader {
+    ghost use Rattle.std.specs.Prelude.{◌≤◌, ◌+◌, slice_range, take};
+    ghost use Rattle.oe_http.specs.Pending.{Pending};
+    ghost use Rattle.oe_http.specs.Pieces.{WholeLinesEnd};
+    ghost use Rattle.oe_http.specs.declared.lines.TheConstants.{BLOCK_SIZE, INPUT_LIMIT};
+
     ghost Value = { Pending };
 
     ghost view = { λ r. record { bytes = slice_range r.block r.start r.end; taken = r.taken } };
 
-    ghost invariant = { λ r. (r.start ≤ r.end) × (r.end ≤ 65536) × (r.taken ≤ 2 ^ 40 + 65536) × WholeLinesEnd (take r.end r.block) r.feeds };
+    ghost invariant = { λ r. (r.start ≤ r.end) × (r.end ≤ BLOCK_SIZE) × (r.taken ≤ INPUT_LIMIT + BLOCK_SIZE) × WholeLinesEnd (take r.end r.block) r.feeds };
 }
 
 impl LineReader {
@@ -177,7 +185,7 @@ impl LineReader {
         ensures taken { result.taken ≡ 0 }
     {
         LineReader {
-            block: [0; BLOCK],
+            block: [0; BLOCK_SIZE],
             start: 0,
             end: 0,
             feeds: 0,
@@ -185,7 +193,7 @@ impl LineReader {
         }
     }
 
-    /// Whether the end of a line is pending.
+    /// Whether the end of a line is pending: whether `next_line` will answer without a read.
     pub fn has_line(&self) -> bool
         ensures yes { result ≡ true → HasFeed self.now.bytes }
         ensures no { result ≡ false → HasFeed self.now.bytes → ⊥ }
@@ -193,55 +201,34 @@ impl LineReader {
         self.start < self.feeds
     }
 
-    // The next byte, or none at the end. At a fault no byte is lost.
-    fn next_byte<S: Source>(&mut self, source: &mut S) -> Result<Option<u8>, ReadError>
-        ensures byte { IfOk result (λ byte. GivesByte (unread self.old (S.left source.old)) (unread self.new (S.left source.new)) byte) }
-        ensures kept { OnErr result (Keeps (unread self.old (S.left source.old)) (S.left source.new)) }
-        ensures turns { IfOk result (λ byte. IsSome byte → most_left self.new < most_left self.old) }
-        ensures turns_end { OnOk result (most_left self.new ≤ most_left self.old) }
-        ensures more { self.old.taken ≤ self.new.taken }
-        ensures taken { FellBy (self.new.taken - self.old.taken) (S.left source.old) (S.left source.new) }
-        ensures later { S.faults source.old ≤ S.faults source.new }
-        ensures failed { IsErrOf result ReadError.Failed → Rose (S.faults source.old) (S.faults source.new) }
-        ensures long { IsErrOf result ReadError.InputLong → 2 ^ 40 ≤ self.new.taken }
-        ensures memory { IsErrOf result ReadError.NoMemory → ⊥ }
-    {
-        if self.fill(source)? {
-            Ok(Some(self.take_byte()))
-        } else {
-            Ok(None)
-        }
-    }
-
     /// Reads the next line into `line`, which it empties first, without the line feed that ends it and a carriage
-    /// return before that. A line of more than 8,192 bytes is passed over.
+    /// return before that. A line of more than [`LINE_LIMIT`] bytes is passed over. The source is read only where no end
+    /// of a line is pending.
     ///
     /// # Errors
     ///
-    /// `Failed` where the source fails, `InputLong` where 2^40 bytes were read and more are wanted: a part of a line
-    /// is then lost, and no whole one. `NoMemory` where memory was refused.
+    /// `Failed` where the source fails, `InputLong` where [`INPUT_LIMIT`] bytes were read and more are wanted: a part
+    /// of a line is then lost, and no whole one. `NoMemory` where memory was refused.
     pub fn next_line<S: Source>(
         &mut self,
         source: &mut S,
         line: &mut Vec<u8>,
     ) -> Result<Next, ReadError>
         ensures line { IfOk result (λ n. GivesLine (unread self.old (S.left source.old)) (unread self.new (S.left source.new)) n line.new.items) }
-        ensures short { IfOk result (λ n. n ≡ Next.Whole → length line.new.items ≤ 8192) }
+        ensures short { IfOk result (λ n. n ≡ Next.Whole → length line.new.items ≤ LINE_LIMIT) }
         ensures part { IfErr result (λ e. e ≢ ReadError.NoMemory → TakesPart (unread self.old (S.left source.old)) (S.left source.new)) }
+        ensures still { HasFeed self.old.bytes → source.new ≡ source.old }
         ensures turns { IfOk result (λ n. n ≢ Next.End → most_left self.new < most_left self.old) }
-        ensures more { self.old.taken ≤ self.new.taken }
-        ensures taken { FellBy (self.new.taken - self.old.taken) (S.left source.old) (S.left source.new) }
-        ensures later { S.faults source.old ≤ S.faults source.new }
-        ensures failed { IsErrOf result ReadError.Failed → Rose (S.faults source.old) (S.faults source.new) }
-        ensures long { IsErrOf result ReadError.InputLong → 2 ^ 40 ≤ self.new.taken }
+        ensures reads { Reads self.old self.new (S.left source.old) (S.left source.new) (S.faults source.old) (S.faults source.new) result }
     {
         line.clear();
         let raw = self.take_raw(source, line)?;
         Ok(finish(raw, line))
     }
 
-    #[tactic(auto, using(crate::proofs::LineFacts::fell_none, crate::proofs::LineFacts::fell_on, crate::proofs::LineFacts::read_on, crate::proofs::LineFacts::read_end, crate::proofs::LineFacts::read_part))]
-    // The bytes of a line and what ends them. A line that is not kept whole is long.
+    /// The bytes of a line and what ends them. A block is read as soon as no byte is pending, so that a line is looked
+    /// for among pending bytes alone, also where its source hands out one line a read.
+    #[tactic(auto, using(crate::proofs::LineFacts::fell_none, crate::proofs::LineFacts::fell_on, crate::proofs::LineFacts::read_part, crate::proofs::LineFacts::has_some))]
     fn take_raw<S: Source>(
         &mut self,
         source: &mut S,
@@ -250,31 +237,23 @@ impl LineReader {
         requires { line.old.items ≡ [] }
         ensures raw { IfOk result (λ raw. TakesRaw (unread self.old (S.left source.old)) (unread self.new (S.left source.new)) raw.has_feed raw.is_long line.new.items) }
         ensures part { IfErr result (λ e. e ≢ ReadError.NoMemory → TakesPart (unread self.old (S.left source.old)) (S.left source.new)) }
-        ensures turns { IfOk result (λ raw. raw.has_feed ≡ true → most_left self.new < most_left self.old) }
-        ensures turns_long { IfOk result (λ raw. raw.is_long ≡ true → most_left self.new < most_left self.old) }
-        ensures turns_last { OnOk result (most_left self.new + length line.new.items ≤ most_left self.old) }
-        ensures more { self.old.taken ≤ self.new.taken }
-        ensures taken { FellBy (self.new.taken - self.old.taken) (S.left source.old) (S.left source.new) }
-        ensures later { S.faults source.old ≤ S.faults source.new }
-        ensures failed { IsErrOf result ReadError.Failed → Rose (S.faults source.old) (S.faults source.new) }
-        ensures long { IsErrOf result ReadError.InputLong → 2 ^ 40 ≤ self.new.taken }
+        ensures still { HasFeed self.old.bytes → source.new ≡ source.old }
+        ensures turns { IfOk result (λ raw. Turns (most_left self.old) (most_left self.new) raw.has_feed raw.is_long line.new.items) }
+        ensures reads { Reads self.old self.new (S.left source.old) (S.left source.new) (S.faults source.old) (S.faults source.new) result }
     {
-        if let Some(at) = self.ready() {
-            let is_long = self.take_ready(at, line)?;
-            return Ok(RawLine {
-                has_feed: true,
-                is_long,
-            });
-        }
         let mut is_long = false;
-        while let Some(byte) = self.next_byte(source)? {
-            if byte == b'\n' {
-                return Ok(RawLine {
-                    has_feed: true,
-                    is_long,
-                });
+        while self.fill(source)? {
+            match first_feed(self.pending()) {
+                Some(at) => {
+                    let is_long = self.take_piece(at, line, is_long)?;
+                    self.skip(1);
+                    return Ok(RawLine {
+                        has_feed: true,
+                        is_long,
+                    });
+                }
+                None => is_long = self.take_piece(self.pending().len(), line, is_long)?,
             }
-            is_long = keep_byte(line, is_long, byte)?;
         }
         Ok(RawLine {
             has_feed: false,
@@ -282,24 +261,14 @@ impl LineReader {
         })
     }
 
-    // The pending bytes.
+    /// The pending bytes.
     fn pending(&self) -> &[u8]
         ensures bytes { result.now ≡ self.now.bytes }
-        ensures small { length result.now ≤ 65536 }
     {
         &self.block[self.start..self.end]
     }
 
-    // Where the first line feed of the pending bytes is.
-    fn ready(&self) -> Option<usize>
-        ensures feed { IfSome result (λ at. FeedAt self.now.bytes at) }
-        ensures within { IfSome result (λ at. at < length self.now.bytes) }
-        ensures small { IfSome result (λ at. at < 65536) }
-    {
-        first_feed(self.pending())
-    }
-
-    // Passes over some pending bytes.
+    /// Passes over some pending bytes.
     fn skip(&mut self, count: usize)
         requires { count ≤ length self.old.bytes }
         ensures bytes { self.new.bytes ≡ drop count self.old.bytes }
@@ -308,46 +277,40 @@ impl LineReader {
         self.start += count;
     }
 
-    #[tactic(auto, using(crate::proofs::LineFacts::ready_raw, crate::proofs::LineFacts::ready_short))]
-    // Takes a line whose end is pending, and its line feed. Answers whether it is long.
-    fn take_ready(&mut self, at: usize, line: &mut Vec<u8>) -> Result<bool, ReadError>
-        requires empty { line.old.items ≡ [] }
-        requires feed { FeedAt self.old.bytes at }
-        requires within { at < length self.old.bytes }
-        requires small { at < 65536 }
-        ensures raw { IfOk result (λ long. (left : Option (List ℕ)) → TakesRaw (unread self.old left) (unread self.new left) true long line.new.items) }
-        ensures turns { OnOk result (most_left self.new + length line.new.items < most_left self.old) }
+    /// Takes the first pending bytes for a line. Answers whether the line is long.
+    fn take_piece(
+        &mut self,
+        count: usize,
+        line: &mut Vec<u8>,
+        is_long: bool,
+    ) -> Result<bool, ReadError>
+        requires { count ≤ length self.old.bytes }
+        ensures kept { IfOk result (λ long. (raw : List ℕ) → Kept line.old.items is_long raw → Kept line.new.items long (raw ++ take count self.old.bytes)) }
+        ensures length { OnOk result (length line.new.items ≤ length line.old.items + count) }
+        ensures bytes { OnOk result (self.new.bytes ≡ drop count self.old.bytes) }
+        ensures falls { OnOk result (most_left self.new + count ≡ most_left self.old) }
         ensures taken { self.new.taken ≡ self.old.taken }
         ensures memory { IfErr result (λ e. e ≡ ReadError.NoMemory) }
     {
-        if at > LONGEST {
-            self.skip(at + 1);
-            return Ok(true);
-        }
-        line.extend_from_slice(&self.pending()[..at])?;
-        self.skip(at + 1);
-        Ok(false)
+        let is_long = keep(line, is_long, &self.pending()[..count])?;
+        self.skip(count);
+        Ok(is_long)
     }
 
+    /// Reads a block where no byte is pending. Answers whether one is then. No byte is lost, even at a fault.
     #[tactic(auto, using(crate::proofs::FeedFacts::lines_end_empty))]
-    // Reads a block where no byte is pending. Answers whether one is then.
     fn fill<S: Source>(&mut self, source: &mut S) -> Result<bool, ReadError>
-        ensures kept { IfOk result (λ _. Keeps (unread self.old (S.left source.old)) (unread self.new (S.left source.new))) }
-        ensures kept_at_fault { OnErr result (Keeps (unread self.old (S.left source.old)) (S.left source.new)) }
-        ensures found { IfOk result (λ found. found ≡ true → 0 < length self.new.bytes) }
-        ensures end { IfOk result (λ found. found ≡ false → IsAtEnd (unread self.new (S.left source.new))) }
+        ensures kept { Keeps (unread self.old (S.left source.old)) (unread self.new (S.left source.new)) }
+        ensures none { OnErr result (self.new.bytes ≡ []) }
+        ensures still { 0 < length self.old.bytes → (self.new ≡ self.old) × (source.new ≡ source.old) }
+        ensures found { IfOk result (λ found. IsFilled found self.new.bytes (unread self.new (S.left source.new))) }
         ensures turns { OnOk result (most_left self.new ≡ most_left self.old) }
-        ensures more { self.old.taken ≤ self.new.taken }
-        ensures taken { FellBy (self.new.taken - self.old.taken) (S.left source.old) (S.left source.new) }
-        ensures later { S.faults source.old ≤ S.faults source.new }
-        ensures failed { IsErrOf result ReadError.Failed → Rose (S.faults source.old) (S.faults source.new) }
-        ensures long { IsErrOf result ReadError.InputLong → 2 ^ 40 ≤ self.new.taken }
-        ensures memory { IsErrOf result ReadError.NoMemory → ⊥ }
+        ensures reads { Reads self.old self.new (S.left source.old) (S.left source.new) (S.faults source.old) (S.faults source.new) result }
     {
         if self.start < self.end {
             return Ok(true);
         }
-        if self.taken >= MOST_TAKEN {
+        if self.taken >= INPUT_LIMIT {
             return Err(ReadError::InputLong);
         }
         self.start = 0;
@@ -358,16 +321,5 @@ impl LineReader {
         self.feeds = whole_lines_end(&self.block[..count]);
         self.taken += count as u64;
         Ok(count > 0)
-    }
-
-    // The first pending byte.
-    fn take_byte(&mut self) -> u8
-        requires { 0 < length self.old.bytes }
-        ensures bytes { self.old.bytes ≡ result ∷ self.new.bytes }
-        ensures taken { self.new.taken ≡ self.old.taken }
-    {
-        let byte = self.block[self.start];
-        self.start += 1;
-        byte
     }
 }

@@ -1,4 +1,5 @@
-// The streams of std. Those of the system tell nothing of their bytes.
+//! The streams of std. Those of the system tell nothing of their bytes.
+
 ghost use Rattle.std.specs.Prelude.{◌≡◌};
 
 use crate::{Failed, Sink, Source};

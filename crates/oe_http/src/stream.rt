@@ -1,4 +1,5 @@
-// What a source has left and a sink holds, where they tell, and how often each has failed.
+//! What a source has left and a sink holds, where they tell, and how often each has failed.
+
 ghost use Rattle.std.specs.Prelude.{◌≤◌, ◌<◌, ℕ, List, Option, IfOk, length};
 ghost use Rattle.std.specs.Io.{ReadsAtMost, WritesAtMost};
 ghost use Rattle.std.specs.Io.KnownBytes.{ReadConsumes, WriteAppends};

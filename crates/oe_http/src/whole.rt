@@ -1,16 +1,17 @@
-// A text, written whole.
+//! A text, written whole.
+
 ghost use Rattle.std.specs.Prelude.{List, ℕ, [], OnOk, OnErr};
 ghost use Rattle.oe_http.specs.Causes.{HasCause};
 ghost use Rattle.oe_http.specs.Written.{Sent};
 
 use crate::{Failed, Sink};
 
-#[tactic(auto, using(crate::proofs::SentFacts::sent_start, crate::proofs::SentFacts::sent_on, crate::proofs::SentFacts::sent_keep))]
 /// Writes all of a text.
 ///
 /// # Errors
 ///
 /// `Failed` where the sink fails. A front of the text was then written.
+#[tactic(auto, using(crate::proofs::SentFacts::sent_start, crate::proofs::SentFacts::sent_on, crate::proofs::SentFacts::sent_keep))]
 pub fn write_whole<O: Sink>(output: &mut O, text: &[u8]) -> Result<(), Failed>
     ensures ok { OnOk result (Sent (O.held output.old) (O.held output.new) text.now []) }
     ensures err { OnErr result ((rest : List ℕ) × Sent (O.held output.old) (O.held output.new) text.now rest) }

@@ -1,11 +1,17 @@
--- A run that reads nothing, and one that reads all.
-use Rattle.std.proofs.Common.{ℕ, List, [], ◌++◌, Option, Some, None, refl, sym, append-nil, ◌≡◌, ◌∷◌, inl}
+-- A run that reads nothing, and what the end of a session says of the status.
+use Rattle.std.proofs.Common.{ℕ, List, [], Option, Some, None, refl, sym, ap, append-nil, ◌≡◌, ◌≢◌, ◌∷◌, ◌∙◌, ◌⊎◌, inl, inr}
 use Rattle.std.specs.Io.KnownBytes.{Appends}
 use Rattle.std.specs.Str.Lines.{lines}
 use Rattle.oe_session.specs.Machine.{Starts}
-use Rattle.oe_session.specs.Session.{Begun, Answered, AnsweredRead}
+use Rattle.oe_session.specs.Session.{Begun, Answered, WritesWhole, HasCauses}
+use Rattle.oe_session.specs.declared.session.Ended.{Ended}
+use Rattle.oe_session.specs.declared.session.Ended.TheVariants as endings
 use Rattle.oe_main.specs.declared.state.DeskState.{DeskState}
-use Rattle.oe_main.specs.Desk.{Step, opening, AllAnswered, ReadAnswered}
+use Rattle.oe_main.specs.declared.status.Status.{Status}
+use Rattle.oe_main.specs.declared.status.Status.TheVariants as statuses
+use Rattle.oe_main.specs.Statuses.{status_of}
+use Rattle.oe_main.specs.Desk.{Step, opening}
+use Rattle.oe_main.specs.Runs.{AllAnswered, RunWrites, RunCauses}
 
 appends_nothing : (h : Option (List ℕ)) → Appends h h []
 appends_nothing None = tt
@@ -19,8 +25,49 @@ pub begun_nothing : (x h : Option (List ℕ)) → Begun Step opening x h h
 begun_nothing None h = tt
 begun_nothing (Some xs) h = ([], appends_nothing h, starts_nothing opening (lines xs))
 
-pub all_answered : (after : DeskState) (x h k : Option (List ℕ)) → Answered Step opening after x h k → AllAnswered x h k
-all_answered after x h k a = (after, a)
+-- the end of the session that a status tells of
+abbrev pub ending : Status → Ended
+ending statuses.Done = endings.Closed
+ending statuses.Usage = endings.Closed
+ending statuses.ReadFault = endings.ReadFault
+ending statuses.WriteFault = endings.WriteFault
+ending statuses.NoMemory = endings.NoMemory
+ending statuses.InputLong = endings.Long
 
-pub read_answered : (after : DeskState) (x y h k : Option (List ℕ)) → AnsweredRead Step opening after x y h k → ReadAnswered x y h k
-read_answered after x y h k a = (after, a)
+ending_of_status : (e : Ended) → ending (status_of e) ≡ e
+ending_of_status endings.Closed = refl
+ending_of_status endings.ReadFault = refl
+ending_of_status endings.WriteFault = refl
+ending_of_status endings.Long = refl
+ending_of_status endings.NoMemory = refl
+
+pub told_by : (e : Ended) (s : Status) → status_of e ≡ s → e ≡ ending s
+told_by e s h = sym (ending_of_status e) ∙ ap ending h
+
+pub no_usage : (e : Ended) → status_of e ≢ statuses.Usage
+no_usage endings.Closed h = cc
+no_usage endings.ReadFault h = cc
+no_usage endings.WriteFault h = cc
+no_usage endings.Long h = cc
+no_usage endings.NoMemory h = cc
+
+fault_or_long : (e : Ended) → (status_of e ≡ statuses.ReadFault) ⊎ (status_of e ≡ statuses.InputLong) → (e ≡ endings.ReadFault) ⊎ (e ≡ endings.Long)
+fault_or_long e (inl h) = inl (told_by e statuses.ReadFault h)
+fault_or_long e (inr h) = inr (told_by e statuses.InputLong h)
+
+pub run_answered : (e : Ended) (x h k : Option (List ℕ)) → (e ≡ endings.Closed → (after : DeskState) × Answered Step opening after x h k) → status_of e ≡ statuses.Done → AllAnswered x h k
+run_answered e x h k closed s = closed (told_by e statuses.Done s)
+
+pub run_writes : (e : Ended) (x y h k : Option (List ℕ)) → ((after : DeskState) × WritesWhole Step opening after e x y h k) → RunWrites (status_of e) x y h k
+run_writes e x y h k (after, w) = record {
+  read_to_end = λ s. w.read_to_end (told_by e statuses.Done s);
+  whole = λ s. (after, w.whole (fault_or_long e s));
+  memory = λ s. w.memory (told_by e statuses.NoMemory s);
+}
+
+pub run_causes : (e : Ended) (x y : Option (List ℕ)) (r0 r1 w0 w1 : ℕ) → HasCauses e x y r0 r1 w0 w1 → RunCauses (status_of e) x y r0 r1 w0 w1
+run_causes e x y r0 r1 w0 w1 h = record {
+  read = λ s. h.read (told_by e statuses.ReadFault s);
+  write = λ s. h.write (told_by e statuses.WriteFault s);
+  long = λ s. h.long (told_by e statuses.InputLong s);
+}

@@ -1,29 +1,30 @@
--- Steps of the desk.
-use Rattle.std.proofs.Common.{◌≡◌, ◌≢◌, ◌<◌, ◌==◌, ℕ, List, [], ◌∷◌, ◌++◌, length, Bool, false, arith, refl, sym, ap, ◌∙◌, subst}
-use Rattle.oe_wire.specs.Requests.{IsRecord, IsMalformed, Long}
-use Rattle.oe_wire.specs.Replies.{reply_text}
-use Rattle.oe_wire.specs.declared.request.Request.{Request}
-use Rattle.oe_wire.specs.declared.reply.Refusal.TheVariants as refusals
-use Rattle.oe_wire.specs.declared.reply.Reply.TheVariants as replies
+-- Answers to lines, by what was appended.
+use Rattle.std.proofs.Common.{◌≡◌, ◌≢◌, ◌<◌, ℕ, List, [], ◌∷◌, ◌++◌, length, arith, refl, sym, ap, append-nil}
+use Rattle.grid_exact.specs.declared.text.TheConstants.{LINE_LIMIT}
+use Rattle.wire_requests.specs.Requests.{IsRecord, IsMalformed, Long}
+use Rattle.wire_replies.specs.Replies.{reply_text}
+use Rattle.wire_requests.specs.declared.request.Request.{Request}
+use Rattle.wire_replies.specs.declared.reply.Refusal.TheVariants as refusals
+use Rattle.wire_replies.specs.declared.reply.Reply.TheVariants as replies
 use Rattle.oe_main.specs.declared.state.DeskState.{DeskState}
-use Rattle.oe_main.specs.Desk.{Step, Blank, Told, Refused, Wanting, Tells, Decided, NoRoom, no_memory, reply_to}
+use Rattle.oe_main.specs.Desk.{Answers, Step, Blank, Told, Refused, Wanting, Tells, Decided, NoRoom, no_memory, reply_to}
 
 not_blank : (line : List ℕ) → 0 < length line → line ≢ []
 not_blank line some e = omega (arith, some, ap length e)
 
-pub blank : (s : DeskState) (line text : List ℕ) → length line ≡ 0 → text ≡ [] → Step s line text s
-blank s [] text e f = Blank refl f refl
-blank s (b ∷ bs) text e f = absurd (omega (arith, e))
+pub blank : (s : DeskState) (line text : List ℕ) → length line ≡ 0 → Answers s line text text s
+blank s [] text e = record { reply = []; step = Blank refl refl refl; appended = sym (append-nil text) }
+blank s (b ∷ bs) text e = absurd (omega (arith, e))
 
-pub told : (before after : DeskState) (r : Request) (line old new : List ℕ) → 0 < length line → IsRecord line r → old ≡ [] → Tells before r old new after → Step before line new after
-told before after r line old new some is e (Decided t s) = Told r is (t ∙ ap (λ o. o ++ reply_text (reply_to before r)) e) s
-told before after r line old new some is e (NoRoom t s) = Wanting (not_blank line some) (t ∙ ap (λ o. o ++ reply_text no_memory) e) s
+pub told : (before after : DeskState) (r : Request) (line old new : List ℕ) → 0 < length line → IsRecord line r → Tells before r old new after → Answers before line old new after
+told before after r line old new some is (Decided t s) = record { reply = reply_text (reply_to before r); step = Told r is refl s; appended = t }
+told before after r line old new some is (NoRoom t s) = record { reply = reply_text no_memory; step = Wanting (not_blank line some) refl s; appended = t }
 
-pub refused : (s : DeskState) (line old new : List ℕ) (field : ℕ) → 0 < length line → IsMalformed line field → old ≡ [] → new ≡ old ++ reply_text (replies.Refused (refusals.Malformed field)) → Step s line new s
-refused s line old new field some is e t = Refused (not_blank line some) field is (t ∙ ap (λ o. o ++ reply_text (replies.Refused (refusals.Malformed field))) e) refl
+pub refused : (s : DeskState) (line old new : List ℕ) (field : ℕ) → 0 < length line → IsMalformed line field → new ≡ old ++ reply_text (replies.Refused (refusals.Malformed field)) → Answers s line old new s
+refused s line old new field some is t = record { reply = reply_text (replies.Refused (refusals.Malformed field)); step = Refused (not_blank line some) field is refl refl; appended = t }
 
-pub wanting : (s : DeskState) (line old new : List ℕ) → 0 < length line → old ≡ [] → new ≡ old ++ reply_text no_memory → Step s line new s
-wanting s line old new some e t = Wanting (not_blank line some) (t ∙ ap (λ o. o ++ reply_text no_memory) e) refl
+pub wanting : (s : DeskState) (line old new : List ℕ) → 0 < length line → new ≡ old ++ reply_text no_memory → Answers s line old new s
+wanting s line old new some t = record { reply = reply_text no_memory; step = Wanting (not_blank line some) refl refl; appended = t }
 
-pub refused_long : (s : DeskState) (line old new : List ℕ) → 8192 < length line → old ≡ [] → new ≡ old ++ reply_text (replies.Refused (refusals.Malformed 0)) → Step s line new s
-refused_long s line old new long e t = refused s line old new 0 (omega (arith, long)) (Long long refl) e t
+pub refused_long : (s : DeskState) (line : List ℕ) → LINE_LIMIT < length line → Step s line (reply_text (replies.Refused (refusals.Malformed 0))) s
+refused_long s line long = Refused (not_blank line (omega (arith, long))) 0 (Long long refl) refl refl

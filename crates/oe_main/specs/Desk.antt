@@ -1,45 +1,39 @@
 -- What the desk answers, line by line.
-use Rattle.std.specs.Prelude.{ℕ, ◌+◌, ◌-◌, ◌^◌, ◌≡◌, ◌≢◌, List, [], ◌++◌, Option, Some, None, true, min}
-use Rattle.std.specs.Io.KnownBytes.{Appends}
-use Rattle.std.specs.Str.Lines.{lines}
+use Rattle.std.specs.Prelude.{ℕ, ◌+◌, ◌≡◌, ◌≢◌, List, [], ◌++◌, Option, Some, None, true}
 use Rattle.airport_register.specs.Amendments.{airfield_at, first_broken, after_amendment}
-use Rattle.airport_register.specs.declared.airfield.Airfield.{Airfield}
+use Rattle.airfields.specs.declared.airfield.Airfield.{Airfield}
 use Rattle.airport_register.specs.declared.amendment.Amendment.{Amendment}
 use Rattle.airport_register.specs.declared.amendment.AmendRefusal.{AmendRefusal}
 use Rattle.oe_findings.specs.List.{findings_of}
 use Rattle.oe_findings.specs.Verdicts.{verdict_of}
-use Rattle.oe_session.specs.Session.{Answered, AnsweredRead}
-use Rattle.oe_wire.specs.Requests.{IsRecord, IsMalformed}
-use Rattle.oe_wire.specs.Replies.{reply_text, refused_amendment}
-use Rattle.oe_wire.specs.Rows.{airfield_row}
-use Rattle.oe_wire.specs.declared.request.Act.{Act}
-use Rattle.oe_wire.specs.declared.request.Act.TheVariants as acts
-use Rattle.oe_wire.specs.declared.request.Query.{Query}
-use Rattle.oe_wire.specs.declared.request.Query.TheVariants as queries
-use Rattle.oe_wire.specs.declared.request.Request.{Request}
-use Rattle.oe_wire.specs.declared.request.Request.TheVariants as requests
-use Rattle.oe_wire.specs.declared.reply.Outcome.TheVariants as outcomes
-use Rattle.oe_wire.specs.declared.reply.Refusal.TheVariants as refusals
-use Rattle.oe_wire.specs.declared.reply.Reply.{Reply}
-use Rattle.oe_wire.specs.declared.reply.Reply.TheVariants as replies
+use Rattle.wire_requests.specs.Requests.{IsRecord, IsMalformed}
+use Rattle.wire_requests.specs.Spellings.{plain_of}
+use Rattle.wire_replies.specs.Refusals.{refused_amendment}
+use Rattle.wire_replies.specs.Replies.{reply_text}
+use Rattle.wire_replies.specs.Rows.{airfield_row}
+use Rattle.wire_requests.specs.declared.request.Act.{Act}
+use Rattle.wire_requests.specs.declared.request.Act.TheVariants as acts
+use Rattle.wire_requests.specs.declared.request.Query.{Query}
+use Rattle.wire_requests.specs.declared.request.Query.TheVariants as queries
+use Rattle.wire_requests.specs.declared.request.Request.{Request}
+use Rattle.wire_requests.specs.declared.request.Request.TheVariants as requests
+use Rattle.wire_replies.specs.declared.reply.Outcome.TheVariants as outcomes
+use Rattle.wire_replies.specs.declared.reply.Refusal.TheVariants as refusals
+use Rattle.wire_replies.specs.declared.reply.Reply.{Reply}
+use Rattle.wire_replies.specs.declared.reply.Reply.TheVariants as replies
 use Rattle.oe_main.specs.declared.state.DeskState.{DeskState}
-use Rattle.oe_main.specs.Rulings.{plain_of}
 
 -- at first nothing is registered and nothing was changed
 abbrev pub opening : DeskState
 opening = record { sky = []; accepted = 0 }
 
--- the number of the next change; the count stands still at the end of its type
-abbrev pub next_number : ℕ → ℕ
-next_number n = min (n + 1) (2 ^ 64 - 1)
-
 -- an amendment is made where it breaks no rule; else its first broken rule is the reply, and nothing changes
 abbrev pub ruling : DeskState → Amendment → Option AmendRefusal → Reply
-ruling s a None = replies.Accepted (next_number s.accepted) true (outcomes.Plain (plain_of a))
+ruling s a None = replies.Accepted (s.accepted + 1) true (outcomes.Plain (plain_of a))
 ruling s a (Some refusal) = replies.Refused (refused_amendment refusal)
 
 abbrev pub after_ruling : DeskState → Amendment → Option AmendRefusal → DeskState
-after_ruling s a None = record { sky = after_amendment s.sky a; accepted = next_number s.accepted }
+after_ruling s a None = record { sky = after_amendment s.sky a; accepted = s.accepted + 1 }
 after_ruling s a (Some refusal) = s
 
 abbrev pub act_reply : DeskState → Act → Reply
@@ -72,7 +66,7 @@ after_request s (requests.Change change) = after_act s change.act
 abbrev pub no_memory : Reply
 no_memory = replies.Refused refusals.NoMemory
 
--- a reply was put behind a text: the reply to the request, which leads to its state, or want of memory, which changes nothing
+-- a reply was appended: the reply to the request, which leads to its state, or want of memory, which changes nothing
 pub data Tells (before : DeskState) (r : Request) (old new : List ℕ) (after : DeskState) : Type 0 where
   Decided : new ≡ old ++ reply_text (reply_to before r) → after ≡ after_request before r → Tells before r old new after
   NoRoom : new ≡ old ++ reply_text no_memory → after ≡ before → Tells before r old new after
@@ -88,10 +82,8 @@ pub data Step (before : DeskState) (line text : List ℕ) (after : DeskState) : 
   -- memory may be wanting for any of them
   Wanting : line ≢ [] → text ≡ reply_text no_memory → after ≡ before → Step before line text after
 
--- the replies to all lines of an input were written, from the opening state on, where both streams tell
-abbrev pub AllAnswered : Option (List ℕ) → Option (List ℕ) → Option (List ℕ) → Type 0
-AllAnswered input held_old held_new = (after : DeskState) × Answered Step opening after input held_old held_new
-
--- the replies to all lines that were read whole were written
-abbrev pub ReadAnswered : Option (List ℕ) → Option (List ℕ) → Option (List ℕ) → Option (List ℕ) → Type 0
-ReadAnswered input left held_old held_new = (after : DeskState) × AnsweredRead Step opening after input left held_old held_new
+-- the text of the reply to a line was appended
+pub record Answers (before : DeskState) (line old new : List ℕ) (after : DeskState) : Type 0 where
+  pub reply : List ℕ
+  pub step : Step before line reply after
+  pub appended : new ≡ old ++ reply

@@ -1,3 +1,3 @@
 pub mod Statuses
-pub mod Rulings
 pub mod Desk
+pub mod Runs

@@ -1,12 +1,32 @@
--- How a run ends, by how its session ended.
+-- How a run ends, and what it tells of that.
+use Rattle.std.specs.Prelude.{ℕ, List, codes}
 use Rattle.oe_session.specs.declared.session.Ended.{Ended}
 use Rattle.oe_session.specs.declared.session.Ended.TheVariants as endings
 use Rattle.oe_main.specs.declared.status.Status.{Status}
 use Rattle.oe_main.specs.declared.status.Status.TheVariants as statuses
 
+-- by how its session ended
 abbrev pub status_of : Ended → Status
 status_of endings.Closed = statuses.Done
 status_of endings.ReadFault = statuses.ReadFault
 status_of endings.WriteFault = statuses.WriteFault
 status_of endings.Long = statuses.InputLong
 status_of endings.NoMemory = statuses.NoMemory
+
+-- the number that the program ends with
+abbrev pub number_of : Status → ℕ
+number_of statuses.Done = 0
+number_of statuses.Usage = 2
+number_of statuses.ReadFault = 3
+number_of statuses.WriteFault = 4
+number_of statuses.NoMemory = 7
+number_of statuses.InputLong = 8
+
+-- the line on standard error
+abbrev pub line_of : Status → List ℕ
+line_of statuses.Done = codes ""
+line_of statuses.Usage = codes "oe: usage"
+line_of statuses.ReadFault = codes "oe: read fault"
+line_of statuses.WriteFault = codes "oe: write fault"
+line_of statuses.NoMemory = codes "oe: no memory"
+line_of statuses.InputLong = codes "oe: input too long"

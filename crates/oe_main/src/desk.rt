@@ -1,29 +1,30 @@
 //! The desk: what answers the lines of a session.
 
-ghost use Rattle.std.specs.Prelude.{◌≡◌, ◌≤◌, [], length, List, ℕ, OnOk, string_bytes};
-ghost use Rattle.std.specs.Prelude.{◌<◌};
+ghost use Rattle.std.specs.Prelude.{◌≡◌, ◌≤◌, ◌<◌, ◌+◌, ◌^◌, ◌++◌, length, List, ℕ, OnOk, OnErr, string_bytes};
+ghost use Rattle.grid_exact.specs.Texts.{Extends};
 ghost use Rattle.oe_main.specs.declared.state.DeskState.{DeskState as DeskStateOf};
-ghost use Rattle.oe_main.specs.Desk.{Step, opening};
+ghost use Rattle.oe_main.specs.Desk.{Answers, Step, opening};
 
-use crate::state::{DeskState, tell};
-use grid_exact::NoMemory;
+use crate::state::{DeskState, fulfil};
+use grid_exact::{LINE_LIMIT, NoMemory, Steps};
 use oe_findings::{Findings, Sky};
 use oe_session::Answering;
-use oe_wire::{ReadRefusal, RecordReader, Refusal, Reply, push_reply};
+use oe_wire::{ReadRefusal, RecordReader, Refusal, Reply, append_reply};
 use std::alloc::Global;
 use std::marker::Model;
+use std::sync::ledger::{Blank, Ledger};
 
 /// A desk over a register, seen as what it keeps from record to record.
 #[derive(Drop)]
-pub struct Desk {
+pub struct Desk<L: Ledger> {
     alloc: Global,
     state: DeskState,
     records: RecordReader,
     list: Findings,
-    reply: String,
+    steps: Steps<L>,
 }
 
-impl Model for Desk {
+impl<L: Ledger> Model for Desk<L> {
     ghost use Rattle.oe_main.specs.declared.state.DeskState.{DeskState};
 
     ghost Value = { DeskState };
@@ -31,58 +32,47 @@ impl Model for Desk {
     ghost view = { λ d. d.state };
 }
 
-/// The text of the reply to a line that is not empty.
-fn reply_to_line(
+/// Appends the reply to a line; an empty line has none.
+fn append_answer<L: Ledger>(
     alloc: Global,
     state: &mut DeskState,
     records: &mut RecordReader,
     list: &mut Findings,
+    steps: &mut Steps<L>,
     line: &[u8],
     text: &mut String,
 ) -> Result<(), NoMemory>
-    requires { string_bytes text.old ≡ [] }
-    ensures { OnOk result (Step state.old line.now (string_bytes text.new) state.new) }
+    requires room { state.old.accepted < 2 ^ 41 }
+    ensures ok { OnOk result (Answers state.old line.now (string_bytes text.old) (string_bytes text.new) state.new) }
+    ensures part { OnErr result (Extends (string_bytes text.old) (string_bytes text.new)) }
+    ensures count { state.new.accepted ≤ state.old.accepted + 1 }
 {
     if line.is_empty() {
         return Ok(());
     }
     match records.read(line) {
-        Ok(request) => {
-            tell(alloc, state, list, &request, text)?;
-            Ok(())
-        }
+        Ok(request) => fulfil(alloc, state, list, steps, &request, text),
         Err(ReadRefusal::Malformed { field }) => {
-            push_reply(text, &Reply::Refused(Refusal::Malformed { field }))?;
-            Ok(())
+            append_reply(text, &Reply::Refused(Refusal::Malformed { field }))
         }
-        Err(ReadRefusal::NoMemory) => {
-            push_reply(text, &Reply::Refused(Refusal::NoMemory))?;
-            Ok(())
-        }
+        Err(ReadRefusal::NoMemory) => append_reply(text, &Reply::Refused(Refusal::NoMemory)),
     }
 }
 
-/// The text of the reply to a line that is too long.
-fn reply_to_long(text: &mut String) -> Result<(), NoMemory>
-    requires { string_bytes text.old ≡ [] }
-    ensures { OnOk result ((s : DeskStateOf) (line : List ℕ) → 8192 < length line → Step s line (string_bytes text.new) s) }
+/// Appends the reply to a line that is too long.
+fn append_too_long(text: &mut String) -> Result<(), NoMemory>
+    ensures ok { OnOk result ((reply : List ℕ) × ((s : DeskStateOf) (line : List ℕ) → LINE_LIMIT < length line → Step s line reply s) × (string_bytes text.new ≡ string_bytes text.old ++ reply)) }
+    ensures part { OnErr result (Extends (string_bytes text.old) (string_bytes text.new)) }
 {
-    push_reply(text, &Reply::Refused(Refusal::Malformed { field: 0 }))?;
-    Ok(())
+    append_reply(text, &Reply::Refused(Refusal::Malformed { field: 0 }))
 }
 
-/// Makes `text` the bytes of the reply.
-fn copy_reply(reply: &String, text: &mut Vec<u8>) -> Result<(), NoMemory>
-    ensures { OnOk result (text.new.items ≡ string_bytes reply.now) }
-{
-    text.clear();
-    text.extend_from_slice(reply.as_bytes())?;
-    Ok(())
-}
-
-impl Desk {
-    /// A desk with an empty register. It takes no memory.
-    pub fn new(alloc: Global) -> Desk
+impl<L: Ledger> Desk<L> {
+    /// A desk with an empty register, whose steps are counted in the ledger that `blank` opens. It takes no memory.
+    pub fn new(alloc: Global, blank: Blank) -> Desk<L>
+        requires name { blank.name ≡ L.name }
+        requires parts { blank.parts ≡ L.parts }
+        requires some { 0 < L.parts }
         ensures { result ≡ opening }
     {
         Desk {
@@ -93,34 +83,31 @@ impl Desk {
             },
             records: RecordReader::new(alloc),
             list: Findings::new(alloc),
-            reply: String::new(alloc),
+            steps: Steps::new(blank),
         }
     }
 }
 
-impl Answering for Desk {
+impl<L: Ledger> Answering for Desk<L> {
     ghost use Rattle.oe_main.specs.Desk.{Step};
 
     ghost step = { Step };
 
-    fn answer(&mut self, line: &[u8], text: &mut Vec<u8>) -> Result<(), NoMemory> {
-        self.reply.clear();
-        reply_to_line(
+    ghost count = { λ s. s.accepted };
+
+    fn answer(&mut self, line: &[u8], text: &mut String) -> Result<(), NoMemory> {
+        append_answer(
             self.alloc,
             &mut self.state,
             &mut self.records,
             &mut self.list,
+            &mut self.steps,
             line,
-            &mut self.reply,
-        )?;
-        copy_reply(&self.reply, text)?;
-        Ok(())
+            text,
+        )
     }
 
-    fn answer_long(&mut self, text: &mut Vec<u8>) -> Result<(), NoMemory> {
-        self.reply.clear();
-        reply_to_long(&mut self.reply)?;
-        copy_reply(&self.reply, text)?;
-        Ok(())
+    fn answer_long(&mut self, text: &mut String) -> Result<(), NoMemory> {
+        append_too_long(text)
     }
 }

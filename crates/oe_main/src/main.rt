@@ -15,6 +15,7 @@ pub use run::run;
 pub use state::DeskState;
 pub use status::Status;
 use std::env;
+use std::io::ErrorKind;
 use std::process::ExitCode;
 pub use words::Words;
 
@@ -22,10 +23,16 @@ pub use words::Words;
 mod tests;
 
 /// The words after the program's name.
+///
+/// # Errors
+///
+/// `NoMemory` where memory was refused, and `Usage` where a word is no text.
 fn arguments(rt: &HostRuntime) -> Result<Words, Status> {
     let mut words = Words::new(rt.alloc());
-    let Ok(args) = env::args(rt) else {
-        return Err(Status::Usage);
+    let args = match env::args(rt) {
+        Ok(args) => args,
+        Err(e) if e.kind() == ErrorKind::OutOfMemory => return Err(Status::NoMemory),
+        Err(_) => return Err(Status::Usage),
     };
     for word in args.skip(1) {
         if words.push(word.as_str()).is_err() {

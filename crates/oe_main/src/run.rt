@@ -1,21 +1,42 @@
 //! The top call.
 
-ghost use Rattle.std.specs.Prelude.{◌≡◌, ◌≢◌, ◌∷◌, ◌^◌, ◌⊎◌, [], codes};
-ghost use Rattle.oe_http.specs.Causes.{Rose};
-ghost use Rattle.oe_session.specs.Session.{AnsweredFront, Begun, ReadToEnd, TookAtLeast};
-ghost use Rattle.oe_main.specs.Desk.{Step, opening, AllAnswered, ReadAnswered};
+ghost use Rattle.std.specs.Prelude.{◌≡◌, ◌≢◌, ◌<◌, List, ℕ};
+ghost use Rattle.oe_session.specs.Session.{Answered, Begun, WritesWhole, HasCauses};
+ghost use Rattle.oe_main.specs.declared.state.DeskState.{DeskState};
+ghost use Rattle.oe_main.specs.Desk.{Step, opening};
+ghost use Rattle.oe_main.specs.Runs.{AllAnswered, RunCauses, RunWrites, TellsUsage};
 
 use crate::desk::Desk;
 use crate::status::{Status, ended_status};
 use crate::words::Words;
 use oe_http::{Sink, Source};
-use oe_session::records;
+use oe_session::{Ended, records};
 use std::alloc::Global;
+use std::marker::Brand;
+use std::sync::ledger::{Blank, Ledger};
 
-/// All that the program does. `desk` answers each line of the input, in order, over a register that is empty at first.
+/// A session of a desk whose steps are counted in the ledger that `blank` opens.
+fn session<L: Ledger, S: Source, O: Sink>(
+    alloc: Global,
+    blank: Blank,
+    input: &mut S,
+    output: &mut O,
+) -> Ended
+    requires name { blank.name ≡ L.name }
+    requires parts { blank.parts ≡ L.parts }
+    requires some { 0 < L.parts }
+    ensures closed { result ≡ Ended.Closed → (after : DeskState) × Answered Step opening after (S.left input.old) (O.held output.old) (O.held output.new) }
+    ensures begun { Begun Step opening (S.left input.old) (O.held output.old) (O.held output.new) }
+    ensures written { (after : DeskState) × WritesWhole Step opening after result (S.left input.old) (S.left input.new) (O.held output.old) (O.held output.new) }
+    ensures causes { HasCauses result (S.left input.old) (S.left input.new) (S.faults input.old) (S.faults input.new) (O.faults output.old) (O.faults output.new) }
+{
+    records(alloc, &mut Desk::<L>::new(alloc, blank), input, output)
+}
+
+/// All that the program does. A desk answers each line of the input, in order, over a register that is empty at first.
 ///
 /// Where the input or the output tells nothing of its bytes, as the streams of the system do, the clauses on bytes say nothing.
-#[tactic(auto, using(crate::proofs::RunFacts::begun_nothing, crate::proofs::RunFacts::all_answered, crate::proofs::RunFacts::read_answered))]
+#[tactic(auto, using(crate::proofs::RunFacts::begun_nothing, crate::proofs::RunFacts::run_answered, crate::proofs::RunFacts::run_writes, crate::proofs::RunFacts::run_causes, crate::proofs::RunFacts::no_usage))]
 pub fn run<S: Source, O: Sink>(
     alloc: Global,
     words: &Words,
@@ -24,22 +45,17 @@ pub fn run<S: Source, O: Sink>(
 ) -> Status
     // At `Done` the output is what it held before and the reply to each line of the input, in order.
     ensures done { result ≡ Status.Done → AllAnswered (S.left input.old) (O.held output.old) (O.held output.new) }
-    // At a fault of the input, or past its limit, each line that was read whole has its reply; where memory is wanting, no part of
-    // a reply was written.
-    ensures whole { (result ≡ Status.ReadFault) ⊎ (result ≡ Status.InputLong) → ReadAnswered (S.left input.old) (S.left input.new) (O.held output.old) (O.held output.new) }
-    ensures memory { result ≡ Status.NoMemory → AnsweredFront Step opening (S.left input.old) (O.held output.old) (O.held output.new) }
-    ensures read_to_end { result ≡ Status.Done → ReadToEnd (S.left input.old) (S.left input.new) }
     // Under every status it is what it held before and a beginning of these replies.
     ensures begun { Begun Step opening (S.left input.old) (O.held output.old) (O.held output.new) }
-
-    ensures usage { words.now ≢ codes "desk" ∷ [] → result ≡ Status.Usage }
-    ensures command { words.now ≡ codes "desk" ∷ [] → result ≢ Status.Usage }
-    ensures read { result ≡ Status.ReadFault → Rose (S.faults input.old) (S.faults input.new) }
-    ensures write { result ≡ Status.WriteFault → Rose (O.faults output.old) (O.faults output.new) }
-    ensures long { result ≡ Status.InputLong → TookAtLeast (2 ^ 40) (S.left input.old) (S.left input.new) }
+    // How much of the input was read then, and which replies were written whole.
+    ensures written { RunWrites result (S.left input.old) (S.left input.new) (O.held output.old) (O.held output.new) }
+    // Usage is told exactly where the words are no command; both streams are then as they were.
+    ensures usage { TellsUsage words.now result (S.left input.old) (S.left input.new) (O.held output.old) (O.held output.new) }
+    // A fault is told only where that stream's count of faults rose.
+    ensures causes { RunCauses result (S.left input.old) (S.left input.new) (S.faults input.old) (S.faults input.new) (O.faults output.old) (O.faults output.new) }
 {
     if !words.is_desk() {
         return Status::Usage;
     }
-    ended_status(records(alloc, &mut Desk::new(alloc), input, output))
+    ended_status(session::<Brand, S, O>(alloc, Blank::new(1), input, output))
 }

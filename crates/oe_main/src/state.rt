@@ -1,19 +1,20 @@
 //! What the desk keeps, and its replies to requests.
 
-ghost use Rattle.std.specs.Prelude.{◌≡◌, ◌++◌, OnOk, string_bytes};
-ghost use Rattle.oe_main.specs.Rulings.{plain_of};
+ghost use Rattle.std.specs.Prelude.{◌≡◌, ◌≤◌, ◌<◌, ◌+◌, ◌^◌, OnOk, OnErr, string_bytes};
+ghost use Rattle.grid_exact.specs.Texts.{Extends};
 ghost use Rattle.oe_main.specs.Desk.{Tells};
-ghost use Rattle.oe_wire.specs.declared.request.Request.TheVariants as requests;
-ghost use Rattle.oe_wire.specs.declared.request.Query.TheVariants as queries;
+ghost use Rattle.wire_requests.specs.declared.request.Request.TheVariants as requests;
+ghost use Rattle.wire_requests.specs.declared.request.Query.TheVariants as queries;
 
-use airport_register::{Amendment, FieldId, Filing};
-use grid_exact::NoMemory;
+use airfields::{FieldId, Filing};
+use grid_exact::{NoMemory, Steps};
 use oe_findings::{Findings, Sky};
 use oe_wire::{
-    Act, Change, Outcome, Plain, Query, Refusal, Reply, Request, push_airfield, push_found,
-    push_reply,
+    Act, Change, Outcome, Query, Refusal, Reply, Request, append_airfield, append_found,
+    append_reply, plain_of,
 };
 use std::alloc::Global;
+use std::sync::ledger::Ledger;
 
 /// What the desk keeps from record to record.
 #[derive(Drop)]
@@ -24,98 +25,101 @@ pub struct DeskState {
     pub accepted: u64,
 }
 
-/// The form that the reply to an amendment names.
-fn plain_form(amendment: &Amendment) -> Plain
-    ensures { result ≡ plain_of amendment.now }
-{
-    match amendment {
-        Amendment::PutAirport { .. } => Plain::Airport,
-        Amendment::PutRunway { .. } => Plain::Runway,
-        Amendment::DropRunway { .. } => Plain::DropRunway,
-        Amendment::PutHeliport(_) => Plain::Heliport,
-        Amendment::Drop(_) => Plain::Drop,
-    }
-}
-
-/// The findings of a structure, as a reply behind a text.
-fn tell_findings(
+/// Appends the reply with the findings of a structure. The list is some list, whose room is used.
+fn append_findings<L: Ledger>(
     state: &DeskState,
     list: &mut Findings,
+    steps: &mut Steps<L>,
     filing: &Filing,
     text: &mut String,
 ) -> Result<(), NoMemory>
-    ensures { OnOk result (Tells state.now (requests.Query (queries.Screen filing.now)) (string_bytes text.old) (string_bytes text.new) state.now) }
+    ensures ok { OnOk result (Tells state.now (requests.Query (queries.Screen filing.now)) (string_bytes text.old) (string_bytes text.new) state.now) }
+    ensures part { OnErr result (Extends (string_bytes text.old) (string_bytes text.new)) }
 {
-    if state.sky.find(list, filing).is_err() {
-        return push_reply(text, &Reply::Refused(Refusal::NoMemory));
+    if state.sky.find(list, filing, steps).is_err() {
+        return append_reply(text, &Reply::Refused(Refusal::NoMemory));
     }
-    push_found(text, state.accepted, list.as_slice())
+    append_found(text, state.accepted, list.as_slice())
 }
 
-/// What the findings of a structure come to, as a reply behind a text.
-fn tell_verdict(state: &DeskState, filing: &Filing, text: &mut String) -> Result<(), NoMemory>
-    ensures { OnOk result (Tells state.now (requests.Query (queries.Verdict filing.now)) (string_bytes text.old) (string_bytes text.new) state.now) }
+/// Appends the reply with what the findings of a structure come to.
+fn append_verdict<L: Ledger>(
+    state: &DeskState,
+    steps: &mut Steps<L>,
+    filing: &Filing,
+    text: &mut String,
+) -> Result<(), NoMemory>
+    ensures ok { OnOk result (Tells state.now (requests.Query (queries.Verdict filing.now)) (string_bytes text.old) (string_bytes text.new) state.now) }
+    ensures part { OnErr result (Extends (string_bytes text.old) (string_bytes text.new)) }
 {
-    push_reply(
+    append_reply(
         text,
         &Reply::Verdict {
             last: state.accepted,
-            verdict: state.sky.verdict(filing),
+            verdict: state.sky.verdict(filing, steps),
         },
     )
 }
 
-/// The airfield of a name, as a reply behind a text.
-fn tell_airfield(state: &DeskState, id: &FieldId, text: &mut String) -> Result<(), NoMemory>
-    ensures { OnOk result (Tells state.now (requests.Query (queries.Airfield id.now)) (string_bytes text.old) (string_bytes text.new) state.now) }
+/// Appends the reply with the airfield of a name.
+fn append_named(state: &DeskState, id: &FieldId, text: &mut String) -> Result<(), NoMemory>
+    ensures ok { OnOk result (Tells state.now (requests.Query (queries.Airfield id.now)) (string_bytes text.old) (string_bytes text.new) state.now) }
+    ensures part { OnErr result (Extends (string_bytes text.old) (string_bytes text.new)) }
 {
     match state.sky.register().get(id) {
-        Some(airfield) => push_airfield(text, airfield),
-        None => push_reply(text, &Reply::Refused(Refusal::UnknownAirfield)),
+        Some(airfield) => append_airfield(text, airfield),
+        None => append_reply(text, &Reply::Refused(Refusal::UnknownAirfield)),
     }
 }
 
-/// Makes a change, or refuses it, with the reply behind a text.
-fn tell_change(
+/// Makes a change, or refuses it, and appends the reply.
+fn make_change(
     alloc: Global,
     state: &mut DeskState,
     change: &Change,
     text: &mut String,
 ) -> Result<(), NoMemory>
-    ensures { OnOk result (Tells state.old (requests.Change change.now) (string_bytes text.old) (string_bytes text.new) state.new) }
+    requires room { state.old.accepted < 2 ^ 41 }
+    ensures ok { OnOk result (Tells state.old (requests.Change change.now) (string_bytes text.old) (string_bytes text.new) state.new) }
+    ensures part { OnErr result (Extends (string_bytes text.old) (string_bytes text.new)) }
+    ensures count { state.new.accepted ≤ state.old.accepted + 1 }
 {
     let Act::Amend(amendment) = &change.act;
     match state.sky.amended(alloc, amendment) {
         Ok((sky, _)) => {
             state.sky = sky;
-            state.accepted = state.accepted.saturating_add(1);
-            push_reply(
+            state.accepted += 1;
+            append_reply(
                 text,
                 &Reply::Accepted {
                     entry: state.accepted,
                     published: true,
-                    outcome: Outcome::Plain(plain_form(amendment)),
+                    outcome: Outcome::Plain(plain_of(amendment)),
                 },
             )
         }
-        Err(refusal) => push_reply(text, &Reply::Refused(Refusal::from(refusal))),
+        Err(refusal) => append_reply(text, &Reply::Refused(Refusal::from(refusal))),
     }
 }
 
-/// Answers a request, with the reply behind a text.
-pub(crate) fn tell(
+/// Does what a request asks for, and appends the reply.
+pub(crate) fn fulfil<L: Ledger>(
     alloc: Global,
     state: &mut DeskState,
     list: &mut Findings,
+    steps: &mut Steps<L>,
     request: &Request,
     text: &mut String,
 ) -> Result<(), NoMemory>
-    ensures { OnOk result (Tells state.old request.now (string_bytes text.old) (string_bytes text.new) state.new) }
+    requires room { state.old.accepted < 2 ^ 41 }
+    ensures ok { OnOk result (Tells state.old request.now (string_bytes text.old) (string_bytes text.new) state.new) }
+    ensures part { OnErr result (Extends (string_bytes text.old) (string_bytes text.new)) }
+    ensures count { state.new.accepted ≤ state.old.accepted + 1 }
 {
     match request {
-        Request::Query(Query::Screen(filing)) => tell_findings(state, list, filing, text),
-        Request::Query(Query::Verdict(filing)) => tell_verdict(state, filing, text),
-        Request::Query(Query::Airfield(id)) => tell_airfield(state, id, text),
-        Request::Change(change) => tell_change(alloc, state, change, text),
+        Request::Query(Query::Screen(filing)) => append_findings(state, list, steps, filing, text),
+        Request::Query(Query::Verdict(filing)) => append_verdict(state, steps, filing, text),
+        Request::Query(Query::Airfield(id)) => append_named(state, id, text),
+        Request::Change(change) => make_change(alloc, state, change, text),
     }
 }

@@ -1,7 +1,7 @@
 //! How a run ends.
 
 ghost use Rattle.std.specs.Prelude.{◌≡◌};
-ghost use Rattle.oe_main.specs.Statuses.{status_of};
+ghost use Rattle.oe_main.specs.Statuses.{line_of, number_of, status_of};
 
 use oe_session::Ended;
 
@@ -24,7 +24,9 @@ pub enum Status {
 
 impl Status {
     /// The number that the program ends with.
-    pub fn number(self) -> u8 {
+    pub fn number(self) -> u8
+        ensures { result ≡ number_of self }
+    {
         match self {
             Status::Done => 0,
             Status::Usage => 2,
@@ -36,7 +38,9 @@ impl Status {
     }
 
     /// The line on standard error; none after `Done`.
-    pub fn line(self) -> &'static str {
+    pub fn line(self) -> &'static str
+        ensures { result.now ≡ line_of self }
+    {
         match self {
             Status::Done => "",
             Status::Usage => "oe: usage",

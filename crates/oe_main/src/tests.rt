@@ -2,6 +2,7 @@ use crate::{Status, Words, run};
 use grid_exact::Bytes;
 use oe_http::{FakeSink, FakeSource};
 use std::alloc::Global;
+use std::process::Abort;
 use std::test::Fail;
 
 const AIRPORT: &str = "airport,u,1,AAA,public,0,0,1000\n";
@@ -18,7 +19,7 @@ fn words(alloc: Global, list: &[&str]) -> Result<Words, Fail> {
     Ok(words)
 }
 
-// The desk's run over some text, of which so many bytes come in one read.
+/// The desk's run over some text, of which so many bytes come in one read.
 fn desk(alloc: Global, text: &str, most: usize) -> Result<(Status, FakeSink), Fail> {
     let most = most.max(1);
     let bytes = Bytes::from_slice(alloc, text.as_bytes())?;
@@ -26,6 +27,35 @@ fn desk(alloc: Global, text: &str, most: usize) -> Result<(Status, FakeSink), Fa
     let mut output = FakeSink::new(alloc, 4000, Vec::new(alloc))?;
     let status = run(alloc, &words(alloc, &["desk"])?, &mut input, &mut output);
     Ok((status, output))
+}
+
+/// Each text, after the records before, is answered with its replies, after the replies before.
+fn answers(
+    rt: &impl Abort,
+    alloc: Global,
+    before: &str,
+    replied: &str,
+    most: usize,
+    table: &[(&str, &str)],
+) -> Result<(), Fail> {
+    for (records, replies) in table {
+        let text = format!(in alloc; "{before}{records}")?;
+        let wanted = format!(in alloc; "{replied}{replies}")?;
+        let (status, output) = desk(alloc, text.as_str(), most)?;
+        assert_eq!(rt; status, Status::Done);
+        assert_eq!(rt; output.bytes(), wanted.as_bytes());
+    }
+    Ok(())
+}
+
+/// The same after one airport with its runway.
+fn answers_at_one_airport(
+    rt: &impl Abort,
+    alloc: Global,
+    table: &[(&str, &str)],
+) -> Result<(), Fail> {
+    let before = format!(in alloc; "{AIRPORT}{RUNWAY}")?;
+    answers(rt, alloc, before.as_str(), PUBLISHED, 4096, table)
 }
 
 #[test]
@@ -81,12 +111,7 @@ fn records_without_a_register(rt: HostRuntime) -> Result<(), Fail> {
             "no,3,UnknownAirfield\n",
         ),
     ];
-    for (text, reply) in table {
-        let (status, output) = desk(rt.alloc(), text, 7)?;
-        assert_eq!(rt; status, Status::Done);
-        assert_eq!(rt; output.bytes(), reply.as_bytes());
-    }
-    Ok(())
+    answers(&rt, rt.alloc(), "", "", 7, &table)
 }
 
 #[test]
@@ -111,14 +136,7 @@ fn records_over_one_airport(rt: HostRuntime) -> Result<(), Fail> {
         ("day,u,3,2026-01-15\n", "no,13,Malformed,1\n"),
         (AIRPORT, "ok,3,published,airport\n"),
     ];
-    for (record, reply) in table {
-        let text = format!(in rt.alloc(); "{AIRPORT}{RUNWAY}{record}")?;
-        let wanted = format!(in rt.alloc(); "{PUBLISHED}{reply}")?;
-        let (status, output) = desk(rt.alloc(), text.as_str(), 4096)?;
-        assert_eq!(rt; status, Status::Done);
-        assert_eq!(rt; output.bytes(), wanted.as_bytes());
-    }
-    Ok(())
+    answers_at_one_airport(&rt, rt.alloc(), &table)
 }
 
 #[test]
@@ -161,17 +179,10 @@ fn surfaces_of_a_runway(rt: HostRuntime) -> Result<(), Fail> {
             "found,2,0\n",
         ),
     ];
-    for (record, reply) in table {
-        let text = format!(in rt.alloc(); "{AIRPORT}{RUNWAY}{record}")?;
-        let wanted = format!(in rt.alloc(); "{PUBLISHED}{reply}")?;
-        let (status, output) = desk(rt.alloc(), text.as_str(), 4096)?;
-        assert_eq!(rt; status, Status::Done);
-        assert_eq!(rt; output.bytes(), wanted.as_bytes());
-    }
-    Ok(())
+    answers_at_one_airport(&rt, rt.alloc(), &table)
 }
 
-// An antenna of 20 feet and one of more, traverse ways, and an airfield that the record names.
+/// An antenna of 20 feet and one of more, traverse ways, and an airfield that the record names.
 #[test]
 fn structures_near_a_runway(rt: HostRuntime) -> Result<(), Fail> {
     let table = [
@@ -202,17 +213,10 @@ fn structures_near_a_runway(rt: HostRuntime) -> Result<(), Fail> {
         ("screen,5280000,0,1000,100,object,0,R,AAA\n", "found,2,0\n"),
         ("screen,5280000,0,1000,100,object,0,-,ZZZ\n", "found,2,0\n"),
     ];
-    for (record, reply) in table {
-        let text = format!(in rt.alloc(); "{AIRPORT}{RUNWAY}{record}")?;
-        let wanted = format!(in rt.alloc(); "{PUBLISHED}{reply}")?;
-        let (status, output) = desk(rt.alloc(), text.as_str(), 4096)?;
-        assert_eq!(rt; status, Status::Done);
-        assert_eq!(rt; output.bytes(), wanted.as_bytes());
-    }
-    Ok(())
+    answers_at_one_airport(&rt, rt.alloc(), &table)
 }
 
-// What each category has: the surfaces of an airport and of a heliport.
+/// What each category has: the surfaces of an airport and of a heliport.
 #[test]
 fn categories(rt: HostRuntime) -> Result<(), Fail> {
     let civil =
@@ -284,17 +288,10 @@ fn airfields_put_and_taken_out(rt: HostRuntime) -> Result<(), Fail> {
         ),
         ("airport,u,5,bbb,public,0,0,0\n", "no,13,Malformed,4\n"),
     ];
-    for (records, replies) in table {
-        let text = format!(in rt.alloc(); "{AIRPORT}{RUNWAY}{records}")?;
-        let wanted = format!(in rt.alloc(); "{PUBLISHED}{replies}")?;
-        let (status, output) = desk(rt.alloc(), text.as_str(), 4096)?;
-        assert_eq!(rt; status, Status::Done);
-        assert_eq!(rt; output.bytes(), wanted.as_bytes());
-    }
-    Ok(())
+    answers_at_one_airport(&rt, rt.alloc(), &table)
 }
 
-// The longest runway at 3,200 feet, a slanted tangent, a heliport's approach corner, and the greatest spans.
+/// The longest runway at 3,200 feet, a slanted tangent, a heliport's approach corner, and the greatest spans.
 #[test]
 fn sessions_of_their_own(rt: HostRuntime) -> Result<(), Fail> {
     let table = [
@@ -319,12 +316,7 @@ fn sessions_of_their_own(rt: HostRuntime) -> Result<(), Fail> {
             "ok,1,published,airport\nok,2,published,runway\nfound,2,0\nok,3,published,heliport\nfound,3,0\n",
         ),
     ];
-    for (text, replies) in table {
-        let (status, output) = desk(rt.alloc(), text, 4096)?;
-        assert_eq!(rt; status, Status::Done);
-        assert_eq!(rt; output.bytes(), replies.as_bytes());
-    }
-    Ok(())
+    answers(&rt, rt.alloc(), "", "", 4096, &table)
 }
 
 #[test]
@@ -352,7 +344,7 @@ fn a_first_write_that_fails_ends_the_run(rt: HostRuntime) -> Result<(), Fail> {
     Ok(())
 }
 
-// How a run with these words over an empty input ends.
+/// How a run with these words over an empty input ends.
 fn status_of(alloc: Global, list: &[&str]) -> Result<Status, Fail> {
     let mut input = FakeSource::new(Bytes::from_slice(alloc, b"")?, 1, Vec::new(alloc));
     let mut output = FakeSink::new(alloc, 10, Vec::new(alloc))?;

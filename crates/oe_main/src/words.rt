@@ -1,4 +1,5 @@
-// The words of a command line.
+//! The words of a command line.
+
 ghost use Rattle.std.specs.Prelude.{◌≡◌, List, ℕ, [], ◌∷◌, ◌++◌, OnOk, OnErr, ◌≢◌, true, false, codes, length, map, string_bytes};
 
 use grid_exact::NoMemory;
@@ -19,6 +20,7 @@ impl Model for Words {
 }
 
 impl Words {
+    /// No words. It takes no memory.
     pub fn new(alloc: Global) -> Self
         ensures { result ≡ [] }
     {
@@ -28,6 +30,11 @@ impl Words {
         }
     }
 
+    /// Appends a word.
+    ///
+    /// # Errors
+    ///
+    /// `NoMemory` where memory was refused; the words then stay as they were.
     pub fn push(&mut self, word: &str) -> Result<(), NoMemory>
         ensures ok { OnOk result (self.new ≡ self.old ++ word.now ∷ []) }
         ensures err { OnErr result (self.new ≡ self.old) }
@@ -37,6 +44,7 @@ impl Words {
         Ok(())
     }
 
+    /// How many words there are.
     pub fn len(&self) -> usize
         ensures { result ≡ length self.now }
     {
@@ -52,7 +60,7 @@ impl Words {
     }
 }
 
-// Whether some words are this one alone.
+/// Whether some words are this one alone.
 fn is_only(words: &[String], word: &str) -> bool
     ensures yes { result ≡ true → map (λ s. string_bytes s) words.now ≡ word.now ∷ [] }
     ensures no { result ≡ false → map (λ s. string_bytes s) words.now ≢ word.now ∷ [] }

@@ -1,2 +1,3 @@
 pub mod SessionFacts
 pub mod WaitingFacts
+pub mod EndingFacts

@@ -1,12 +1,12 @@
 -- A session, line by line.
 use Rattle.std.proofs.Common.{ap, arith, ◌≡◌, ◌≤◌, ◌-◌, inl, inr, ℕ, List, [], ◌∷◌, ◌++◌, Option, Some, None, refl, sym, ◌∙◌, subst, append_assoc, append-nil}
 use Rattle.std.specs.Str.Lines.{lines}
-use Rattle.std.specs.Io.KnownBytes.{Appends}
 use Rattle.oe_http.specs.Pending.{Pending, unread, FellBy}
 use Rattle.oe_http.specs.Lines.{TakesPart}
 use Rattle.oe_http.proofs.SentFacts.{appends_none, appends_on}
 use Rattle.oe_session.specs.Machine.{Step, Runs, Starts}
-use Rattle.oe_session.specs.Session.{Answered, AnsweredFront, AnsweredRead, Begun, RepliesOne, EndsRead, TookAtLeast, ReadToEnd}
+use Rattle.oe_session.specs.Session.{Replied, Answered, AnsweredFront, AnsweredRead, Begun, TookAtLeast, ReadToEnd}
+use Rattle.oe_session.specs.Replies.{RepliesOne, EndsRead}
 
 -- runs, one after another
 pub runs_on : {St : Type 0} (step : Step St) (a b c : St) (done more : List (List ℕ)) (t u : List ℕ)
@@ -28,13 +28,11 @@ starts_none : {St : Type 0} (step : Step St) (s : St) (ls : List (List ℕ)) →
 starts_none step s [] = refl
 starts_none step s (l ∷ ls) = inl refl
 
--- the lines so far have their texts, and these lines and those still to come are all
+-- the lines so far have their replies, and these lines and those still to come are all
 pub record MidRun {St : Type 0} (step : Step St) (start now : St) (xs ys : List ℕ) (before after : Option (List ℕ)) : Type 0 where
   pub done : List (List ℕ)
-  pub sent : List ℕ
-  pub appends : Appends before after sent
   pub split : lines xs ≡ done ++ lines ys
-  pub ran : Runs step start done sent now
+  pub replied : Replied step start now done before after
 
 -- the same, where the streams tell
 abbrev pub Underway : {St : Type 0} → Step St → St → St → Option (List ℕ) → Option (List ℕ) → Option (List ℕ) → Option (List ℕ) → Type 0
@@ -44,7 +42,7 @@ Underway step start now (Some xs) (Some ys) h k = MidRun step start now xs ys h 
 
 pub underway_start : {St : Type 0} (step : Step St) (s : St) (p : Pending) (x h : Option (List ℕ)) → p.bytes ≡ [] → Underway step s s x (unread p x) h h
 underway_start step s p None h e = tt
-underway_start step s p (Some xs) h e = rw e (record { done = []; sent = []; appends = appends_none h; split = refl; ran = (refl, refl) })
+underway_start step s p (Some xs) h e = rw e (record { done = []; split = refl; replied = record { text = []; appends = appends_none h; runs = (refl, refl) } })
 
 pub underway_on : {St : Type 0} (step : Step St) (a b c : St) (x y z h k m : Option (List ℕ))
     → Underway step a b x y h k → RepliesOne step b c y z k m → Underway step a c x z h m
@@ -53,10 +51,12 @@ underway_on step a b c (Some xs) None z h k m u r = absurd u
 underway_on step a b c (Some xs) (Some ys) None h k m u r = absurd r
 underway_on step a b c (Some xs) (Some ys) (Some zs) h k m u r = record {
   done = u.done ++ r.0 ∷ [];
-  sent = u.sent ++ r.1;
-  appends = appends_on h k m u.sent r.1 u.appends r.4;
   split = u.split ∙ ap (λ ls. u.done ++ ls) r.2 ∙ sym (append_assoc u.done (r.0 ∷ []) (lines zs));
-  ran = runs_on step a b c u.done (r.0 ∷ []) u.sent r.1 u.ran (runs_one step b c r.0 r.1 r.3);
+  replied = record {
+    text = u.replied.text ++ r.1;
+    appends = appends_on h k m u.replied.text r.1 u.replied.appends r.4;
+    runs = runs_on step a b c u.done (r.0 ∷ []) u.replied.text r.1 u.replied.runs (runs_one step b c r.0 r.1 r.3);
+  };
 }
 
 pub underway_end : {St : Type 0} (step : Step St) (a b : St) (x y z h k : Option (List ℕ))
@@ -66,25 +66,26 @@ underway_end step a b (Some xs) None z h k u e = absurd u
 underway_end step a b (Some xs) (Some ys) None h k u e = absurd e
 underway_end step a b (Some xs) (Some ys) (Some zs) h k u e =
     let all : lines xs ≡ u.done = u.split ∙ ap (λ t. u.done ++ lines t) e.0 ∙ append-nil u.done in
-    (u.sent, u.appends, rw all u.ran)
+    rw all u.replied
 
 pub underway_stop : {St : Type 0} (step : Step St) (a b : St) (x y h k : Option (List ℕ)) → Underway step a b x y h k → Begun step a x h k
 underway_stop step a b None y h k u = tt
 underway_stop step a b (Some xs) None h k u = absurd u
 underway_stop step a b (Some xs) (Some ys) h k u =
-    (u.sent ++ [], rw (append-nil u.sent) u.appends, rw u.split (starts_on step a b u.done (lines ys) u.sent [] u.ran (starts_none step b (lines ys))))
+    let r = u.replied in
+    (r.text ++ [], rw (append-nil r.text) r.appends, rw u.split (starts_on step a b u.done (lines ys) r.text [] r.runs (starts_none step b (lines ys))))
 
 pub underway_front : {St : Type 0} (step : Step St) (a b : St) (x y h k : Option (List ℕ)) → Underway step a b x y h k → AnsweredFront step a x h k
 underway_front step a b None y h k u = tt
 underway_front step a b (Some xs) None h k u = absurd u
-underway_front step a b (Some xs) (Some ys) h k u = (u.done, lines ys, u.sent, b, u.split, u.appends, u.ran)
+underway_front step a b (Some xs) (Some ys) h k u = (u.done, lines ys, b, u.split, u.replied)
 
 pub underway_read : {St : Type 0} (step : Step St) (a b : St) (x y z h k : Option (List ℕ))
     → Underway step a b x y h k → TakesPart y z → AnsweredRead step a b x z h k
 underway_read step a b None y z h k u p = tt
 underway_read step a b (Some xs) None z h k u p = absurd u
 underway_read step a b (Some xs) (Some ys) None h k u p = absurd p.1
-underway_read step a b (Some xs) (Some ys) (Some zs) h k u p = (u.done, p.0, u.sent, u.split ∙ ap (λ t. u.done ++ lines t) p.1, p.2, u.appends, u.ran)
+underway_read step a b (Some xs) (Some ys) (Some zs) h k u p = (u.done, p.0, u.split ∙ ap (λ t. u.done ++ lines t) p.1, p.2, u.replied)
 
 pub fell_more : (x y z : Option (List ℕ)) (b c : ℕ) → FellBy b x y → b ≤ c → FellBy (c - b) y z → FellBy c x z
 fell_more None y z b c p q r = tt

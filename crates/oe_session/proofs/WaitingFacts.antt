@@ -1,14 +1,18 @@
 -- Replies that wait to be written: what was written and what waits, taken as one text.
-use Rattle.std.proofs.Common.{ap, ◌≡◌, ◌<◌, ◌⊎◌, inl, inr, ℕ, List, [], ◌∷◌, ◌++◌, drop, get_or, length, Option, Some, None, refl, sym, ◌∙◌, subst, append_assoc, append-nil}
+use Rattle.std.proofs.Common.{ap, ◌≡◌, ◌<◌, ◌⊎◌, inl, inr, ℕ, List, [], ◌∷◌, ◌++◌, take, drop, get_or, length, Option, Some, None, refl, sym, ◌∙◌, subst, append_assoc, append-nil}
 use Rattle.std.proofs.lemmas.List.{append_cancel_left}
+use Rattle.std.proofs.Math.Seq.{take-append_seam}
 use Rattle.std.specs.Str.Lines.{lines}
+use Rattle.grid_exact.specs.Texts.{Extends}
 use Rattle.std.specs.Io.KnownBytes.{Appends, append_known}
+use Rattle.grid_exact.specs.declared.text.TheConstants.{LINE_LIMIT}
 use Rattle.oe_http.specs.Written.{Sent}
 use Rattle.oe_http.specs.Lines.{GivesLine}
 use Rattle.oe_http.specs.declared.lines.Next.TheVariants as next
 use Rattle.oe_http.proofs.SentFacts.{appends_none, appends_on}
 use Rattle.oe_session.specs.Machine.{Step, Starts}
-use Rattle.oe_session.specs.Session.{Begun, RepliesBehind}
+use Rattle.oe_session.specs.Session.{Begun}
+use Rattle.oe_session.specs.Replies.{RepliesNext}
 use Rattle.oe_session.proofs.SessionFacts.{Underway, underway_start, underway_stop, fell_none, fell_more, took_more}
 
 front_nil : (a b : List ℕ) → a ++ b ≡ [] → a ≡ []
@@ -53,6 +57,15 @@ waits_less None (Some ms) text rest s P p none = none _ p
 waits_less (Some ks) None text rest s P p none = absurd s.appends
 waits_less (Some ks) (Some ms) text rest s P p none = subst (λ t. P (Some t)) (ap (λ t. ks ++ t) s.split ∙ sym (append_assoc ks s.front rest) ∙ ap (λ t. t ++ rest) (sym s.appends)) p
 
+-- what is whole of some texts and a part of one more
+whole_of : (old new : List ℕ) (whole : ℕ) → Extends old new → whole ≡ length old → take whole new ≡ old
+whole_of old new whole h e = rw (e, h.grown) (take-append_seam old h.part)
+
+-- it was written, or a front of it
+pub sent_whole : (k m : Option (List ℕ)) (old new bytes rest : List ℕ) (whole : ℕ) → Extends old new → bytes ≡ new → whole ≡ length old
+    → Sent k m (take whole bytes) rest → Sent k m old rest
+sent_whole k m old new bytes rest whole h e f s = rw (← whole_of old new whole h f, ← e) s
+
 -- something was written since the start
 abbrev pub Grown : Option (List ℕ) → Option (List ℕ) → Type 0
 Grown h k = (sent : List ℕ) × Appends h k sent
@@ -66,8 +79,8 @@ grown_moved h k m p q g s = (g.0 ++ s.front, appends_on h k m g.0 s.front g.1 s.
 underway_known : {St : Type 0} (step : Step St) (a b : St) (x y h : Option (List ℕ)) (ks : List ℕ) → Underway step a b x y h None → Underway step a b x y h (Some ks)
 underway_known step a b None y h ks u = tt
 underway_known step a b (Some xs) None h ks u = absurd u
-underway_known step a b (Some xs) (Some ys) None ks u = record { done = u.done; sent = u.sent; appends = tt; split = u.split; ran = u.ran }
-underway_known step a b (Some xs) (Some ys) (Some hs) ks u = absurd u.appends
+underway_known step a b (Some xs) (Some ys) None ks u = record { done = u.done; split = u.split; replied = record { text = u.replied.text; appends = tt; runs = u.replied.runs } }
+underway_known step a b (Some xs) (Some ys) (Some hs) ks u = absurd u.replied.appends
 
 pub underway_moved : {St : Type 0} (step : Step St) (a b : St) (x y h k m : Option (List ℕ)) (p q : List ℕ)
     → Underway step a b x y h (append_known k p) → Sent k m p q → Underway step a b x y h (append_known m q)
@@ -91,20 +104,20 @@ pub underway_sent : {St : Type 0} (step : Step St) (a b : St) (x y h k m : Optio
     → Underway step a b x y h (append_known k p) → Sent k m p [] → Underway step a b x y h m
 underway_sent step a b x y h k m p u s = underway_empty step a b x y h m (underway_moved step a b x y h k m p [] u s)
 
--- a reply waits behind the others
+-- a reply waits after the others
 waits_more : (k : Option (List ℕ)) (old new reply : List ℕ) → new ≡ old ++ reply → Appends (append_known k old) (append_known k new) reply
 waits_more None old new reply e = tt
 waits_more (Some ks) old new reply e = rw e (sym (append_assoc ks old reply))
 
 pub replies_whole : {St : Type 0} (step : Step St) (a b : St) (x y : Option (List ℕ)) (line old new text : List ℕ)
-    → GivesLine x y next.Whole line → step a line text b → new ≡ old ++ text → RepliesBehind step a b x y old new
+    → GivesLine x y next.Whole line → step a line text b → new ≡ old ++ text → RepliesNext step a b x y old new
 replies_whole step a b None y line old new text g s e k = tt
 replies_whole step a b (Some xs) None line old new text g s e k = absurd g
 replies_whole step a b (Some xs) (Some ys) line old new text g s e k = (line, text, g.0, s, waits_more k old new text e)
 
 pub replies_long : {St : Type 0} (step : Step St) (a b : St) (x y : Option (List ℕ)) (line old new text : List ℕ)
-    → GivesLine x y next.TooLong line → ((long : List ℕ) → 8192 < length long → step a long text b) → new ≡ old ++ text
-    → RepliesBehind step a b x y old new
+    → GivesLine x y next.TooLong line → ((long : List ℕ) → LINE_LIMIT < length long → step a long text b) → new ≡ old ++ text
+    → RepliesNext step a b x y old new
 replies_long step a b None y line old new text g s e k = tt
 replies_long step a b (Some xs) None line old new text g s e k = absurd g
 replies_long step a b (Some xs) (Some ys) line old new text g s e k = (g.0, text, g.1, s g.0 g.2, waits_more k old new text e)

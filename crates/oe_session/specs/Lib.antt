@@ -1,3 +1,3 @@
 pub mod Machine
 pub mod Session
-pub mod Endings
+pub mod Replies

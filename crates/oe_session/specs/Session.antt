@@ -1,61 +1,68 @@
--- What a session writes for what it reads.
-use Rattle.std.specs.Prelude.{ℕ, ◌+◌, ◌==◌, false, All, List, [], ◌∷◌, ◌++◌, ◌≡◌, ◌≤◌, length, Option, Some, None}
-use Rattle.std.specs.Io.KnownBytes.{Appends, append_known}
+-- What a session writes for what it reads. Where a stream tells nothing of its bytes, the facts on them say nothing.
+use Rattle.std.specs.Prelude.{ℕ, ◌+◌, List, [], ◌++◌, ◌≡◌, ◌≤◌, ◌⊎◌, length, Option, Some, None}
+use Rattle.std.specs.Io.KnownBytes.{Appends}
 use Rattle.std.specs.Str.Lines.{lines}
+use Rattle.oe_http.specs.Causes.{Rose}
+use Rattle.oe_http.specs.Lines.{IsPlain}
+use Rattle.oe_http.specs.declared.lines.TheConstants.{INPUT_LIMIT}
 use Rattle.oe_session.specs.Machine.{Step, Runs, Starts}
+use Rattle.oe_session.specs.declared.session.Ended.{Ended}
+use Rattle.oe_session.specs.declared.session.Ended.TheVariants as endings
 
--- the replies to all lines of an input were written, and took one state to another, where both streams tell
+-- the replies to some lines were written, in order, and took one state to another
+pub record Replied {St : Type 0} (step : Step St) (before after : St) (lines : List (List ℕ)) (held_old held_new : Option (List ℕ)) : Type 0 where
+  pub text : List ℕ
+  pub appends : Appends held_old held_new text
+  pub runs : Runs step before lines text after
+
+-- to all lines of an input
 abbrev pub Answered : {St : Type 0} → Step St → St → St → Option (List ℕ) → Option (List ℕ) → Option (List ℕ) → Type 0
 Answered step before after None held_old held_new = Unit {0}
-Answered step before after (Some input) held_old held_new =
-    (text : List ℕ) × Appends held_old held_new text × Runs step before (lines input) text after
+Answered step before after (Some input) held_old held_new = Replied step before after (lines input) held_old held_new
 
--- a beginning of these replies was written
+-- to the first lines of an input
+abbrev pub AnsweredFront : {St : Type 0} → Step St → St → Option (List ℕ) → Option (List ℕ) → Option (List ℕ) → Type 0
+AnsweredFront step before None held_old held_new = Unit {0}
+AnsweredFront {St} step before (Some input) held_old held_new =
+    (done more : List (List ℕ)) × (now : St) × (lines input ≡ done ++ more) × Replied step before now done held_old held_new
+
+-- to all lines that were read whole: what was read after these ends no line
+abbrev pub AnsweredRead : {St : Type 0} → Step St → St → St → Option (List ℕ) → Option (List ℕ) → Option (List ℕ) → Option (List ℕ) → Type 0
+AnsweredRead step before after None left held_old held_new = Unit {0}
+AnsweredRead step before after (Some input) None held_old held_new = ⊥
+AnsweredRead step before after (Some input) (Some left) held_old held_new =
+    (done : List (List ℕ)) × (part : List ℕ) × (lines input ≡ done ++ lines (part ++ left)) × IsPlain part
+    × Replied step before after done held_old held_new
+
+-- a beginning of the replies to all lines of an input was written
 abbrev pub Begun : {St : Type 0} → Step St → St → Option (List ℕ) → Option (List ℕ) → Option (List ℕ) → Type 0
 Begun step before None held_old held_new = Unit {0}
 Begun step before (Some input) held_old held_new =
     (text : List ℕ) × Appends held_old held_new text × Starts step before (lines input) text
 
--- the replies to the first lines of an input were written, whole, where both streams tell
-abbrev pub AnsweredFront : {St : Type 0} → Step St → St → Option (List ℕ) → Option (List ℕ) → Option (List ℕ) → Type 0
-AnsweredFront step before None held_old held_new = Unit {0}
-AnsweredFront {St} step before (Some input) held_old held_new =
-    (done more : List (List ℕ)) × (text : List ℕ) × (now : St) × (lines input ≡ done ++ more) × Appends held_old held_new text
-    × Runs step before done text now
-
--- the replies to all lines that were read whole were written: what was read behind these ends no line
-abbrev pub AnsweredRead : {St : Type 0} → Step St → St → St → Option (List ℕ) → Option (List ℕ) → Option (List ℕ) → Option (List ℕ) → Type 0
-AnsweredRead step before after None left held_old held_new = Unit {0}
-AnsweredRead step before after (Some input) None held_old held_new = ⊥
-AnsweredRead step before after (Some input) (Some left) held_old held_new =
-    (done : List (List ℕ)) × (part text : List ℕ) × (lines input ≡ done ++ lines (part ++ left)) × All (λ b. (b == 10) ≡ false) part
-    × Appends held_old held_new text × Runs step before done text after
-
--- one line was taken, and the text of its reply put behind what was held, where both ends tell
-abbrev pub RepliesOne : {St : Type 0} → Step St → St → St → Option (List ℕ) → Option (List ℕ) → Option (List ℕ) → Option (List ℕ) → Type 0
-RepliesOne step before after None now held_old held_new = Unit {0}
-RepliesOne step before after (Some xs) None held_old held_new = ⊥
-RepliesOne step before after (Some xs) (Some ys) held_old held_new =
-    (line reply : List ℕ) × (lines xs ≡ line ∷ lines ys) × step before line reply after × Appends held_old held_new reply
-
--- the same, with the text put behind those that wait, whatever was written before
-abbrev pub RepliesBehind : {St : Type 0} → Step St → St → St → Option (List ℕ) → Option (List ℕ) → List ℕ → List ℕ → Type 0
-RepliesBehind step before after unread_old unread_new waiting_old waiting_new =
-    (k : Option (List ℕ)) → RepliesOne step before after unread_old unread_new (append_known k waiting_old) (append_known k waiting_new)
-
--- no line was left
-abbrev pub EndsRead : Option (List ℕ) → Option (List ℕ) → Type 0
-EndsRead None now = Unit {0}
-EndsRead (Some xs) None = ⊥
-EndsRead (Some xs) (Some ys) = (xs ≡ []) × (ys ≡ [])
-
--- nothing is left of an input that was told
+-- nothing is left of an input
 abbrev pub ReadToEnd : Option (List ℕ) → Option (List ℕ) → Type 0
-ReadToEnd None after = Unit {0}
-ReadToEnd (Some input) after = after ≡ Some []
+ReadToEnd None left = Unit {0}
+ReadToEnd (Some input) left = left ≡ Some []
 
--- at least so many bytes were taken, where the source tells
+-- at least so many bytes of an input were taken
 abbrev pub TookAtLeast : ℕ → Option (List ℕ) → Option (List ℕ) → Type 0
-TookAtLeast n None after = Unit {0}
-TookAtLeast n (Some xs) None = ⊥
-TookAtLeast n (Some xs) (Some ys) = n + length ys ≤ length xs
+TookAtLeast n None left = Unit {0}
+TookAtLeast n (Some input) None = ⊥
+TookAtLeast n (Some input) (Some left) = n + length left ≤ length input
+
+-- what was read and written, by how a session ended
+pub record WritesWhole {St : Type 0} (step : Step St) (before after : St) (ended : Ended) (input left held_old held_new : Option (List ℕ)) : Type 0 where
+  pub read_to_end : ended ≡ endings.Closed → ReadToEnd input left
+  -- at a fault of the input, or past its limit, each line that was read whole has its reply
+  pub whole : (ended ≡ endings.ReadFault) ⊎ (ended ≡ endings.Long) → AnsweredRead step before after input left held_old held_new
+  -- where memory is wanting, no part of a reply was written
+  pub memory : ended ≡ endings.NoMemory → AnsweredFront step before input held_old held_new
+
+-- why a session ended so: counts of faults never fall, and a fault is told only where its count rose
+pub record HasCauses (ended : Ended) (input left : Option (List ℕ)) (read_old read_new write_old write_new : ℕ) : Type 0 where
+  pub read : ended ≡ endings.ReadFault → Rose read_old read_new
+  pub write : ended ≡ endings.WriteFault → Rose write_old write_new
+  pub long : ended ≡ endings.Long → TookAtLeast INPUT_LIMIT input left
+  pub read_later : read_old ≤ read_new
+  pub write_later : write_old ≤ write_new

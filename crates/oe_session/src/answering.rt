@@ -1,19 +1,39 @@
-// What answers lines.
-ghost use Rattle.std.specs.Prelude.{◌≤◌, ◌<◌, List, ℕ, length, OnOk};
+//! What answers the lines of a session.
 
-use grid_exact::NoMemory;
+ghost use Rattle.std.specs.Prelude.{◌≡◌, ◌≤◌, ◌<◌, ◌+◌, ◌^◌, ◌++◌, List, ℕ, length, OnOk, OnErr, string_bytes};
+ghost use Rattle.grid_exact.specs.Texts.{Extends};
+
+use grid_exact::{LINE_LIMIT, NoMemory};
 
 /// What answers the lines of a session, one after another. Its value is the state of the session.
 pub trait Answering {
     /// The text of the reply to a line takes one state to the next: the state before, the line, the text, the state after.
     ghost step: { Self → List ℕ → List ℕ → Self → Type 0 };
 
-    /// Puts the text of the reply to a line into `text`, which it empties first. An empty line has an empty reply.
-    fn answer(&mut self, line: &[u8], text: &mut Vec<u8>) -> Result<(), NoMemory>
-        requires short { length line.now ≤ 8192 }
-        ensures reply { OnOk result (step self.old line.now text.new.items self.new) };
+    /// How many changes it has counted: at most one more with each line. So its count never comes near the end of its
+    /// type, since a session has fewer than 2^41 lines.
+    ghost count: { Self → ℕ };
 
-    /// The same for a line of more than 8,192 bytes, which is not kept.
-    fn answer_long(&mut self, text: &mut Vec<u8>) -> Result<(), NoMemory>
-        ensures reply { OnOk result ((line : List ℕ) → 8192 < length line → step self.old line text.new.items self.new) };
+    /// Appends the text of the reply to a line. An empty line has an empty reply.
+    ///
+    /// # Errors
+    ///
+    /// `NoMemory` where memory was refused. A part of the reply may then stand at the end of the text.
+    fn answer(&mut self, line: &[u8], text: &mut String) -> Result<(), NoMemory>
+        requires short { length line.now ≤ LINE_LIMIT }
+        requires room { count self.old < 2 ^ 41 }
+        ensures reply { OnOk result ((reply : List ℕ) × step self.old line.now reply self.new × (string_bytes text.new ≡ string_bytes text.old ++ reply)) }
+        ensures part { OnErr result (Extends (string_bytes text.old) (string_bytes text.new)) }
+        ensures count { count self.new ≤ count self.old + 1 };
+
+    /// The same for a line of more than [`LINE_LIMIT`] bytes, which is not kept.
+    ///
+    /// # Errors
+    ///
+    /// `NoMemory` where memory was refused. A part of the reply may then stand at the end of the text.
+    fn answer_long(&mut self, text: &mut String) -> Result<(), NoMemory>
+        requires room { count self.old < 2 ^ 41 }
+        ensures reply { OnOk result ((reply : List ℕ) × ((line : List ℕ) → LINE_LIMIT < length line → step self.old line reply self.new) × (string_bytes text.new ≡ string_bytes text.old ++ reply)) }
+        ensures part { OnErr result (Extends (string_bytes text.old) (string_bytes text.new)) }
+        ensures count { count self.new ≤ count self.old + 1 };
 }

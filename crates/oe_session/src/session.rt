@@ -1,18 +1,21 @@
-// The loop of a session.
-ghost use Rattle.std.specs.Prelude.{◌≡◌, ◌≢◌, ◌≤◌, ◌<◌, ◌-◌, ◌^◌, ◌⊎◌, ◌++◌, [], true, false, List, ℕ, Option, OnErr, OnOk, IfOk, IfErr, IsErrOf, length};
+//! The loop of a session.
+
+ghost use Rattle.std.specs.Prelude.{◌≡◌, ◌≢◌, ◌≤◌, ◌<◌, ◌+◌, ◌⊎◌, [], true, List, ℕ, OnErr, OnOk, IfOk, length, take, string_bytes};
+ghost use Rattle.oe_http.specs.Lines.{HasFeed};
 ghost use Rattle.oe_http.specs.Causes.{Rose, HasCause};
 ghost use Rattle.oe_http.specs.Written.{Sent};
-ghost use Rattle.oe_http.specs.Lines.{TakesPart};
-ghost use Rattle.oe_http.specs.Pending.{unread, most_left, FellBy};
-ghost use Rattle.oe_session.specs.Endings.{ending_of};
-ghost use Rattle.oe_session.specs.Session.{Answered, AnsweredFront, AnsweredRead, Begun, RepliesBehind, EndsRead, ReadToEnd, TookAtLeast};
+ghost use Rattle.oe_http.specs.Pending.{unread, most_left, Reads};
+ghost use Rattle.oe_session.specs.Session.{Answered, Begun, WritesWhole, HasCauses};
+ghost use Rattle.oe_session.specs.Replies.{ending_of, Replies, Falls};
 
 use crate::Answering;
-use oe_http::{Failed, LineReader, Next, ReadError, Sink, Source, write_whole};
+use oe_http::{
+    BLOCK_SIZE, Failed, INPUT_LIMIT, LineReader, Next, ReadError, Sink, Source, write_whole,
+};
 use std::alloc::Global;
 
-/// So many bytes of replies are written without waiting for more.
-const MOST_WAITING: usize = 65536;
+/// So many bytes of replies are written without waiting for more: 64 KiB.
+const MOST_WAITING: usize = 65_536;
 
 /// How a session ended.
 #[derive(Clone, Copy, Debug, PartialEq, Eq)]
@@ -23,13 +26,13 @@ pub enum Ended {
     ReadFault,
     /// The output failed.
     WriteFault,
-    /// 2^40 bytes were read, and more are wanted.
+    /// [`INPUT_LIMIT`] bytes were read, and more are wanted.
     Long,
     /// Memory was refused.
     NoMemory,
 }
 
-// How an error of reading ends a session.
+/// How an error of reading ends a session.
 fn ended_by(error: ReadError) -> Ended
     ensures { result ≡ ending_of error }
 {
@@ -40,167 +43,101 @@ fn ended_by(error: ReadError) -> Ended
     }
 }
 
-// What is used again from line to line.
-#[derive(Drop)]
-struct Work {
-    line: Vec<u8>,
-    text: Vec<u8>,
-}
-
-// Puts the reply to the line that was read behind others.
-fn reply_whole<A: Answering>(
-    desk: &mut A,
-    work: &mut Work,
-    waiting: &mut Vec<u8>,
-) -> Result<(), Ended>
-    requires { length work.old.line.items ≤ 8192 }
-    ensures ok { OnOk result ((text : List ℕ) × A.step desk.old work.old.line.items text desk.new × (waiting.new.items ≡ waiting.old.items ++ text)) }
-    ensures kept { OnErr result (waiting.new.items ≡ waiting.old.items) }
-    ensures memory { IfErr result (λ e. e ≡ Ended.NoMemory) }
-{
-    if desk.answer(work.line.as_slice(), &mut work.text).is_err() {
-        return Err(Ended::NoMemory);
-    }
-    if waiting.extend_from_slice(work.text.as_slice()).is_err() {
-        return Err(Ended::NoMemory);
-    }
-    Ok(())
-}
-
-// Puts the reply to a line that is too long behind others.
-fn reply_long<A: Answering>(
-    desk: &mut A,
-    work: &mut Work,
-    waiting: &mut Vec<u8>,
-) -> Result<(), Ended>
-    ensures ok { OnOk result ((text : List ℕ) × ((line : List ℕ) → 8192 < length line → A.step desk.old line text desk.new) × (waiting.new.items ≡ waiting.old.items ++ text)) }
-    ensures kept { OnErr result (waiting.new.items ≡ waiting.old.items) }
-    ensures memory { IfErr result (λ e. e ≡ Ended.NoMemory) }
-{
-    if desk.answer_long(&mut work.text).is_err() {
-        return Err(Ended::NoMemory);
-    }
-    if waiting.extend_from_slice(work.text.as_slice()).is_err() {
-        return Err(Ended::NoMemory);
-    }
-    Ok(())
-}
-
+/// Reads a line and appends its reply to those that wait. Answers whether there was a line. The input is read only
+/// where nothing waits.
 #[tactic(auto, using(crate::proofs::WaitingFacts::replies_whole, crate::proofs::WaitingFacts::replies_long))]
-// Reads a line and puts its reply behind others. Answers whether there was a line.
 fn next_reply<A: Answering, S: Source>(
     reader: &mut LineReader,
     desk: &mut A,
-    work: &mut Work,
-    waiting: &mut Vec<u8>,
+    line: &mut Vec<u8>,
+    waiting: &mut String,
     input: &mut S,
-) -> Result<bool, Ended>
-    ensures answered { IfOk result (λ found. found ≡ true → RepliesBehind A.step desk.old desk.new (unread reader.old (S.left input.old)) (unread reader.new (S.left input.new)) waiting.old.items waiting.new.items) }
-    ensures ended { IfOk result (λ found. found ≡ false → EndsRead (unread reader.old (S.left input.old)) (unread reader.new (S.left input.new))) }
-    ensures still { IfOk result (λ found. found ≡ false → (waiting.new.items ≡ waiting.old.items) × (desk.new ≡ desk.old)) }
-    ensures kept { OnErr result (waiting.new.items ≡ waiting.old.items) }
-    ensures part { IfErr result (λ e. e ≢ Ended.NoMemory → TakesPart (unread reader.old (S.left input.old)) (S.left input.new) × (desk.new ≡ desk.old)) }
-    ensures turns { IfOk result (λ found. found ≡ true → most_left reader.new < most_left reader.old) }
-    ensures more { reader.old.taken ≤ reader.new.taken }
-    ensures taken { FellBy (reader.new.taken - reader.old.taken) (S.left input.old) (S.left input.new) }
-    ensures read_later { S.faults input.old ≤ S.faults input.new }
-    ensures read { IsErrOf result Ended.ReadFault → Rose (S.faults input.old) (S.faults input.new) }
-    ensures long { IsErrOf result Ended.Long → 2 ^ 40 ≤ reader.new.taken }
-    ensures other { IfErr result (λ e. (e ≢ Ended.Closed) × (e ≢ Ended.WriteFault)) }
+) -> Result<bool, ReadError>
+    requires sent { HasFeed reader.old.bytes ⊎ (string_bytes waiting.old ≡ []) }
+    requires room { A.count desk.old + most_left reader.old ≤ INPUT_LIMIT + BLOCK_SIZE }
+    ensures replies { Replies A.step desk.old desk.new (unread reader.old (S.left input.old)) (unread reader.new (S.left input.new)) (S.left input.new) (string_bytes waiting.old) (string_bytes waiting.new) result }
+    ensures still { HasFeed reader.old.bytes → input.new ≡ input.old }
+    ensures falls { IfOk result (λ found. found ≡ true → Falls (most_left reader.old) (most_left reader.new) (A.count desk.old) (A.count desk.new)) }
+    ensures reads { Reads reader.old reader.new (S.left input.old) (S.left input.new) (S.faults input.old) (S.faults input.new) result }
 {
-    match reader.next_line(input, &mut work.line) {
-        Err(error) => Err(ended_by(error)),
-        Ok(Next::End) => Ok(false),
-        Ok(Next::Whole) => {
-            reply_whole(desk, work, waiting)?;
+    match reader.next_line(input, line)? {
+        Next::End => Ok(false),
+        Next::Whole => {
+            desk.answer(line.as_slice(), waiting)?;
             Ok(true)
         }
-        Ok(Next::TooLong) => {
-            reply_long(desk, work, waiting)?;
+        Next::TooLong => {
+            desk.answer_long(waiting)?;
             Ok(true)
         }
     }
 }
 
-// Writes what waits.
-fn send_waiting<O: Sink>(waiting: &mut Vec<u8>, output: &mut O) -> Result<(), Failed>
-    ensures ok { OnOk result (Sent (O.held output.old) (O.held output.new) waiting.old.items waiting.new.items) }
-    ensures none { OnOk result (waiting.new.items ≡ []) }
-    ensures err { OnErr result ((rest : List ℕ) × Sent (O.held output.old) (O.held output.new) waiting.old.items rest) }
-    ensures cause { HasCause (O.faults output.old) (O.faults output.new) result }
-{
-    write_whole(output, waiting.as_slice())?;
-    waiting.clear();
-    Ok(())
-}
-
+/// Writes what waits where much does, or where no end of a line is pending: so each reply is written before a read.
 #[tactic(auto, using(oe_http::proofs::SentFacts::sent_start))]
-// Writes what waits where much does, or where no whole line is pending.
 fn send_due<O: Sink>(
     reader: &LineReader,
-    waiting: &mut Vec<u8>,
+    waiting: &mut String,
     output: &mut O,
 ) -> Result<(), Failed>
-    ensures ok { OnOk result (Sent (O.held output.old) (O.held output.new) waiting.old.items waiting.new.items) }
-    ensures err { OnErr result ((rest : List ℕ) × Sent (O.held output.old) (O.held output.new) waiting.old.items rest) }
+    ensures due { OnOk result (HasFeed reader.now.bytes ⊎ (string_bytes waiting.new ≡ [])) }
+    ensures ok { OnOk result (Sent (O.held output.old) (O.held output.new) (string_bytes waiting.old) (string_bytes waiting.new)) }
+    ensures err { OnErr result ((rest : List ℕ) × Sent (O.held output.old) (O.held output.new) (string_bytes waiting.old) rest) }
     ensures cause { HasCause (O.faults output.old) (O.faults output.new) result }
 {
     if waiting.len() < MOST_WAITING && reader.has_line() {
         return Ok(());
     }
-    send_waiting(waiting, output)
+    write_whole(output, waiting.as_bytes())?;
+    waiting.clear();
+    Ok(())
 }
 
-// Writes what waits, and then ends a session so.
-fn end<O: Sink>(ended: Ended, waiting: &mut Vec<u8>, output: &mut O) -> Ended
-    ensures all { result ≢ Ended.WriteFault → Sent (O.held output.old) (O.held output.new) waiting.old.items [] }
-    ensures sent { (rest : List ℕ) × Sent (O.held output.old) (O.held output.new) waiting.old.items rest }
+/// Writes the first of the bytes that wait, which are whole replies, and then ends a session so.
+fn end<O: Sink>(ended: Ended, waiting: &[u8], whole: usize, output: &mut O) -> Ended
+    requires { whole ≤ length waiting.now }
+    ensures all { result ≢ Ended.WriteFault → Sent (O.held output.old) (O.held output.new) (take whole waiting.now) [] }
+    ensures sent { (rest : List ℕ) × Sent (O.held output.old) (O.held output.new) (take whole waiting.now) rest }
     ensures write { result ≡ Ended.WriteFault → ended ≢ Ended.WriteFault → Rose (O.faults output.old) (O.faults output.new) }
     ensures later { O.faults output.old ≤ O.faults output.new }
     ensures other { (result ≡ ended) ⊎ (result ≡ Ended.WriteFault) }
 {
-    match send_waiting(waiting, output) {
+    match write_whole(output, &waiting[..whole]) {
         Ok(()) => ended,
         Err(_) => Ended::WriteFault,
     }
 }
 
-#[tactic(auto, using(crate::proofs::WaitingFacts::session_facts))]
 /// A reply to each line of the input, in order. Replies are gathered, and written before each read.
+#[tactic(auto, using(crate::proofs::WaitingFacts::session_facts))]
 pub fn records<A: Answering, S: Source, O: Sink>(
     alloc: Global,
     desk: &mut A,
     input: &mut S,
     output: &mut O,
 ) -> Ended
+    requires start { A.count desk.old ≡ 0 }
     // At `Closed` the output is what it held before and the reply to each line of the input, in order.
     ensures closed { result ≡ Ended.Closed → Answered A.step desk.old desk.new (S.left input.old) (O.held output.old) (O.held output.new) }
-    // At `ReadFault` and `Long` each line that was read whole has its reply, and at `NoMemory` no part of a reply was written.
-    ensures whole { (result ≡ Ended.ReadFault) ⊎ (result ≡ Ended.Long) → AnsweredRead A.step desk.old desk.new (S.left input.old) (S.left input.new) (O.held output.old) (O.held output.new) }
-    ensures memory { result ≡ Ended.NoMemory → AnsweredFront A.step desk.old (S.left input.old) (O.held output.old) (O.held output.new) }
-    ensures read_to_end { result ≡ Ended.Closed → ReadToEnd (S.left input.old) (S.left input.new) }
     // However it ends, the output is what it held before and a beginning of these replies.
     ensures begun { Begun A.step desk.old (S.left input.old) (O.held output.old) (O.held output.new) }
-    ensures read { result ≡ Ended.ReadFault → Rose (S.faults input.old) (S.faults input.new) }
-    ensures write { result ≡ Ended.WriteFault → Rose (O.faults output.old) (O.faults output.new) }
-    ensures long { result ≡ Ended.Long → TookAtLeast (2 ^ 40) (S.left input.old) (S.left input.new) }
-    ensures read_later { S.faults input.old ≤ S.faults input.new }
-    ensures write_later { O.faults output.old ≤ O.faults output.new }
+    ensures written { WritesWhole A.step desk.old desk.new result (S.left input.old) (S.left input.new) (O.held output.old) (O.held output.new) }
+    ensures causes { HasCauses result (S.left input.old) (S.left input.new) (S.faults input.old) (S.faults input.new) (O.faults output.old) (O.faults output.new) }
 {
     let mut reader = LineReader::new();
-    let mut work = Work {
-        line: Vec::new(alloc),
-        text: Vec::new(alloc),
-    };
-    let mut waiting = Vec::new(alloc);
+    let mut line = Vec::new(alloc);
+    let mut waiting = String::new(alloc);
     'lines: loop {
         match send_due(&reader, &mut waiting, output) {
             Err(_) => return Ended::WriteFault,
-            Ok(()) => match next_reply(&mut reader, desk, &mut work, &mut waiting, input) {
-                Ok(true) => {}
-                Ok(false) => return end(Ended::Closed, &mut waiting, output),
-                Err(ended) => return end(ended, &mut waiting, output),
-            },
+            Ok(()) => {}
+        }
+        let whole = waiting.len();
+        match next_reply(&mut reader, desk, &mut line, &mut waiting, input) {
+            Ok(true) => {}
+            Ok(false) => return end(Ended::Closed, waiting.as_bytes(), whole, output),
+            // Of a reply that failed a part may wait: only those before it are written.
+            Err(error) => return end(ended_by(error), waiting.as_bytes(), whole, output),
         }
     }
 }

@@ -1,8 +1,8 @@
 -- A plain line is the record of its parts.
-use Rattle.std.proofs.Common.{arith, ℕ, ◌+◌, ◌<◌, ◌≤◌, ◌≡◌, ◌==◌, true, false, List, [], ◌∷◌, ◌++◌, take, drop, length, get_or, Some, None, All, refl, sym, ◌∙◌, cond, ap, append-nil, append_assoc, subst}
-use Rattle.std.specs.List.{slice_split, onto_first}
+use Rattle.std.proofs.Common.{arith, ℕ, ◌+◌, ◌<◌, ◌≤◌, ◌≡◌, ◌==◌, true, false, List, [], ◌∷◌, ◌++◌, take, drop, length, get_or, Some, None, All, refl, sym, ◌∙◌, cond, ap, append-nil, append_assoc, length-append, subst}
+use Rattle.std.specs.List.{slice_split, onto_first, flat_map}
 use Rattle.std.proofs.lemmas.List.Splits.{slice_split_at, slice_split_none}
-use Rattle.std.proofs.lemmas.List.Elements.{All-head, All-tail, All-append, All-cons, All-more, All-same}
+use Rattle.std.proofs.lemmas.List.Elements.{All-nil, All-head, All-tail, All-append, All-cons, All-more, All-same}
 use Rattle.std.proofs.lemmas.List.{take-append-drop, drop_more, take_all}
 use Rattle.csv.specs.Machine.{next_record}
 use Rattle.csv.specs.Reading.{default_config, strip_bom}
@@ -109,3 +109,25 @@ more_ordinary xs i before lt h = All-more IsOrdinary xs i 0 lt before h
 
 pub all_ordinary : (xs : List ℕ) (i : ℕ) → All IsOrdinary (take i xs) → length xs ≤ i → All IsOrdinary xs
 all_ordinary xs i h le = All-same IsOrdinary xs (take i xs) (sym (take_all i xs le)) h
+
+-- fields without commas, with a comma before each but the first, are cut into those fields
+split_again : (first : List ℕ) (more : List (List ℕ)) → All IsOrdinary first → All (All IsOrdinary) more
+    → slice_split (λ b. b == 44) (first ++ flat_map (λ f. 44 ∷ f) more) ≡ first ∷ more
+split_again first [] p q = rw (append-nil first) (slice_split_none (λ b. b == 44) first (not_comma first p))
+split_again first (f ∷ fs) p q =
+    slice_split_at (λ b. b == 44) first 44 (f ++ flat_map (λ g. 44 ∷ g) fs) (not_comma first p) refl
+    ∙ ap (λ parts. first ∷ parts) (split_again f fs (All-head (All IsOrdinary) f fs q) (All-tail (All IsOrdinary) f fs q))
+
+plain_again : (more : List (List ℕ)) → All (All IsOrdinary) more → All IsPlain (flat_map (λ f. 44 ∷ f) more)
+plain_again [] q = All-nil IsPlain
+plain_again (f ∷ fs) q =
+    All-cons IsPlain 44 (f ++ flat_map (λ g. 44 ∷ g) fs) (refl, refl, refl, refl)
+    (All-append IsPlain f (flat_map (λ g. 44 ∷ g) fs) (are_plain f (All-head (All IsOrdinary) f fs q)) (plain_again fs (All-tail (All IsOrdinary) f fs q)))
+
+-- so such a line is the record of those fields
+pub one_record_joined : (first : List ℕ) (more : List (List ℕ)) → 0 < length first → All IsOrdinary first → All (All IsOrdinary) more
+    → one_record (first ++ flat_map (λ f. 44 ∷ f) more) ≡ Some (first ∷ more)
+one_record_joined first more some p q =
+    one_record_plain (first ++ flat_map (λ f. 44 ∷ f) more) (simp length-append (omega (arith, some)))
+    (All-append IsPlain first (flat_map (λ f. 44 ∷ f) more) (are_plain first p) (plain_again more q))
+    ∙ ap Some (split_again first more p q)

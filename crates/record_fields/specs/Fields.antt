@@ -4,7 +4,7 @@ use Rattle.csv.specs.Machine.{Read, next_record}
 use Rattle.csv.specs.Reading.{default_config, strip_bom}
 use Rattle.csv.specs.declared.parser.State.TheVariants as st
 
--- a record with nothing behind it
+-- a record with nothing after it
 abbrev pub only : Option Read → Option (List (List ℕ))
 only None = None
 only (Some p) = if is_none (next_record default_config p.1 [] [] p.2) then Some p.0 else None

@@ -48,8 +48,8 @@ pub(crate) fn cut_plain(line: &[u8], fields: &mut ByteRecord) -> Result<bool, Al
             return Ok(false);
         }
         fields.push_field(&rest[..at])?;
-        let (_, behind) = rest.split_at(at + 1);
-        rest = behind;
+        let (_, after) = rest.split_at(at + 1);
+        rest = after;
     }
     fields.push_field(rest)?;
     Ok(true)

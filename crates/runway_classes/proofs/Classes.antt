@@ -5,6 +5,7 @@ use Rattle.runway_classes.specs.Class.{IsFlared, HasSizes, IsSized, runway_class
 use Rattle.runway_classes.specs.declared.class.EndClass.{EndClass}
 use Rattle.runway_classes.specs.declared.ApproachKind.{ApproachKind}
 use Rattle.runway_classes.specs.declared.ApproachKind.TheVariants.{Visual, NonprecisionAbove, NonprecisionLow, Precision}
+use Rattle.runway_classes.specs.declared.table.TheConstants.{RADIUS_MOST}
 
 -- each approach surface has its outer width where it ends
 pub flared : (utility : Bool) (a b : ApproachKind) →
@@ -98,7 +99,7 @@ width_sized false NonprecisionAbove = refl
 width_sized false NonprecisionLow = refl
 width_sized false Precision = refl
 
-radius_sized : (utility : Bool) (most : ApproachKind) → in_range (pos 100000) (radius utility most) ≡ true
+radius_sized : (utility : Bool) (most : ApproachKind) → in_range RADIUS_MOST (radius utility most) ≡ true
 radius_sized true most = refl
 radius_sized false Visual = refl
 radius_sized false NonprecisionAbove = refl
@@ -111,8 +112,8 @@ class_sized utility a b =
     record {
       width_least = above_zero (pos 10000) (width utility most) (width_sized utility most);
       width_most = at_most (pos 10000) (width utility most) (width_sized utility most);
-      radius_least = above_zero (pos 100000) (radius utility most) (radius_sized utility most);
-      radius_most = at_most (pos 100000) (radius utility most) (radius_sized utility most);
+      radius_least = above_zero RADIUS_MOST (radius utility most) (radius_sized utility most);
+      radius_most = at_most RADIUS_MOST (radius utility most) (radius_sized utility most);
       end1 = end_sized utility a most;
       end2 = end_sized utility b most;
     }

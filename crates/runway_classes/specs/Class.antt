@@ -4,6 +4,8 @@ use Rattle.runway_classes.specs.declared.ApproachKind.{ApproachKind}
 use Rattle.runway_classes.specs.declared.ApproachKind.TheVariants.{Visual, NonprecisionAbove, NonprecisionLow, Precision}
 use Rattle.runway_classes.specs.declared.class.EndClass.{EndClass}
 use Rattle.runway_classes.specs.declared.class.RunwayClass.{RunwayClass}
+use Rattle.runway_classes.specs.declared.class.TheConstants.{PRECISION_SLOPE, PRECISION_SLOPE2, PRECISION_SPLIT, WIDENING_SCALE}
+use Rattle.runway_classes.specs.declared.table.TheConstants.{RADIUS_MOST}
 
 -- the order of precision
 abbrev pub rank : ApproachKind → ℕ
@@ -33,16 +35,16 @@ width false Precision = pos 10000
 abbrev pub radius : Bool → ApproachKind → ℤ
 radius true most = pos 50000
 radius false Visual = pos 50000
-radius false NonprecisionAbove = pos 100000
-radius false NonprecisionLow = pos 100000
-radius false Precision = pos 100000
+radius false NonprecisionAbove = RADIUS_MOST
+radius false NonprecisionLow = RADIUS_MOST
+radius false Precision = RADIUS_MOST
 
 -- an approach surface with one slope
 abbrev pub single : ℤ → ℤ → ℤ → ℤ → EndClass
 single outer length slope k = record { outer = outer; length = length; slope = slope; split = length; slope2 = slope; k = k }
 
 -- the approach surface of an end (77.19(d)) by use, the approach to that end, and the most precise approach to either end, which
--- gives the width at its inner end: outer width, length, slope, and what its half width grows by in 40
+-- gives the width at its inner end: outer width, length, slope, and what its half width grows by in the widening's scale
 abbrev pub end_class : Bool → ApproachKind → ApproachKind → EndClass
 end_class true Visual Visual = single (pos 12500) (pos 50000) (pos 20) (pos 4)
 end_class true Visual NonprecisionAbove = single (pos 12500) (pos 50000) (pos 20) (pos 3)
@@ -62,7 +64,7 @@ end_class false NonprecisionAbove Precision = single (pos 35000) (pos 100000) (p
 end_class false NonprecisionLow most = single (pos 40000) (pos 100000) (pos 34) (pos 6)
 -- a precision approach rises by one in 50 for its inner 10,000 feet and by one in 40 for a further 40,000
 end_class false Precision most =
-    record { outer = pos 160000; length = pos 500000; slope = pos 50; split = pos 100000; slope2 = pos 40; k = pos 6 }
+    record { outer = pos 160000; length = pos 500000; slope = PRECISION_SLOPE; split = PRECISION_SPLIT; slope2 = PRECISION_SLOPE2; k = pos 6 }
 
 -- the class of a runway, by its use and the approaches to its two ends
 abbrev pub runway_class : Bool → ApproachKind → ApproachKind → RunwayClass
@@ -74,9 +76,9 @@ runway_class utility a b =
 abbrev pub IsPrecisionOnUtility : Bool → ApproachKind → ApproachKind → Type 0
 IsPrecisionOnUtility utility a b = (utility ≡ true) × ((a ≡ Precision) ⊎ (b ≡ Precision))
 
--- the surface has its outer width where it ends: its half width has grown by k in 40 over its length
+-- the surface has its outer width where it ends: both its half widths have grown by k in the widening's scale over its length
 abbrev pub IsFlared : ℤ → EndClass → Type 0
-IsFlared width end = pos 20 *ℤ end.outer ≡ pos 20 *ℤ width +ℤ end.k *ℤ end.length
+IsFlared width end = WIDENING_SCALE *ℤ end.outer ≡ WIDENING_SCALE *ℤ width +ℤ pos 2 *ℤ (end.k *ℤ end.length)
 
 -- sizes that each approach surface of the table has
 pub record HasSizes (end : EndClass) : Type 0 where
@@ -98,6 +100,6 @@ pub record IsSized (class : RunwayClass) : Type 0 where
   pub width_least : pos 0 <ℤ class.width
   pub width_most : class.width ≤ℤ pos 10000
   pub radius_least : pos 0 <ℤ class.radius
-  pub radius_most : class.radius ≤ℤ pos 100000
+  pub radius_most : class.radius ≤ℤ RADIUS_MOST
   pub end1 : HasSizes class.end1
   pub end2 : HasSizes class.end2

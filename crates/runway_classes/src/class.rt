@@ -1,5 +1,17 @@
 //! What a class of runways says.
 
+/// The half width of an approach surface grows by a whole number in so many of the distance (77.19(d)).
+pub const WIDENING_SCALE: i64 = 40;
+
+/// A precision approach surface rises by one in so many for its inner 10,000 feet (77.19(d)).
+pub const PRECISION_SLOPE: i64 = 50;
+
+/// It rises by one in so many beyond them.
+pub const PRECISION_SLOPE2: i64 = 40;
+
+/// The inner 10,000 feet, in tenths of a foot.
+pub const PRECISION_SPLIT: i64 = 100_000;
+
 /// The approach surface of one end of a runway (77.19(d)).
 #[derive(Clone, Copy, Debug, PartialEq, Eq)]
 pub struct EndClass {
@@ -13,7 +25,7 @@ pub struct EndClass {
     pub split: i64,
     /// It rises by one in `slope2` beyond `split`; the first slope, where there is no second one.
     pub slope2: i64,
-    /// Its half width grows by `k` in 40 of the distance.
+    /// Its half width grows by `k` in `WIDENING_SCALE` of the distance.
     pub k: i64,
 }
 

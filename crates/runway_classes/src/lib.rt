@@ -5,8 +5,11 @@
 mod class;
 mod table;
 
-pub use class::{EndClass, PrecisionOnUtility, RunwayClass};
-pub use table::classify;
+pub use class::{
+    EndClass, PRECISION_SLOPE, PRECISION_SLOPE2, PRECISION_SPLIT, PrecisionOnUtility, RunwayClass,
+    WIDENING_SCALE,
+};
+pub use table::{RADIUS_MOST, classify};
 
 #[cfg(test)]
 mod tests;

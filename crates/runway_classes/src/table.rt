@@ -4,7 +4,12 @@ ghost use Rattle.std.specs.Prelude.{◌≡◌, MatchResult, IfOk};
 ghost use Rattle.runway_classes.specs.Class.{more_precise as more_precise_of, width as width_of, radius as radius_of, end_class as end_class_of, single as single_of, runway_class as runway_class_of, IsPrecisionOnUtility, IsFlared, IsSized};
 
 use crate::ApproachKind;
-use crate::class::{EndClass, PrecisionOnUtility, RunwayClass};
+use crate::class::{
+    EndClass, PRECISION_SLOPE, PRECISION_SLOPE2, PRECISION_SPLIT, PrecisionOnUtility, RunwayClass,
+};
+
+/// The greater of the two radii of the horizontal surface's arcs, in tenths of a foot: 10,000 feet (77.19(a)).
+pub const RADIUS_MOST: i64 = 100_000;
 
 /// The more precise of two kinds.
 fn more_precise(a: ApproachKind, b: ApproachKind) -> ApproachKind
@@ -31,7 +36,7 @@ fn radius(utility: bool, most: ApproachKind) -> i64
 {
     match (utility, most) {
         (true, _) | (false, ApproachKind::Visual) => 50_000,
-        (false, _) => 100_000,
+        (false, _) => RADIUS_MOST,
     }
 }
 
@@ -92,9 +97,9 @@ fn end_class(utility: bool, kind: ApproachKind, most: ApproachKind) -> EndClass
         (false, ApproachKind::Precision) => EndClass {
             outer: 160_000,
             length: 500_000,
-            slope: 50,
-            split: 100_000,
-            slope2: 40,
+            slope: PRECISION_SLOPE,
+            split: PRECISION_SPLIT,
+            slope2: PRECISION_SLOPE2,
             k: 6,
         },
     }

@@ -4,11 +4,11 @@ use Rattle.std.proofs.Math.Nat.{mul-le-mul}
 use Rattle.std.proofs.lemmas.Int.{ints, by_lt_z}
 use Rattle.grid_exact.specs.Vector.{length_of}
 use Rattle.grid_exact.proofs.RootSums.{le_from_squares}
-use Rattle.airport_register.specs.declared.runway.Runway.{Runway}
-use Rattle.airport_register.specs.Runways.{apart, length_square}
+use Rattle.airfields.specs.declared.runway.Runway.{Runway}
+use Rattle.airfields.specs.Runways.{apart, length_square}
 use Rattle.runway_lines.specs.declared.end.End.{End}
 use Rattle.runway_lines.specs.declared.end.End.TheVariants.{One, Two}
-use Rattle.airport_register.specs.Runways.{IsWithinLength}
+use Rattle.airfields.specs.Runways.{IsWithinLength}
 use Rattle.grid_exact.specs.Lines.{IsSquare}
 use Rattle.runway_lines.specs.Centers.{IsCenter, center, extended}
 use Rattle.runway_lines.specs.Ends.{AreCenters, center_x, center_y, centers, other}

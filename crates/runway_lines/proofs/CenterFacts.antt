@@ -9,26 +9,8 @@ use Rattle.grid_exact.proofs.RootOrder.{AtMostRoot_less, AtMostRoot_more, AtMost
 use Rattle.grid_exact.proofs.RootSums.{AtMostRoot_add, AtMostRoot-scale, at_zero, in_np, in_pp}
 use Rattle.grid_exact.proofs.RootTables.{AboveRoot-not}
 use Rattle.runway_lines.specs.Centers.{IsExtended, IsSetback, extended}
+use Rattle.grid_exact.proofs.ExcessLemmas.{greatest_up_to-most, greatest_up_to-passes, greatest_up_to-within}
 use Rattle.grid_exact.proofs.TestFacts.{at_most_in, at_most_out}
-
--- ---- the greatest that passes
-below : (e n : ℕ) (p : ℕ → Bool) → e ≤ suc n → p e ≡ true → p (suc n) ≡ false → e ≤ n
-below e n p l t f = elim (cases_lt n e) [ inl h ↦ absurd (let q : e ≡ suc n = omega arith in let r : p e ≡ p (suc n) = ap p q in cc) | inr h ↦ h ]
-
-passes : (p : ℕ → Bool) (n : ℕ) → p 0 ≡ true → p (greatest_up_to p n) ≡ true
-unfolding greatest_up_to
-passes p zero h = h
-passes p (suc n) h = elim (cases_Bool (p (suc n))) [ inl y ↦ rw y y | inr f ↦ rw f (passes p n h) ]
-
-most : (p : ℕ → Bool) (n d : ℕ) → d ≤ n → p d ≡ true → d ≤ greatest_up_to p n
-unfolding greatest_up_to
-most p zero d l t = l
-most p (suc n) d l t = elim (cases_Bool (p (suc n))) [ inl y ↦ rw y l | inr f ↦ rw f (most p n d (below d n p l t f) t) ]
-
-within : (p : ℕ → Bool) (n : ℕ) → greatest_up_to p n ≤ n
-unfolding greatest_up_to
-within p zero = omega arith
-within p (suc n) = elim (cases_Bool (p (suc n))) [ inl y ↦ rw y (omega arith) | inr f ↦ rw f (omega (arith, within p n)) ]
 
 -- ---- a part d of a vector of square length n is at most its length
 pub part_most : (d : ℤ) (n : ℕ) → unsigned_abs d * unsigned_abs d ≤ n → AtMostRoot (pos 2000 *ℤ d) (pos 2000) n
@@ -60,7 +42,7 @@ extended_is here there n h p =
     let a : ℤ = here -ℤ pos 2000 +ℤ pos g in
     let back : here -ℤ a ≡ pos 2000 -ℤ pos g = omega (arith, ints) in
     let start : t 0 ≡ true = at_most_out c (pos 2000) n (part_most (there -ℤ here) n h) in
-    let found : AtMostRoot c (pos 2000 -ℤ pos g) n = at_most_in c (pos 2000 -ℤ pos g) n (passes t 4000 start) in
+    let found : AtMostRoot c (pos 2000 -ℤ pos g) n = at_most_in c (pos 2000 -ℤ pos g) n (greatest_up_to-passes t 4000 start) in
     record {
       reaches = rw back found;
       greatest = λ b r.
@@ -70,7 +52,7 @@ extended_is here there n h p =
           (λ l. let e : ℕ = unsigned_abs (b -ℤ (here -ℤ pos 2000)) in
           let s : here -ℤ b ≡ pos 2000 -ℤ pos e = omega (arith, ints, l) in
           let q : AtMostRoot c (pos 2000 -ℤ pos e) n = rw s at r in
-          let k : e ≤ g = most t 4000 e (omega (arith, ints, l, low)) (at_most_out c (pos 2000 -ℤ pos e) n q) in
+          let k : e ≤ g = greatest_up_to-most t 4000 e (omega (arith, ints, l, low)) (at_most_out c (pos 2000 -ℤ pos e) n q) in
           omega (arith, ints, k, s));
     }
 
@@ -89,7 +71,7 @@ pub extended_near : (here there : ℤ) (n : ℕ) → ((here -ℤ pos 2000) ≤�
 unfolding extended
 extended_near here there n =
     let t : ℕ → Bool = λ e. is_at_most_root (pos 2000 *ℤ (there -ℤ here)) (pos 2000 -ℤ pos e) n in
-    let w = within t 4000 in
+    let w = greatest_up_to-within t 4000 in
     (omega (arith, ints), omega (arith, ints, w))
 
 -- ---- it lies on the far side of the end

@@ -2,7 +2,7 @@
 use Rattle.std.specs.Prelude.{ℕ, ℤ, pos, ◌+ℤ◌, ◌*ℤ◌, ◌≤◌, ◌^◌, unsigned_abs, int_lt, if◌then◌else◌}
 use Rattle.std.specs.Int.{int_div_euclid}
 use Rattle.grid_exact.specs.declared.point.Point.{Point}
-use Rattle.grid_exact.specs.Lines.{Line, along, square}
+use Rattle.grid_exact.specs.Lines.{Line, Offset, offset}
 
 -- a runway's line, the elevation of its first end, and how much higher its second end is
 pub record Profile : Type 0 where
@@ -14,13 +14,18 @@ pub record Profile : Type 0 where
 abbrev pub clamped : ℤ → ℕ → ℤ
 clamped m n = if int_lt m (pos 0) then pos 0 else if int_lt (pos n) m then pos n else m
 
--- how much higher than the first end the centerline is where it is nearest to the point, rounded down
-abbrev pub climb : Profile → Point → ℤ
-climb p x = int_div_euclid (p.rise *ℤ clamped (along p.line x) (square p.line)) (pos (square p.line))
+-- how much higher than the first end the centerline is where it is nearest to a point that lies so by it, rounded down
+abbrev pub climb : Profile → Offset → ℤ
+climb p o = int_div_euclid (p.rise *ℤ clamped o.along o.square) (pos o.square)
 
 -- the elevation of the nearest point of the centerline, rounded down
+abbrev pub elevation_at : Profile → Offset → ℤ
+elevation_at p o = p.z +ℤ climb p o
+
 abbrev pub elevation : Profile → Point → ℤ
-elevation p x = p.z +ℤ climb p x
+elevation p x = elevation_at p (offset p.line x)
+
+-- ---- for proofs alone
 
 -- sizes that the elevations of a runway give
 pub record IsSloped (z rise : ℤ) : Type 0 where

@@ -4,9 +4,9 @@ use Rattle.grid_exact.specs.Lines.{Line}
 use Rattle.runway_classes.specs.declared.class.EndClass.{EndClass}
 use Rattle.runway_classes.specs.declared.class.RunwayClass.{RunwayClass}
 use Rattle.runway_classes.specs.Class.{runway_class}
-use Rattle.airport_register.specs.declared.runway.Runway.{Runway}
-use Rattle.airport_register.specs.declared.runway.RunwayEnd.{RunwayEnd}
-use Rattle.airport_register.specs.Runways.{length_square}
+use Rattle.airfields.specs.declared.runway.Runway.{Runway}
+use Rattle.airfields.specs.declared.runway.RunwayEnd.{RunwayEnd}
+use Rattle.airfields.specs.Runways.{length_square}
 use Rattle.runway_lines.specs.declared.end.End.{End}
 use Rattle.runway_lines.specs.declared.end.End.TheVariants.{One, Two}
 use Rattle.runway_lines.specs.Centers.{IsCenter, center}

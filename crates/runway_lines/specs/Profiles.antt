@@ -1,7 +1,7 @@
 -- The profile of a runway: its centerline from end to end, with its elevations.
 use Rattle.std.specs.Prelude.{◌-ℤ◌}
 use Rattle.grid_exact.specs.Axes.{line_of}
-use Rattle.airport_register.specs.declared.runway.Runway.{Runway}
+use Rattle.airfields.specs.declared.runway.Runway.{Runway}
 use Rattle.runway_lines.specs.Centerlines.{Profile}
 use Rattle.runway_lines.specs.declared.centerline.Centerline.{Centerline}
 

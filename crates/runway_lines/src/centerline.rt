@@ -2,11 +2,11 @@
 
 ghost use Rattle.std.specs.Prelude.{◌≡◌, ◌^◌, ◌≤◌, ◌≤ℤ◌, pos, unsigned_abs};
 ghost use Rattle.grid_exact.specs.Level.{IsLevel};
-ghost use Rattle.airport_register.specs.Runways.{IsProper};
-ghost use Rattle.runway_lines.specs.Centerlines.{IsSloped};
+ghost use Rattle.airfields.specs.Runways.{IsProper};
+ghost use Rattle.runway_lines.specs.Centerlines.{IsSloped, clamped};
 
-use airport_register::Runway;
-use grid_exact::{Axis, Point, Start, Vector, scale};
+use airfields::Runway;
+use grid_exact::{Axis, Offset, Point, Start, Vector, scale};
 
 /// A runway's centerline, from its first end to its second.
 #[derive(Clone, Copy)]
@@ -20,8 +20,8 @@ pub struct Centerline {
 }
 
 impl Centerline {
-    ghost use Rattle.grid_exact.specs.Axes.{axis_along, axis_square};
-    ghost use Rattle.runway_lines.specs.Centerlines.{clamped, climb as climb_of, elevation as elevation_of};
+    ghost use Rattle.grid_exact.specs.Lines.{offset as offset_of};
+    ghost use Rattle.runway_lines.specs.Centerlines.{climb as climb_of, elevation as elevation_of, elevation_at as elevation_at_of};
     ghost use Rattle.runway_lines.specs.Profiles.{profile, profile_of};
 
     /// The centerline of a runway.
@@ -40,38 +40,54 @@ impl Centerline {
         }
     }
 
-    /// How far along it the point of it lies that is nearest to `point`, times its length.
-    fn progress(&self, point: &Point) -> i128
-        ensures value { result ≡ clamped (axis_along self.now.axis point.now) (axis_square self.now.axis) }
-        ensures least { pos 0 ≤ℤ result }
-        ensures most { result ≤ℤ pos (axis_square self.now.axis) }
+    /// Where a point lies by it.
+    pub fn offset(&self, point: &Point) -> Offset
+        ensures { result ≡ offset_of (profile self.now).line point.now }
     {
-        let along = self.axis.along(point);
-        if along < 0 {
-            return 0;
-        }
-        let square = self.axis.square() as i128;
-        if square < along {
-            return square;
-        }
-        along
+        self.axis.offset(point)
     }
 
-    /// How much higher than the first end that point is, rounded down.
-    fn climb(&self, point: &Point) -> i64
-        ensures value { result ≡ climb_of (profile self.now) point.now }
+    /// How much higher than the first end it is where it is nearest to a point that lies so by it, rounded down.
+    fn climb(&self, at: &Offset) -> i64
+        ensures value { result ≡ climb_of (profile self.now) at.now }
         ensures size { unsigned_abs result ≤ 2 ^ 18 }
     {
-        let square = self.axis.square() as i128;
-        scale(self.rise, self.progress(point)).div_euclid(square) as i64
+        let square = at.square() as i128;
+        scale(self.rise, progress(at)).div_euclid(square) as i64
     }
 
-    /// The elevation of that point, rounded down.
+    /// The elevation of it where it is nearest to a point that lies so by it, rounded down, in tenths of a foot.
+    pub fn elevation_at(&self, at: &Offset) -> i64
+        ensures value { result ≡ elevation_at_of (profile self.now) at.now }
+        ensures level { IsLevel result }
+        ensures size { unsigned_abs result ≤ 2 ^ 19 }
+    {
+        self.z + self.climb(at)
+    }
+
+    /// The elevation of it where it is nearest to a point, rounded down, in tenths of a foot.
     pub fn elevation(&self, point: &Point) -> i64
         ensures value { result ≡ elevation_of (profile self.now) point.now }
         ensures level { IsLevel result }
         ensures size { unsigned_abs result ≤ 2 ^ 19 }
     {
-        self.z + self.climb(point)
+        self.elevation_at(&self.offset(point))
     }
+}
+
+/// How far along a line the point of it lies that is nearest to a point that lies so by it, times its length.
+fn progress(at: &Offset) -> i128
+    ensures value { result ≡ clamped at.now.along at.now.square }
+    ensures least { pos 0 ≤ℤ result }
+    ensures most { result ≤ℤ pos at.now.square }
+{
+    let along = at.along();
+    if along < 0 {
+        return 0;
+    }
+    let square = at.square() as i128;
+    if square < along {
+        return square;
+    }
+    along
 }

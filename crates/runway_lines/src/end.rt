@@ -2,7 +2,7 @@
 
 ghost use Rattle.std.specs.Prelude.{◌≡◌};
 
-use airport_register::{Runway, RunwayEnd};
+use airfields::{Runway, RunwayEnd};
 
 /// One of the two ends of a runway.
 #[derive(Clone, Copy, Debug, PartialEq, Eq)]

@@ -3,12 +3,12 @@
 ghost use Rattle.std.specs.Prelude.{◌≡◌};
 ghost use Rattle.grid_exact.specs.Axes.{line_of};
 ghost use Rattle.runway_classes.specs.Class.{IsSized, HasSizes};
-ghost use Rattle.airport_register.specs.Runways.{IsProper};
+ghost use Rattle.airfields.specs.Runways.{IsProper};
 ghost use Rattle.runway_lines.specs.Ends.{other as other_of, center_x, center_y, line_between, class_of, end_class_of};
 
 use crate::end::End;
 use crate::setbacks::extended;
-use airport_register::Runway;
+use airfields::Runway;
 use grid_exact::{Axis, Start};
 use runway_classes::{EndClass, RunwayClass, classify};
 

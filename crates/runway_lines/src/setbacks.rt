@@ -4,7 +4,7 @@ ghost use Rattle.std.specs.Prelude.{◌≡◌, ◌*◌, ◌<◌, ◌≤◌, ◌^
 ghost use Rattle.grid_exact.specs.Lines.{IsSquare};
 ghost use Rattle.runway_lines.specs.Centers.{IsSetback, extended as extended_of};
 
-use grid_exact::{Point, Start, Vector, least_coordinate, product};
+use grid_exact::{Point, SETBACK, Start, Vector, least_coordinate, product};
 
 /// How far back from an end, in one coordinate, a point 200 feet past it lies, rounded up: the other end is `toward` away in that
 /// coordinate, and at the root of `square` in all.
@@ -12,9 +12,9 @@ fn setback(toward: i64, square: u128) -> i64
     requires part { unsigned_abs toward * unsigned_abs toward ≤ square }
     requires square { IsSquare square }
     ensures setback { IsSetback toward square result }
-    ensures size { unsigned_abs result ≤ 2000 }
+    ensures size { unsigned_abs result ≤ unsigned_abs SETBACK }
 {
-    least_coordinate(product(2000, toward), 1, square)
+    least_coordinate(product(SETBACK, toward), 1, square)
 }
 
 /// The point 200 feet past an end of a runway, each coordinate rounded down: the other end is at `there`.

@@ -1,4 +1,4 @@
--- A text kept in an array that is longer than it.
+-- For proofs alone: a text kept in an array that is longer than it.
 use Rattle.std.specs.Prelude.{ℕ, List, ◌++◌, ◌≤◌, ◌≡◌, length, take, replicate, ◌-◌}
 use Rattle.std.proofs.Common.{sym, ap, ◌∙◌}
 

@@ -5,7 +5,7 @@
 
 mod whole;
 
-pub use whole::number;
+pub use whole::{NUMBER_LIMIT, number};
 
 #[cfg(test)]
 mod tests {

@@ -6,6 +6,9 @@ ghost use Rattle.std.specs.Char.{digit_value};
 ghost use Rattle.std.specs.Fmt.{decimal};
 ghost use Rattle.whole_number.specs.Whole.{Spells};
 
+/// The greatest whole number of nine digits; the least is its opposite.
+pub const NUMBER_LIMIT: i64 = 999_999_999;
+
 // The value of a digit.
 #[tactic(auto, using(crate::proofs::Digits::is_digit, crate::proofs::Digits::no_digit))]
 fn digit(byte: u8) -> Option<u8>
@@ -82,7 +85,7 @@ pub fn number(bytes: &[u8]) -> Option<i64>
     }
 }
 
-// The number that some bytes spell behind a minus sign.
+// The number that some bytes spell after a minus sign.
 #[tactic(auto, using(crate::proofs::Digits::not_minus_zero, crate::proofs::Digits::no_minus))]
 fn negative(digits: &[u8]) -> Option<i64>
     ensures some { IfSome result (λ z. Spells (45 ∷ digits.now) z) }

@@ -1,5 +1,6 @@
 use Rattle.std.proofs.Common.{◌∙◌, sym, ap, ◌-ℤ◌, ◌+ℤ◌, pos, arith, subst}
 use Rattle.std.proofs.lemmas.List.{take_all}
+use Rattle.horizontal_hull.specs.declared.sizes.TheConstants.{OUTER_MOST}
 use Rattle.horizontal_hull.specs.Arcs.{ArcShape}
 use Rattle.horizontal_hull.specs.Reaches.{IsReached}
 use Rattle.horizontal_hull.specs.Close.{IsNearReference}
@@ -21,10 +22,10 @@ loop-arc-preserved c =
     let arc = c.arc-item.result in
     let near : IsNearReference arp arc = subst (λ (a : ArcShape). IsNearReference arp a) (sym c.arc-item.is) (c.requires.near c.loop-arc.arc-index arc c.loop-arc-test.true) in
     let around : IsAround arc.x arc.y c.around.result = record {
-      west = c.around.ensures.west ∙ ap (λ z. z -ℤ pos 140000) c.center.ensures.x;
-      east = c.around.ensures.east ∙ ap (λ z. z +ℤ pos 140000) c.center.ensures.x;
-      south = c.around.ensures.south ∙ ap (λ z. z -ℤ pos 140000) c.center.ensures.y;
-      north = c.around.ensures.north ∙ ap (λ z. z +ℤ pos 140000) c.center.ensures.y;
+      west = c.around.ensures.west ∙ ap (λ z. z -ℤ pos OUTER_MOST) c.center.ensures.x;
+      east = c.around.ensures.east ∙ ap (λ z. z +ℤ pos OUTER_MOST) c.center.ensures.x;
+      south = c.around.ensures.south ∙ ap (λ z. z -ℤ pos OUTER_MOST) c.center.ensures.y;
+      north = c.around.ensures.north ∙ ap (λ z. z +ℤ pos OUTER_MOST) c.center.ensures.y;
     } in
     let one : IsReached c.around.result arc = around_reached arc c.around.result near.radius around in
     record {

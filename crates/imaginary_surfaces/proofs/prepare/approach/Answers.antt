@@ -1,18 +1,12 @@
-use Rattle.std.proofs.Common.{◌≡◌, ◌≤◌, ◌^◌, unsigned_abs, FitsSigned, w64, to_z, of_z, to_z-of_z, arith, ap, ◌∙◌}
+use Rattle.std.proofs.Common.{◌≡◌, FitsSigned, w64, to_z, of_z, to_z-of_z, arith, ap, ◌∙◌}
 use Rattle.std.proofs.lemmas.Int.{ints}
-use Rattle.airport_register.specs.declared.runway.Runway.{Runway}
-use Rattle.airport_register.specs.Runways.{IsProper, is_precision}
+use Rattle.airfields.specs.Runways.{is_precision}
 use Rattle.grid_exact.specs.Axes.{line_of}
-use Rattle.runway_lines.specs.declared.end.End.{End}
-use Rattle.runway_lines.specs.declared.end.End.TheVariants.{One, Two}
 use Rattle.runway_lines.specs.Ends.{class_of, end_class_of, end_of, line_between, other}
 use Rattle.imaginary_surfaces.specs.Strips.{approach_of}
+use Rattle.imaginary_surfaces.proofs.Sound.{end_small}
 use Rattle.imaginary_surfaces.proofs.SurfaceFacts.{same_approach}
 use Rattle.imaginary_surfaces.proofs.prepare.approach.Goals as goal
-
-end_small : (r : Runway) (end : End) → IsProper r → unsigned_abs (end_of r end).z ≤ 2 ^ 18
-end_small r One p = omega (arith, ints, p.elevation1)
-end_small r Two p = omega (arith, ints, p.elevation2)
 
 pub invariant_of-result : goal.invariant_of-result
 invariant_of-result c =

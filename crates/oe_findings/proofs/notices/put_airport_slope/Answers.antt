@@ -1,6 +1,6 @@
 use Rattle.std.proofs.Common.{ap, FitsSigned, w64, to_z-of_z, arith}
 use Rattle.std.proofs.lemmas.Int.{ints}
-use Rattle.airport_register.specs.Sites.{Site}
+use Rattle.airfields.specs.Sites.{Site}
 use Rattle.oe_findings.proofs.SlopeFacts.{slope_put}
 use Rattle.oe_findings.proofs.notices.put_airport_slope.Goals as goal
 

@@ -1,5 +1,5 @@
-use Rattle.std.proofs.Common.{◌≡◌, ℕ, ap, FitsSigned, w64, to_z-of_z}
-use Rattle.airport_register.specs.declared.airfield.Heliport.{Heliport}
+use Rattle.std.proofs.Common.{ℕ, ap, FitsSigned, w64, to_z-of_z}
+use Rattle.airfields.specs.declared.airfield.Heliport.{Heliport}
 use Rattle.heliport_surfaces.specs.Pads.{pad_primary_excess, pad_approach_excess, pad_transition_excess}
 use Rattle.heliport_surfaces.specs.declared.parts.PadEnd.TheVariants as pad_ends
 use Rattle.heliport_surfaces.specs.declared.parts.Beside.TheVariants as sides
@@ -32,16 +32,11 @@ returns-clause-taken g c =
     let x4 = pad_transition_excess h sides.Primary at top in
     let x5 = pad_transition_excess h sides.ApproachOne at top in
     let x6 = pad_transition_excess h sides.ApproachTwo at top in
-    let e1 : c.excess_primary.result ≡ x1 = simp to_z-of_z at c.excess_primary.ensures.value in
-    let e2 : c.excess_approach.result ≡ x2 = simp to_z-of_z at c.excess_approach.ensures.value in
-    let e3 : c.excess_approach-2.result ≡ x3 = simp to_z-of_z at c.excess_approach-2.ensures.value in
-    let e4 : c.excess_transition-beside.result ≡ x4 = simp to_z-of_z at c.excess_transition-beside.ensures.value in
-    let e5 : c.excess_transition-first.result ≡ x5 = simp to_z-of_z at c.excess_transition-first.ensures.value in
-    let e6 : c.excess_transition-second.result ≡ x6 = simp to_z-of_z at c.excess_transition-second.ensures.value in
+    let es = simp to_z-of_z at c.excesses-excesses.ensures.value in
     six o0 o1 o2 o3 o4 o5 o6 (entries rules.PadPrimary (key 0) x1) (entries rules.PadApproach (key 1) x2) (entries rules.PadApproach (key 2) x3) (entries rules.PadTransition (key 0) x4) (entries rules.PadTransition (key 1) x5) (entries rules.PadTransition (key 2) x6)
-    (named o0 o1 rules.PadPrimary (named_so 0) (key 0) c.excess_primary.result x1 (same 0) e1 c.in_ok-put_on_field.ensures.taken)
-    (named o1 o2 rules.PadApproach (named_so 1) (key 1) c.excess_approach.result x2 (same 1) e2 c.in_ok-put_on_field-2.ensures.taken)
-    (named o2 o3 rules.PadApproach (named_so 2) (key 2) c.excess_approach-2.result x3 (same 2) e3 c.in_ok-put_on_field-3.ensures.taken)
-    (named o3 o4 rules.PadTransition (named_so 0) (key 0) c.excess_transition-beside.result x4 (same 0) e4 c.in_ok-put_on_field-4.ensures.taken)
-    (named o4 o5 rules.PadTransition (named_so 1) (key 1) c.excess_transition-first.result x5 (same 1) e5 c.in_ok-put_on_field-5.ensures.taken)
-    (named o5 o6 rules.PadTransition (named_so 2) (key 2) c.excess_transition-second.result x6 (same 2) e6 c.in_ok-put_on_field-6.ensures.taken)
+    (named o0 o1 rules.PadPrimary (named_so 0) (key 0) c.excesses-excesses.result.primary x1 (same 0) es.primary_is c.in_ok-put_on_field.ensures.taken)
+    (named o1 o2 rules.PadApproach (named_so 1) (key 1) c.excesses-excesses.result.approach1 x2 (same 1) es.approach1_is c.in_ok-put_on_field-2.ensures.taken)
+    (named o2 o3 rules.PadApproach (named_so 2) (key 2) c.excesses-excesses.result.approach2 x3 (same 2) es.approach2_is c.in_ok-put_on_field-3.ensures.taken)
+    (named o3 o4 rules.PadTransition (named_so 0) (key 0) c.excesses-excesses.result.beside_primary x4 (same 0) es.beside_primary_is c.in_ok-put_on_field-4.ensures.taken)
+    (named o4 o5 rules.PadTransition (named_so 1) (key 1) c.excesses-excesses.result.beside_approach1 x5 (same 1) es.beside_approach1_is c.in_ok-put_on_field-5.ensures.taken)
+    (named o5 o6 rules.PadTransition (named_so 2) (key 2) c.excesses-excesses.result.beside_approach2 x6 (same 2) es.beside_approach2_is c.in_ok-put_on_field-6.ensures.taken)

@@ -1,5 +1,5 @@
-use Rattle.std.proofs.Common.{◌≡◌, ℕ, ap, FitsSigned, w64, to_z-of_z}
-use Rattle.airport_register.specs.declared.runway.Runway.{Runway}
+use Rattle.std.proofs.Common.{ℕ, ap, FitsSigned, w64, to_z-of_z}
+use Rattle.airfields.specs.declared.runway.Runway.{Runway}
 use Rattle.imaginary_surfaces.specs.Strips.{primary_excess, approach_excess, primary_transition_excess, approach_transition_excess}
 use Rattle.runway_lines.specs.declared.end.End.TheVariants as ends
 use Rattle.oe_findings.specs.List.{entries, runway_key}
@@ -33,16 +33,11 @@ returns-clause-taken g c =
     let x4 = primary_transition_excess r at cap top in
     let x5 = approach_transition_excess r ends.One at cap top in
     let x6 = approach_transition_excess r ends.Two at cap top in
-    let e1 : c.excess_primary.result ≡ x1 = simp to_z-of_z at c.excess_primary.ensures.value in
-    let e2 : c.excess_approach.result ≡ x2 = simp to_z-of_z at c.excess_approach.ensures.value in
-    let e3 : c.excess_approach-2.result ≡ x3 = simp to_z-of_z at c.excess_approach-2.ensures.value in
-    let e4 : c.excess_transition_primary-beside.result ≡ x4 = simp to_z-of_z at c.excess_transition_primary-beside.ensures.value in
-    let e5 : c.excess_transition_approach-first.result ≡ x5 = simp to_z-of_z at c.excess_transition_approach-first.ensures.value in
-    let e6 : c.excess_transition_approach-second.result ≡ x6 = simp to_z-of_z at c.excess_transition_approach-second.ensures.value in
+    let es = simp to_z-of_z at c.excesses-excesses.ensures.value in
     six o0 o1 o2 o3 o4 o5 o6 (entries rules.Primary (key 0) x1) (entries rules.Approach (key 1) x2) (entries rules.Approach (key 2) x3) (entries rules.Transition (key 0) x4) (entries rules.Transition (key 1) x5) (entries rules.Transition (key 2) x6)
-    (named o0 o1 rules.Primary (named_so 0) (key 0) c.excess_primary.result x1 (same 0) e1 c.in_ok-put_on_runway.ensures.taken)
-    (named o1 o2 rules.Approach (named_so 1) (key 1) c.excess_approach.result x2 (same 1) e2 c.in_ok-put_on_runway-2.ensures.taken)
-    (named o2 o3 rules.Approach (named_so 2) (key 2) c.excess_approach-2.result x3 (same 2) e3 c.in_ok-put_on_runway-3.ensures.taken)
-    (named o3 o4 rules.Transition (named_so 0) (key 0) c.excess_transition_primary-beside.result x4 (same 0) e4 c.in_ok-put_on_runway-4.ensures.taken)
-    (named o4 o5 rules.Transition (named_so 1) (key 1) c.excess_transition_approach-first.result x5 (same 1) e5 c.in_ok-put_on_runway-5.ensures.taken)
-    (named o5 o6 rules.Transition (named_so 2) (key 2) c.excess_transition_approach-second.result x6 (same 2) e6 c.in_ok-put_on_runway-6.ensures.taken)
+    (named o0 o1 rules.Primary (named_so 0) (key 0) c.excesses-excesses.result.primary x1 (same 0) es.primary c.in_ok-put_on_runway.ensures.taken)
+    (named o1 o2 rules.Approach (named_so 1) (key 1) c.excesses-excesses.result.approach1 x2 (same 1) es.approach1 c.in_ok-put_on_runway-2.ensures.taken)
+    (named o2 o3 rules.Approach (named_so 2) (key 2) c.excesses-excesses.result.approach2 x3 (same 2) es.approach2 c.in_ok-put_on_runway-3.ensures.taken)
+    (named o3 o4 rules.Transition (named_so 0) (key 0) c.excesses-excesses.result.beside_primary x4 (same 0) es.beside_primary c.in_ok-put_on_runway-4.ensures.taken)
+    (named o4 o5 rules.Transition (named_so 1) (key 1) c.excesses-excesses.result.beside_approach1 x5 (same 1) es.beside_approach1 c.in_ok-put_on_runway-5.ensures.taken)
+    (named o5 o6 rules.Transition (named_so 2) (key 2) c.excesses-excesses.result.beside_approach2 x6 (same 2) es.beside_approach2 c.in_ok-put_on_runway-6.ensures.taken)

@@ -1,6 +1,6 @@
 use Rattle.std.proofs.Common.{FitsSigned, w64, sym, ap, ◌∙◌, rules}
 use Rattle.std.proofs.lemmas.Int.{to_z-of_z}
-use Rattle.airport_register.specs.Airfields.{id_of}
+use Rattle.airfields.specs.Airfields.{id_of}
 use Rattle.airport_register.proofs.Rules.{found_named, held_put, held_with, held_without, held_heliport}
 use Rattle.airport_register.proofs.register.Register.amended.Goals as goal
 

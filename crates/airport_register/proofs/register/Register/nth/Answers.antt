@@ -1,11 +1,10 @@
-use Rattle.std.proofs.Common.{sym}
+use Rattle.std.proofs.Common.{sym, ap, ◌∙◌}
 use Rattle.std.specs.Arc.{arc_value}
-use Rattle.airport_register.proofs.Fields.{field_at_read, field_none, nth_held}
+use Rattle.std.specs.Option.{option_map}
+use Rattle.std.proofs.lemmas.Option.{slice_get-map}
+use Rattle.airport_register.proofs.Fields.{nth_held}
 use Rattle.airport_register.proofs.register.Register.nth.Goals as goal
 
-pub returns-then-i-items-clause-held : goal.returns-then-i-items-clause-held
-returns-then-i-items-clause-held c =
-    nth_held _ c.args.i _ c.self.invariant.held (field_at_read arc_value _ _ c.args.i _ _ c.as_slice-items.ensures.value c.if-i-items.true c.index-items-i.is c.deref.ensures)
-
-pub returns-else-i-items-clause-place : goal.returns-else-i-items-clause-place
-returns-else-i-items-clause-place c = rw (← c.self.view_is) (sym (field_none arc_value _ _ c.args.i c.as_slice-items.ensures.value c.if-i-items.false))
+pub returns-clause-held : goal.returns-clause-held
+returns-clause-held c =
+    rw c.deref.ensures (nth_held _ c.args.i _ c.self.invariant.held (slice_get-map arc_value _ c.args.i ∙ sym (ap (option_map arc_value) c.in_ok-get.ensures)))

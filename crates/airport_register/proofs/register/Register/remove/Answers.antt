@@ -1,37 +1,24 @@
 use Rattle.std.proofs.Common.{refl, sym}
 use Rattle.std.specs.Arc.{arc_value}
-use Rattle.airport_register.proofs.Fields.{field_removed, field_kept, field_read, field_missing, register_removed, removed_missing}
+use Rattle.std.proofs.lemmas.Cmp.{nat_list_cmp_total}
+use Rattle.ordered_list.proofs.Finding.{removed_missing}
+use Rattle.ordered_list.proofs.Mapped.{found-mapped, removed-mapped}
+use Rattle.airfields.specs.Names.{name_cmp}
+use Rattle.airfields.specs.Airfields.{id_of}
+use Rattle.airport_register.proofs.Fields.{register_removed}
 use Rattle.airport_register.proofs.register.Register.remove.Goals as goal
 
 pub invariant_of-self : goal.invariant_of-self
-invariant_of-self c =
-    register_removed c.args.id.now _ _ c.self.invariant
-    (field_removed arc_value c.args.id.now _ _ _ c.in-Ok.i c.remove-taken.result c.self.invariant c.as_slice.ensures.value c.remove-taken.ensures.items c.in-Ok.ensures.within c.in-Ok.ensures.found)
+invariant_of-self c = register_removed c.args.id.now _ _ c.self.invariant (removed-mapped name_cmp id_of arc_value c.args.id.now _ _ c.remove.ensures.removed)
 
-pub returns-in-Ok-clause-removed : goal.returns-in-Ok-clause-removed
-returns-in-Ok-clause-removed c =
-    rw (← c.self.view_is)
-    (field_removed arc_value c.args.id.now _ _ _ c.in-Ok.i c.remove-taken.result c.self.invariant c.as_slice.ensures.value c.remove-taken.ensures.items c.in-Ok.ensures.within c.in-Ok.ensures.found)
+pub returns-clause-removed : goal.returns-clause-removed
+returns-clause-removed c = rw (← c.self.view_is) (removed-mapped name_cmp id_of arc_value c.args.id.now _ _ c.remove.ensures.removed)
 
-pub returns-in-Ok-clause-change : goal.returns-in-Ok-clause-change
-returns-in-Ok-clause-change c =
-    let gone = field_removed arc_value c.args.id.now _ _ _ c.in-Ok.i c.remove-taken.result c.self.invariant c.as_slice.ensures.value c.remove-taken.ensures.items c.in-Ok.ensures.within c.in-Ok.ensures.found in
-    let read = field_read arc_value c.args.id.now _ _ c.in-Ok.i c.remove-taken.result (arc_value c.remove-taken.result) c.self.invariant c.as_slice.ensures.value c.remove-taken.ensures.value refl c.in-Ok.ensures.within c.in-Ok.ensures.found in
+pub returns-clause-change : goal.returns-clause-change
+returns-clause-change c =
+    let gone = removed-mapped name_cmp id_of arc_value c.args.id.now _ _ c.remove.ensures.removed in
     record {
       named = refl;
-      was = rw (← c.self.view_is) (sym read);
-      is_now = sym (removed_missing c.args.id.now _ _ gone);
-    }
-
-pub returns-in-Err-clause-removed : goal.returns-in-Err-clause-removed
-returns-in-Err-clause-removed c =
-    rw (← c.self.view_is) (field_kept arc_value c.args.id.now _ _ c.in-Err.field-0 c.self.invariant c.as_slice.ensures.value c.in-Err.ensures.found)
-
-pub returns-in-Err-clause-change : goal.returns-in-Err-clause-change
-returns-in-Err-clause-change c =
-    let missing = field_missing arc_value c.args.id.now _ _ c.in-Err.field-0 c.self.invariant c.as_slice.ensures.value c.in-Err.ensures.found in
-    record {
-      named = refl;
-      was = rw (← c.self.view_is) (sym missing);
-      is_now = rw (← c.self.view_is) (sym missing);
+      was = rw (← c.self.view_is) (found-mapped name_cmp id_of arc_value c.args.id.now _ _ c.remove.ensures.taken);
+      is_now = sym (removed_missing name_cmp nat_list_cmp_total id_of c.args.id.now _ _ gone);
     }

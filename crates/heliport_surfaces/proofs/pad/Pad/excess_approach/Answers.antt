@@ -1,20 +1,20 @@
-use Rattle.std.proofs.Common.{FitsSigned, w64, to_z-of_z, subst}
-use Rattle.grid_exact.specs.Excess.{IsExcess}
-use Rattle.heliport_surfaces.specs.Approaches.{Approach, approach}
+use Rattle.std.proofs.Common.{◌≡◌, FitsSigned, w64, sym, to_z-of_z, ◌∙◌}
+use Rattle.airfields.specs.Categories.{is_described}
+use Rattle.heliport_surfaces.specs.Approaches.{excess_over_approach}
+use Rattle.heliport_surfaces.specs.Pads.{approach_of, pad_approach_excess}
 use Rattle.heliport_surfaces.specs.Shapes.{approach_shape}
-use Rattle.heliport_surfaces.specs.Pads.{pad_approach}
-use Rattle.heliport_surfaces.proofs.PadFacts.{approach_listed}
+use Rattle.heliport_surfaces.proofs.PadFacts.{pad_approach-IsExcess, there}
 use Rattle.heliport_surfaces.proofs.pad.Pad.excess_approach.Goals as goal
-use Rattle.heliport_surfaces.proofs.pad.Pad.excess_approach.Goals.{After-excess}
-
-exact : (c : goal.After-excess) → IsExcess (pad_approach c.args.self.now c.args.end c.args.x.now) c.args.top c.excess.result
-exact c =
-    let ft : FitsSigned w64 c.args.top = c.ranges.top in
-    let h : IsExcess (approach (approach_shape c.approach.result.now) c.args.x.now) c.args.top c.excess.result = simp to_z-of_z at c.excess.ensures.exact in
-    subst (λ (a : Approach). IsExcess (approach a c.args.x.now) c.args.top c.excess.result) c.approach.ensures.shape h
 
 pub returns-clause-exact : goal.returns-clause-exact
-returns-clause-exact c = exact c
-
-pub returns-clause-value : goal.returns-clause-value
-returns-clause-value c = approach_listed c.args.self.now c.args.end c.args.x.now c.args.top c.excess.result c.excess.ensures.size (exact c)
+unfolding pad_approach_excess
+returns-clause-exact c =
+    let h = c.args.self.now in
+    let x = c.args.x.now in
+    let r = c.excess.result in
+    let ft : FitsSigned w64 c.args.top = c.ranges.top in
+    let described = sym c.is_described.ensures.described ∙ c.if-not-is_described.false in
+    let value : r ≡ pad_approach_excess h c.args.end x c.args.top =
+    there (is_described h.category) excess_over_approach (λ p. p.line) (approach_shape c.approach-approach.result.now) (approach_of h c.args.end) c.offset.result.offset x c.args.top r
+    described c.approach-approach.ensures c.offset.ensures (simp to_z-of_z at c.excess.ensures) in
+    rw value (pad_approach-IsExcess h c.args.end x c.args.top c.is_described.ensures.held c.requires.top)

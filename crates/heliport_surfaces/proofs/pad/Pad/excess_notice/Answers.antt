@@ -1,23 +1,20 @@
-use Rattle.std.proofs.Common.{FitsSigned, w64, to_z-of_z, subst}
-use Rattle.grid_exact.specs.Excess.{IsExcess}
-use Rattle.airport_register.specs.declared.airfield.Heliport.{Heliport}
-use Rattle.heliport_surfaces.specs.Landings.{Landing}
-use Rattle.heliport_surfaces.specs.Notices.{notice}
+use Rattle.std.proofs.Common.{◌≡◌, FitsSigned, w64, sym, to_z-of_z, ◌∙◌}
+use Rattle.airfields.specs.Categories.{is_described}
+use Rattle.heliport_surfaces.specs.Notices.{excess_over_notice}
+use Rattle.heliport_surfaces.specs.Pads.{landing_of, pad_notice_excess}
 use Rattle.heliport_surfaces.specs.Shapes.{landing_shape}
-use Rattle.heliport_surfaces.specs.Pads.{pad_notice}
-use Rattle.heliport_surfaces.proofs.PadFacts.{notice_listed}
+use Rattle.heliport_surfaces.proofs.PadFacts.{pad_notice-IsExcess, there}
 use Rattle.heliport_surfaces.proofs.pad.Pad.excess_notice.Goals as goal
-use Rattle.heliport_surfaces.proofs.pad.Pad.excess_notice.Goals.{After-excess_notice}
-
-exact : (c : goal.After-excess_notice) → IsExcess (pad_notice c.args.self.now c.args.x.now) c.args.top c.excess_notice.result
-exact c =
-    let ft : FitsSigned w64 c.args.top = c.ranges.top in
-    let h : IsExcess (notice (landing_shape c.self.inside.landing) c.args.x.now) c.args.top c.excess_notice.result = simp to_z-of_z at c.excess_notice.ensures.exact in
-    subst (λ (p : Heliport). IsExcess (pad_notice p c.args.x.now) c.args.top c.excess_notice.result) c.self.view_is
-    (subst (λ (l : Landing). IsExcess (notice l c.args.x.now) c.args.top c.excess_notice.result) c.self.invariant.landing_is h)
 
 pub returns-clause-exact : goal.returns-clause-exact
-returns-clause-exact c = exact c
-
-pub returns-clause-value : goal.returns-clause-value
-returns-clause-value c = notice_listed c.args.self.now c.args.x.now c.args.top c.excess_notice.result c.excess_notice.ensures.size (exact c)
+unfolding pad_notice_excess
+returns-clause-exact c =
+    let h = c.args.self.now in
+    let x = c.args.x.now in
+    let r = c.excess_notice.result in
+    let ft : FitsSigned w64 c.args.top = c.ranges.top in
+    let described = sym c.is_described.ensures.described ∙ c.if-not-is_described.false in
+    let value : r ≡ pad_notice_excess h x c.args.top =
+    there (is_described h.category) excess_over_notice (λ p. p.line) (landing_shape c.landing-landing.result.now) (landing_of h) c.offset.result.offset x c.args.top r
+    described c.landing-landing.ensures c.offset.ensures (simp to_z-of_z at c.excess_notice.ensures) in
+    rw value (pad_notice-IsExcess h x c.args.top c.is_described.ensures.held c.requires.top)

@@ -1,7 +1,8 @@
 use Rattle.std.proofs.Common.{◌≤◌, unsigned_abs, FitsSigned, to_z-of_z, arith}
 use Rattle.std.specs.Int.{w128}
 use Rattle.std.proofs.lemmas.Int.{ints}
-use Rattle.horizontal_hull.proofs.Sizes.{along_size, across_size, square_size}
+use Rattle.horizontal_hull.specs.declared.sizes.TheConstants.{CENTERS_APART, POINT_APART}
+use Rattle.horizontal_hull.proofs.BandSizes.{along_size, across_size, square_size}
 use Rattle.horizontal_hull.proofs.band.Band.of.Goals as goal
 
 pub invariant_of-result : goal.invariant_of-result
@@ -9,10 +10,10 @@ invariant_of-result c =
     let near = c.requires.near in
     let way = c.to_arc-way.result in
     let seen = c.to_point-seen.result in
-    let ex : unsigned_abs way.x ≤ 804000 = rw c.to_arc-way.ensures.x near.way_x in
-    let ey : unsigned_abs way.y ≤ 804000 = rw c.to_arc-way.ensures.y near.way_y in
-    let vx : unsigned_abs seen.x ≤ 944000 = rw c.to_point-seen.ensures.x near.first_x in
-    let vy : unsigned_abs seen.y ≤ 944000 = rw c.to_point-seen.ensures.y near.first_y in
+    let ex : unsigned_abs way.x ≤ CENTERS_APART = rw c.to_arc-way.ensures.x near.way_x in
+    let ey : unsigned_abs way.y ≤ CENTERS_APART = rw c.to_arc-way.ensures.y near.way_y in
+    let vx : unsigned_abs seen.x ≤ POINT_APART = rw c.to_point-seen.ensures.x near.first_x in
+    let vy : unsigned_abs seen.y ≤ POINT_APART = rw c.to_point-seen.ensures.y near.first_y in
     let fd : FitsSigned w128 c.dot.result = omega (arith, ints, c.dot.ensures.size) in
     let fc : FitsSigned w128 c.cross.result = omega (arith, ints, c.cross.ensures.size) in
     record {

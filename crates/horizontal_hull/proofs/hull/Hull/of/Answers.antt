@@ -1,8 +1,9 @@
-use Rattle.std.proofs.Common.{◌≡◌, ◌∙◌, refl, ℤ, ◌+ℤ◌, pos, List, ap, arith, sym, subst, FitsSigned, w64, to_z, of_z, to_z-of_z}
-use Rattle.std.specs.List.{All, flat_map}
+use Rattle.std.proofs.Common.{◌≡◌, ◌∙◌, refl, ℤ, ◌+ℤ◌, List, arith, sym, subst, FitsSigned, w64, to_z, of_z, to_z-of_z}
+use Rattle.std.specs.List.{All}
 use Rattle.std.proofs.lemmas.Int.{ints}
-use Rattle.airport_register.specs.Runways.{IsElevation}
-use Rattle.horizontal_hull.specs.Arcs.{ArcShape, Dome, arcs_of_runway, dome_of}
+use Rattle.airfields.specs.Runways.{IsElevation}
+use Rattle.horizontal_hull.specs.Arcs.{ArcShape, Dome, arcs_of, dome_of}
+use Rattle.horizontal_hull.specs.declared.sizes.TheConstants.{HORIZONTAL_RISE}
 use Rattle.horizontal_hull.specs.Close.{IsNearReference}
 use Rattle.horizontal_hull.specs.Reaches.{IsReached}
 use Rattle.horizontal_hull.proofs.ArcFacts.{arcs_near}
@@ -14,13 +15,13 @@ dome xs z = record { arcs = xs; level = z }
 pub extent-reach-requires : goal.extent-reach-requires
 extent-reach-requires c =
     let arp = c.args.a.now.arp in
-    record { near = subst (λ (xs : List ArcShape). All (IsNearReference arp) xs) (sym (c.as_slice-2.ensures.value ∙ c.in_ok-arcs.ensures.arcs ∙ ap (flat_map arcs_of_runway) c.as_slice.ensures.value)) (arcs_near arp c.args.a.now.runways c.requires.held.near) }
+    record { near = subst (λ (xs : List ArcShape). All (IsNearReference arp) xs) (sym (c.as_slice.ensures.value ∙ c.in_ok-arcs.ensures.arcs)) (arcs_near c.args.a.now c.requires.held.near) }
 
 -- the level as the code computes it
-raised : (z : ℤ) → IsElevation z → to_z w64 (of_z w64 (to_z w64 (of_z w64 z) +ℤ pos 1500)) ≡ z +ℤ pos 1500
+raised : (z : ℤ) → IsElevation z → to_z w64 (of_z w64 (to_z w64 (of_z w64 z) +ℤ HORIZONTAL_RISE)) ≡ z +ℤ HORIZONTAL_RISE
 raised z h =
     let fz : FitsSigned w64 z = omega (arith, ints, h.least, h.most) in
-    let fr : FitsSigned w64 (z +ℤ pos 1500) = omega (arith, ints, h.least, h.most) in
+    let fr : FitsSigned w64 (z +ℤ HORIZONTAL_RISE) = omega (arith, ints, h.least, h.most) in
     simp to_z-of_z refl
 
 pub invariant_of-result : goal.invariant_of-result
@@ -28,7 +29,7 @@ invariant_of-result c =
     let e = c.requires.held.elevation in
     rw (raised c.args.a.now.elevation e)
     (record {
-      reached = subst (λ (xs : List ArcShape). All (IsReached c.extent-reach.result) xs) c.as_slice-2.ensures.value c.extent-reach.ensures.reached;
+      reached = subst (λ (xs : List ArcShape). All (IsReached c.extent-reach.result) xs) c.as_slice.ensures.value c.extent-reach.ensures.reached;
       small = c.extent-reach.ensures.small;
       level_size = omega (arith, ints, e.least, e.most);
     })
@@ -39,6 +40,6 @@ domed xs ys y z p q = rw (p, q) refl
 pub returns : goal.returns
 unfolding dome_of
 returns c = record {
-  dome = domed c.in_ok-arcs.arcs.items (flat_map arcs_of_runway c.args.a.now.runways) (to_z w64 (of_z w64 (to_z w64 (of_z w64 c.args.a.now.elevation) +ℤ pos 1500))) (c.args.a.now.elevation +ℤ pos 1500)
-      (c.in_ok-arcs.ensures.arcs ∙ ap (flat_map arcs_of_runway) c.as_slice.ensures.value) (raised c.args.a.now.elevation c.requires.held.elevation);
+  dome = domed c.in_ok-arcs.arcs.items (arcs_of c.args.a.now) (to_z w64 (of_z w64 (to_z w64 (of_z w64 c.args.a.now.elevation) +ℤ HORIZONTAL_RISE))) (c.args.a.now.elevation +ℤ HORIZONTAL_RISE)
+      c.in_ok-arcs.ensures.arcs (raised c.args.a.now.elevation c.requires.held.elevation);
 }

@@ -1,16 +1,8 @@
 use Rattle.std.proofs.Common.{FitsSigned, w64, to_z-of_z, arith}
 use Rattle.std.specs.Int.{w128}
 use Rattle.std.proofs.lemmas.Int.{ints}
-use Rattle.grid_exact.proofs.Sizes.{ProductFits-small, widen}
+use Rattle.grid_exact.proofs.Sizes.{widen}
 use Rattle.imaginary_surfaces.proofs.approach.ApproachSurface.is_not_past.Goals as goal
-
-pub is_at_most_root-requires-clause-right : goal.is_at_most_root-requires-clause-right
-is_at_most_root-requires-clause-right c =
-    let l = c.args.self.now.class.length in
-    let sized = c.args.self.now.sound.sized in
-    let fl : FitsSigned w64 l = omega (arith, ints, sized.length_least, sized.length_most) in
-    let fw : FitsSigned w128 l = widen l fl in
-    simp to_z-of_z (ProductFits-small l c.square.result (omega (arith, ints, sized.length_least, sized.length_most)) (omega (arith, c.square.ensures.size.size)))
 
 pub returns : goal.returns
 returns c =

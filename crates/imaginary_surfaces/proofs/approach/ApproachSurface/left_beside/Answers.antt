@@ -1,11 +1,9 @@
-use Rattle.std.proofs.Common.{◌≡◌, ◌≤◌, ◌*◌, ◌+◌, ◌^◌, pos, ◌+ℤ◌, ◌*ℤ◌, ◌<ℤ◌, unsigned_abs, FitsSigned, w64, to_z-of_z, arith, ◌∙◌}
+use Rattle.std.proofs.Common.{◌≡◌, ◌≤◌, ◌*◌, ◌+◌, ◌^◌, pos, ◌+ℤ◌, ◌*ℤ◌, ◌<ℤ◌, unsigned_abs, FitsSigned, w64, to_z-of_z, arith, ap}
 use Rattle.std.specs.Int.{w128}
 use Rattle.std.proofs.lemmas.Int.{ints}
 use Rattle.std.proofs.lemmas.Nat.{mul-le}
-use Rattle.grid_exact.specs.Lines.{along, aside}
-use Rattle.imaginary_surfaces.specs.Approaches.{slope_at}
 use Rattle.imaginary_surfaces.specs.Shapes.{approach_shape}
-use Rattle.imaginary_surfaces.proofs.TransitionFacts.{left_is, left_positive, outside_positive}
+use Rattle.imaginary_surfaces.proofs.TransitionFacts.{left_positive, outside_positive}
 use Rattle.imaginary_surfaces.proofs.approach.ApproachSurface.left_beside.Goals as goal
 use Rattle.imaginary_surfaces.proofs.approach.ApproachSurface.left_beside.Goals.{After-scale-2, After-plus}
 
@@ -24,7 +22,7 @@ along_part c =
     let fm : FitsSigned w128 c.along.result = omega (arith, ints) in
     let fp : FitsSigned w128 c.scale-2.result = omega (arith, ints) in
     let e : unsigned_abs c.scale-2.result ≡ 280 * unsigned_abs c.along.result = simp to_z-of_z at c.scale-2.ensures.size in
-    (simp to_z-of_z at c.scale-2.ensures.value, omega (arith, e, c.along.ensures.size))
+    (simp to_z-of_z at c.scale-2.ensures.value, omega (arith, e, ap unsigned_abs c.along.ensures.value, c.along.ensures.reach.size))
 
 pub plus-requires-clause-left : goal.plus-requires-clause-left
 plus-requires-clause-left c =
@@ -41,15 +39,14 @@ sum c =
 pub returns-clause-value : goal.returns-clause-value
 returns-clause-value c =
     let fr : FitsSigned w128 c.plus.result = omega (arith, ints) in
-    let e = left_is (slope_at (approach_shape c.args.self.now) c.args.point.now) c.args.self.now.class.k (along (approach_shape c.args.self.now).line c.args.point.now) (aside (approach_shape c.args.self.now).line c.args.point.now) in
     let parts = (goal.at.returns-clause-value c).After-scale-2 in
     let h = rw ((aside_part parts).0, (along_part parts).0, c.requires.slope, c.outside.ensures.value, c.along.ensures.value) at (sum (goal.at.returns-clause-value c).After-plus).0 in
-    simp to_z-of_z (h ∙ e)
+    simp to_z-of_z h
 
 pub returns-clause-positive : goal.returns-clause-positive
 returns-clause-positive c =
     let fr : FitsSigned w128 c.plus.result = omega (arith, ints) in
-    let out = outside_positive (approach_shape c.args.self.now) c.args.point.now c.args.self.now.sound.wide c.args.self.now.axis.square c.requires.reaches in
+    let out = outside_positive (approach_shape c.args.self.now) c.args.at.now c.args.self.now.sound.wide c.requires.line.some c.requires.reaches in
     let far : pos 0 <ℤ c.outside.result = rw c.outside.ensures.value out in
     let ahead : pos 0 <ℤ c.along.result = rw c.along.ensures.value c.requires.reaches.ahead in
     let parts = (goal.at.returns-clause-positive c).After-scale-2 in

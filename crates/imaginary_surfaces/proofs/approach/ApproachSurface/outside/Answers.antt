@@ -1,4 +1,4 @@
-use Rattle.std.proofs.Common.{◌≤◌, ◌*◌, ◌^◌, ℤ, unsigned_abs, FitsSigned, w64, to_z-of_z, arith}
+use Rattle.std.proofs.Common.{◌≤◌, ◌*◌, ◌^◌, ℤ, unsigned_abs, FitsSigned, w64, to_z-of_z, arith, ap}
 use Rattle.std.specs.Int.{w128}
 use Rattle.std.proofs.lemmas.Nat.{mul-le}
 use Rattle.std.proofs.lemmas.Int.{ints}
@@ -22,7 +22,7 @@ minus-requires-clause-right c =
     let fk : FitsSigned w64 e.k = k_fits e sized in
     let fm : FitsSigned w128 c.along.result = omega (arith, ints) in
     let ft : FitsSigned w128 c.scale-2.result = omega (arith, ints) in
-    simp to_z-of_z (omega (arith, simp to_z-of_z at c.scale-2.ensures.size, grown e.k c.along.result (k_size e sized) c.along.ensures.size))
+    simp to_z-of_z (omega (arith, simp to_z-of_z at c.scale-2.ensures.size, grown e.k c.along.result (k_size e sized) (rw c.along.ensures.value c.along.ensures.reach.size)))
 
 pub returns-clause-size : goal.returns-clause-size
 returns-clause-size c =
@@ -34,6 +34,6 @@ returns-clause-size c =
     let fs : FitsSigned w128 c.scale.result = omega (arith, ints) in
     let ft : FitsSigned w128 c.scale-2.result = omega (arith, ints) in
     let fr : FitsSigned w128 c.minus.result = omega (arith, ints) in
-    let near : unsigned_abs c.scale.result ≤ 40 * 2 ^ 45 = omega (arith, simp to_z-of_z at c.scale.ensures.size, c.aside.ensures.size) in
-    let far : unsigned_abs c.scale-2.result ≤ 6 * 2 ^ 45 = omega (arith, simp to_z-of_z at c.scale-2.ensures.size, grown e.k c.along.result (k_size e sized) c.along.ensures.size) in
+    let near : unsigned_abs c.scale.result ≤ 40 * 2 ^ 45 = omega (arith, simp to_z-of_z at c.scale.ensures.size, ap unsigned_abs c.aside.ensures.value, c.aside.ensures.reach.size) in
+    let far : unsigned_abs c.scale-2.result ≤ 6 * 2 ^ 45 = omega (arith, simp to_z-of_z at c.scale-2.ensures.size, grown e.k c.along.result (k_size e sized) (rw c.along.ensures.value c.along.ensures.reach.size)) in
     simp to_z-of_z (omega (arith, simp to_z-of_z at c.minus.ensures.size, near, far))

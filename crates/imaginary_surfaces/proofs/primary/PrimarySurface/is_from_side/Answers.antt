@@ -9,7 +9,7 @@ is_at_least_root-requires-clause-right c =
     let w = c.args.self.now.width in
     let fw : FitsSigned w64 w = omega (arith, ints, c.args.self.now.wide.least, c.args.self.now.wide.most) in
     let fx : FitsSigned w128 w = widen w fw in
-    simp to_z-of_z (ProductFits-small w c.square.result (omega (arith, ints, c.args.self.now.wide.least, c.args.self.now.wide.most)) (omega (arith, c.square.ensures.size.size)))
+    simp to_z-of_z (ProductFits-small w c.square.result (omega (arith, ints, c.args.self.now.wide.least, c.args.self.now.wide.most)) (omega (arith, c.square.ensures.line.size)))
 
 pub returns : goal.returns
 returns c =

@@ -1,11 +1,11 @@
 use Rattle.std.proofs.Common.{◌≡◌, ◌≤◌, ℤ, unsigned_abs, FitsSigned, w64, to_z, of_z, to_z-of_z, arith, ap, subst, refl}
 use Rattle.std.proofs.lemmas.Int.{ints}
-use Rattle.airport_register.specs.declared.runway.Runway.{Runway}
+use Rattle.airfields.specs.declared.runway.Runway.{Runway}
 use Rattle.runway_lines.specs.declared.end.End.TheVariants.{One, Two}
 use Rattle.imaginary_surfaces.specs.declared.strip.Strip.TheInside.{Inside}
 use Rattle.imaginary_surfaces.specs.Approaches.{Approach}
 use Rattle.imaginary_surfaces.specs.Prepared.{IsPrepared}
-use Rattle.airport_register.specs.Runways.{IsProper}
+use Rattle.airfields.specs.Runways.{IsProper}
 use Rattle.imaginary_surfaces.specs.Shapes.{approach_shape}
 use Rattle.runway_lines.specs.Ends.{center_x, center_y, centers}
 use Rattle.imaginary_surfaces.specs.Strips.{approach_of}

@@ -1,7 +1,7 @@
 use Rattle.std.proofs.Common.{◌≡◌, ℤ, List, ap, sym, ◌∙◌, subst, FitsSigned, w64, to_z, of_z, to_z-of_z, arith}
 use Rattle.std.proofs.lemmas.Int.{ints}
-use Rattle.airport_register.specs.declared.runway.Runway.{Runway}
-use Rattle.airport_register.specs.declared.airfield.Airport.{Airport}
+use Rattle.airfields.specs.declared.runway.Runway.{Runway}
+use Rattle.airfields.specs.declared.airfield.Airport.{Airport}
 use Rattle.oe_findings.specs.PreparedAirports.{IsPreparedAirport}
 use Rattle.oe_findings.proofs.prepared_airport.PreparedAirport.of.Goals as goal
 

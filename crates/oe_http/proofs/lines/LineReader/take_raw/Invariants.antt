@@ -1,13 +1,15 @@
 use Rattle.std.proofs.Common.{◌≡◌, ◌<◌, ◌≤◌, ◌+◌, ◌-◌, true, length}
-use Rattle.oe_http.specs.Lines.{HasRead}
+use Rattle.oe_http.specs.Lines.{HasFeed}
+use Rattle.oe_http.specs.Pieces.{HasRead}
 use Rattle.oe_http.specs.Pending.{unread, most_left, FellBy}
 use Rattle.oe_http.proofs.lines.LineReader.take_raw.Given as goal
 
-abbrev pub invariant-loop-byte : goal.invariant-loop-byte
-invariant-loop-byte g l =
+abbrev pub invariant-loop-self : goal.invariant-loop-self
+invariant-loop-self g l =
     let left = g.S.Source.left in
     record {
       read : HasRead (unread l.fn.self (left l.fn.source)) (unread l.self (left l.source)) l.is_long l.line.items;
+      still : HasFeed l.fn.self.bytes → (l.self ≡ l.fn.self) × (l.source ≡ l.fn.source);
       turns : most_left l.self + length l.line.items ≤ most_left l.fn.self;
       turns_long : l.is_long ≡ true → most_left l.self < most_left l.fn.self;
       more : l.fn.self.taken ≤ l.self.taken;
@@ -15,5 +17,5 @@ invariant-loop-byte g l =
       later : g.S.Source.faults l.fn.source ≤ g.S.Source.faults l.source;
     }
 
-abbrev pub decreases-loop-byte : goal.decreases-loop-byte
-decreases-loop-byte g l = most_left l.self
+abbrev pub decreases-loop-self : goal.decreases-loop-self
+decreases-loop-self g l = most_left l.self

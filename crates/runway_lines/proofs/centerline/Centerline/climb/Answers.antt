@@ -1,8 +1,6 @@
 use Rattle.std.proofs.Common.{◌≡◌, ◌≤◌, pos, ◌*ℤ◌, unsigned_abs, FitsSigned, w64, to_z, to_z-of_z, arith}
 use Rattle.std.specs.Int.{w128, int_div_euclid}
 use Rattle.std.proofs.lemmas.Int.{ints, to_z_pos}
-use Rattle.grid_exact.specs.Lines.{square}
-use Rattle.grid_exact.specs.Axes.{line_of}
 use Rattle.runway_lines.proofs.ElevationFacts.{climb_size}
 use Rattle.runway_lines.proofs.centerline.Centerline.climb.Goals as goal
 use Rattle.runway_lines.proofs.centerline.Centerline.climb.Goals.{After-div_euclid}
@@ -13,14 +11,14 @@ quotient c =
     let fp : FitsSigned w128 c.progress.result = omega (arith, ints) in
     let fs : FitsSigned w128 c.scale.result = omega (arith, ints) in
     let es : c.scale.result ≡ c.args.self.now.rise *ℤ c.progress.result = simp to_z-of_z at c.scale.ensures.value in
-    let en : to_z w128 c.square-square.result ≡ pos c.square-square.result = to_z_pos w128 c.square-square.result (omega (arith, c.square-square.ensures.size.size)) in
+    let en : to_z w128 c.square-square.result ≡ pos c.square-square.result = to_z_pos w128 c.square-square.result (omega (arith, c.square-square.ensures.value, c.square-square.ensures.line.size)) in
     rw (en, es) at (simp to_z-of_z at c.div_euclid.ensures)
 
 size : (c : goal.After-div_euclid) → unsigned_abs c.div_euclid.result ≤ unsigned_abs c.args.self.now.rise
 size c =
-    let e : c.square-square.result ≡ square (line_of c.args.self.now.axis) = c.square-square.ensures.value in
-    rw (quotient c)
-    (climb_size c.args.self.now.rise c.progress.result c.square-square.result c.square-square.ensures.size.some c.progress.ensures.least (rw e c.progress.ensures.most))
+    let e : c.square-square.result ≡ c.args.at.now.square = c.square-square.ensures.value in
+    rw (quotient c, e)
+    (climb_size c.args.self.now.rise c.progress.result c.args.at.now.square c.square-square.ensures.line.some c.progress.ensures.least c.progress.ensures.most)
 
 pub overflow_cast-result : goal.overflow_cast-result
 overflow_cast-result c =

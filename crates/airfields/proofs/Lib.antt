@@ -1,0 +1,3 @@
+pub mod Lengths
+pub mod WithinLimits
+pub mod NameText

@@ -1,0 +1,85 @@
+-- Runways, and the limits of one runway.
+use Rattle.std.specs.Prelude.{ℕ, ◌+◌, ◌*◌, ◌≤◌, ◌≡◌, ◌≢◌, List, Option, ℤ, ◌-ℤ◌, ◌≤ℤ◌, int_le, unsigned_abs, Bool, true, false, ◌&&◌, ◌||◌, nat_le, nat_lt}
+use Rattle.runway_classes.specs.declared.ApproachKind.{ApproachKind}
+use Rattle.runway_classes.specs.declared.ApproachKind.TheVariants.{Visual, NonprecisionAbove, NonprecisionLow, Precision}
+use Rattle.grid_exact.specs.declared.point.Point.{Point}
+use Rattle.ordered_list.specs.Ordered.{found_by}
+use Rattle.airfields.specs.Names.{name_cmp}
+use Rattle.airfields.specs.declared.runway.Runway.{Runway}
+use Rattle.airfields.specs.declared.limits.TheConstants.{ELEVATION_LEAST, ELEVATION_MOST, RUNWAY_LEAST, RUNWAY_MOST, RUNWAY_REACH}
+use Rattle.airfields.specs.declared.runways.TheConstants.{LONG_RUNWAY}
+
+abbrev pub name_of : Runway → List ℕ
+name_of r = r.name
+
+-- the runway of this name
+abbrev pub runway_at : List Runway → List ℕ → Option Runway
+runway_at runways name = found_by name_cmp name_of name runways
+
+-- how far two coordinates are apart
+abbrev pub apart : ℤ → ℤ → ℕ
+apart a b = unsigned_abs (a -ℤ b)
+
+-- the square of the length, from end to end
+abbrev pub length_square : Runway → ℕ
+length_square r = apart r.end1.at.x r.end2.at.x * apart r.end1.at.x r.end2.at.x + apart r.end1.at.y r.end2.at.y * apart r.end1.at.y r.end2.at.y
+
+-- a runway of more than 3,200 feet
+abbrev pub is_long : Runway → Bool
+is_long r = nat_lt (LONG_RUNWAY * LONG_RUNWAY) (length_square r)
+
+-- the length of a runway is within its limits
+pub record IsWithinLength (r : Runway) : Type 0 where
+  pub least : RUNWAY_LEAST * RUNWAY_LEAST ≤ length_square r
+  pub most : length_square r ≤ RUNWAY_MOST * RUNWAY_MOST
+
+-- an elevation is within its limits
+pub record IsElevation (z : ℤ) : Type 0 where
+  pub least : ELEVATION_LEAST ≤ℤ z
+  pub most : z ≤ℤ ELEVATION_MOST
+
+-- the limits that a runway keeps by itself: its length, the elevations of both ends, and that no end of a utility runway
+-- is a precision one, for which 77.19 has no class
+pub record IsProper (r : Runway) : Type 0 where
+  pub within_length : IsWithinLength r
+  pub elevation1 : IsElevation r.end1.z
+  pub elevation2 : IsElevation r.end2.z
+  pub no_precision1 : r.utility ≡ true → r.end1.kind ≢ Precision
+  pub no_precision2 : r.utility ≡ true → r.end2.kind ≢ Precision
+
+-- a point is near enough to the reference point in each coordinate
+pub record IsNear (arp at : Point) : Type 0 where
+  pub x : apart at.x arp.x ≤ RUNWAY_REACH
+  pub y : apart at.y arp.y ≤ RUNWAY_REACH
+
+-- so are both ends of a runway
+pub record HasNearEnds (arp : Point) (r : Runway) : Type 0 where
+  pub end1 : IsNear arp r.end1.at
+  pub end2 : IsNear arp r.end2.at
+
+-- ---- the same as tests that compute
+
+abbrev pub is_within_length : Runway → Bool
+is_within_length r = nat_le (RUNWAY_LEAST * RUNWAY_LEAST) (length_square r) && nat_le (length_square r) (RUNWAY_MOST * RUNWAY_MOST)
+
+abbrev pub is_elevation : ℤ → Bool
+is_elevation z = int_le (ELEVATION_LEAST) z && int_le z (ELEVATION_MOST)
+
+abbrev pub has_elevations : Runway → Bool
+has_elevations r = is_elevation r.end1.z && is_elevation r.end2.z
+
+abbrev pub is_precision : ApproachKind → Bool
+is_precision Visual = false
+is_precision NonprecisionAbove = false
+is_precision NonprecisionLow = false
+is_precision Precision = true
+
+-- a utility runway has a precision end
+abbrev pub is_precision_on_utility : Runway → Bool
+is_precision_on_utility r = r.utility && (is_precision r.end1.kind || is_precision r.end2.kind)
+
+abbrev pub is_near : Point → Point → Bool
+is_near arp at = nat_le (apart at.x arp.x) RUNWAY_REACH && nat_le (apart at.y arp.y) RUNWAY_REACH
+
+abbrev pub has_near_ends : Point → Runway → Bool
+has_near_ends arp r = is_near arp r.end1.at && is_near arp r.end2.at

@@ -1,0 +1,76 @@
+//! A filing within its limits.
+
+ghost use Rattle.std.specs.Prelude.{◌≡◌, MatchResult};
+ghost use Rattle.airfields.specs.Sites.{IsSite, site, greatest_mobile};
+
+use crate::limits::{ELEVATION_LEAST, ELEVATION_MOST};
+use crate::names::FieldId;
+use crate::structure::{Filing, Flags, HEIGHT_LIMIT, StructureKind};
+use grid_exact::Point;
+
+/// The greatest height of a mobile object, in tenths of a foot.
+pub const MOBILE_LIMIT: i64 = 1_000;
+
+/// An elevation or height is outside its limit, or a mobile object's height is given for a kind that has none.
+#[derive(Clone, Copy, Debug, PartialEq, Eq)]
+pub struct FilingRange;
+
+impl StructureKind {
+    /// The greatest height of a mobile object on it, in tenths of a foot: 0 for any kind but a private road or a waterway (77.9(c)).
+    pub fn mobile_most(&self) -> i64
+        ensures { result ≡ greatest_mobile self.now }
+    {
+        match self {
+            StructureKind::Private => MOBILE_LIMIT,
+            StructureKind::Water => MOBILE_LIMIT,
+            _ => 0,
+        }
+    }
+}
+
+impl Filing {
+    /// The filing of a structure at `at`, where the ground is `terrain` high, of this height above ground, with a mobile object of
+    /// height `mobile` on it, on the airfield `on`.
+    ///
+    /// # Errors
+    ///
+    /// `FilingRange` exactly where `terrain` or `height` is outside its limits, or `mobile` is not from 0 to the most of the kind.
+    pub fn new(
+        at: Point,
+        terrain: i64,
+        height: i64,
+        kind: StructureKind,
+        mobile: i64,
+        flags: Flags,
+        on: Option<FieldId>,
+    ) -> Result<Filing, FilingRange>
+        ensures exact { MatchResult result (λ f. f ≡ site at terrain height kind mobile flags on)
+            (λ _. ¬ IsSite (site at terrain height kind mobile flags on)) }
+    {
+        if terrain < ELEVATION_LEAST || terrain > ELEVATION_MOST {
+            return Err(FilingRange);
+        }
+        if height < 0 || height > HEIGHT_LIMIT {
+            return Err(FilingRange);
+        }
+        if mobile < 0 || mobile > kind.mobile_most() {
+            return Err(FilingRange);
+        }
+        Ok(Filing {
+            at,
+            ground: terrain,
+            height,
+            kind,
+            mobile,
+            flags,
+            on,
+        })
+    }
+
+    /// Shows to a proof that the filing is within its limits.
+    pub fn limits(&self)
+        ensures { IsSite self.now }
+    {
+        let _ = &self.height; // a proof knows the invariant of a value where it reads a field
+    }
+}

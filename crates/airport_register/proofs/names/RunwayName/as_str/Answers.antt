@@ -1,5 +1,0 @@
-use Rattle.airport_register.proofs.NameText.{runway_text}
-use Rattle.airport_register.proofs.names.RunwayName.as_str.Goals as goal
-
-pub unreachable-requires : goal.unreachable-requires
-unreachable-requires c = c.in-Err.ensures.cases.0 (rw c.as_bytes.ensures.value (runway_text _ c.self.invariant))

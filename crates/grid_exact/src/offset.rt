@@ -1,0 +1,67 @@
+//! Where a point lies by a line.
+
+ghost use Rattle.std.specs.Prelude.{◌≡◌, ◌^◌, ◌≤◌, pos, unsigned_abs};
+ghost use Rattle.grid_exact.specs.Lines.{IsOffset, IsReach, IsSquare};
+
+use std::marker::Model;
+
+/// Where a point lies by a line: how far along it from its start and how far to a side of it, both times the length of the line's
+/// vector, and the square of that length, in square tenths of a foot. It is worked out once for all surfaces along one line.
+#[derive(Clone, Copy)]
+pub struct Offset {
+    along: i128,
+    aside: u128,
+    square: u128,
+}
+
+impl Model for Offset {
+    ghost use Rattle.grid_exact.specs.Lines.{Offset as OffsetOf, IsOffset};
+
+    ghost Value = { OffsetOf };
+
+    ghost view = { λ o. record { along = o.along; aside = o.aside; square = o.square } };
+
+    ghost invariant = { λ o. IsOffset o.along o.aside o.square };
+
+    ghost inverse = { λ v. record { along = v.along; aside = v.aside; square = v.square } };
+}
+
+impl Offset {
+    /// The offset of these numbers, which a point of the grid and a line have.
+    pub(crate) fn new(along: i128, aside: u128, square: u128) -> Offset
+        requires sizes { IsOffset along aside square }
+        ensures along { result.along ≡ along }
+        ensures aside { result.aside ≡ aside }
+        ensures square { result.square ≡ square }
+    {
+        Offset {
+            along,
+            aside,
+            square,
+        }
+    }
+
+    /// How far the point is from the start in the line's direction, times the vector's length.
+    pub fn along(&self) -> i128
+        ensures value { result ≡ self.now.along }
+        ensures reach { IsReach (unsigned_abs self.now.along) self.now.square }
+    {
+        self.along
+    }
+
+    /// How far the point is to a side of the line, times the vector's length.
+    pub fn aside(&self) -> i128
+        ensures value { result ≡ pos self.now.aside }
+        ensures reach { IsReach self.now.aside self.now.square }
+    {
+        self.aside as i128
+    }
+
+    /// The square of the vector's length.
+    pub fn square(&self) -> u128
+        ensures value { result ≡ self.now.square }
+        ensures line { IsSquare self.now.square }
+    {
+        self.square
+    }
+}

@@ -1,0 +1,30 @@
+//! Where transitional surfaces end upward.
+
+ghost use Rattle.std.specs.Prelude.{◌↔◌, ◌^◌, ◌≤◌, ◌≤ℤ◌, IsTrue, IfSome};
+ghost use Rattle.grid_exact.specs.Excess.{IsExcess, root_surface};
+ghost use Rattle.grid_exact.specs.Level.{IsLevel, Reaches};
+
+use grid_exact::{LEVEL_LIMIT, Rising, Slope};
+
+/// Whether a slope is at most as high as this level, where the horizontal or the conical surface ends: 77.19(e). A level below the
+/// range of levels is not compared, since its product may not be computed; no slope is as low.
+fn is_up_to(slope: &Slope, level: i64) -> bool
+    requires high { level ≤ℤ LEVEL_LIMIT }
+    ensures { IsTrue result ↔ Reaches slope.now.a slope.now.k slope.now.c slope.now.n level }
+{
+    -LEVEL_LIMIT <= level && slope.is_reached(level)
+}
+
+/// How far `top` is above a slope that is at most as high as `limit`, or `None` where it is not above, or the slope is higher than
+/// the limit. A limit at or above the top is not compared, whatever its size: where the top is above the slope, the limit is not
+/// below it.
+pub(crate) fn excess_up_to(slope: &Slope, top: i64, limit: i64) -> Option<u32>
+    requires top { IsLevel top }
+    ensures exact { IsExcess (root_surface (Reaches slope.now.a slope.now.k slope.now.c slope.now.n limit) slope.now.a slope.now.k slope.now.c slope.now.n) top result }
+    ensures size { IfSome result (λ e. e ≤ 2 ^ 26) }
+{
+    if limit < top && !is_up_to(slope, limit) {
+        return None;
+    }
+    slope.excess(top)
+}

@@ -1,0 +1,9 @@
+pub mod DistanceFacts
+pub mod Order
+pub mod NearestFacts
+pub mod CandidateFacts
+pub mod LimitFacts
+pub mod FarFacts
+pub mod SlopeFacts
+pub mod NoticeFacts
+pub mod FarAirports

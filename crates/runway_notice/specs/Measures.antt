@@ -1,0 +1,6 @@
+-- For proofs alone: what a measured distance is.
+use Rattle.runway_notice.specs.Distances.{Fraction}
+use Rattle.runway_notice.specs.declared.square_distance.SquareDistance.{SquareDistance}
+
+abbrev pub fraction : SquareDistance → Fraction
+fraction d = record { part = d.part; whole = d.whole }

@@ -1,0 +1,81 @@
+//! Runways on the way to the nearest one.
+
+ghost use Rattle.std.specs.Prelude.{◌≡◌, ◌^◌, ◌≤◌, unsigned_abs};
+ghost use Rattle.std.specs.Ordering.{int_cmp, is_lt};
+ghost use Rattle.airfields.specs.Runways.{IsProper};
+ghost use Rattle.runway_notice.specs.Distances.{square_distance};
+ghost use Rattle.runway_notice.specs.Nearest.{elevation_of, nearness_cmp};
+
+use crate::square_distance::SquareDistance;
+use airfields::Runway;
+use grid_exact::{Offset, Point};
+use runway_lines::Centerline;
+use std::cmp::Ordering;
+
+/// A runway with its centerline, and where one point lies by that.
+#[derive(Clone, Copy)]
+pub(crate) struct Candidate<'a> {
+    pub(crate) runway: &'a Runway,
+    pub(crate) line: Centerline,
+    pub(crate) at: Offset,
+}
+
+impl<'a> Candidate<'a> {
+    ghost use Rattle.runway_notice.specs.Candidates.{IsCandidate};
+    ghost use Rattle.runway_notice.specs.Measures.{fraction};
+
+    /// The runway, as a point lies by it.
+    pub(crate) fn of(runway: &'a Runway, point: &Point) -> Candidate<'a>
+        requires proper { IsProper runway.now }
+        ensures runway { result.runway.now ≡ runway.now }
+        ensures candidate { IsCandidate point.now result }
+    {
+        let line = Centerline::of(runway);
+        Candidate {
+            runway,
+            line,
+            at: line.offset(point),
+        }
+    }
+
+    /// How far the point is from the centerline.
+    pub(crate) fn distance(&self) -> SquareDistance
+        ensures { fraction result ≡ square_distance self.now.at }
+    {
+        SquareDistance::of(&self.at)
+    }
+
+    /// How high the centerline is where it is nearest to the point, in tenths of a foot. The contracts name the point; the code has it
+    /// as the offset.
+    #[tactic(auto, using(crate::proofs::CandidateFacts::elevation_is))]
+    pub(crate) fn elevation(&self, point: &Point) -> i64
+        requires { IsCandidate point.now self.now }
+        ensures value { result ≡ elevation_of point.now self.now.runway.now }
+        ensures size { unsigned_abs result ≤ 2 ^ 19 }
+    {
+        self.line.elevation_at(&self.at)
+    }
+
+    /// Compares how high its centerline and the other's are, each where it is nearest to the point.
+    fn cmp_elevation(&self, other: &Candidate, point: &Point) -> Ordering
+        requires this { IsCandidate point.now self.now }
+        requires other { IsCandidate point.now other.now }
+        ensures { result ≡ int_cmp (elevation_of point.now self.now.runway.now) (elevation_of point.now other.now.runway.now) }
+    {
+        self.elevation(point).cmp(&other.elevation(point))
+    }
+
+    /// Whether it is nearer to the point than the other, or as near where its centerline is lower.
+    #[tactic(auto, using(crate::proofs::CandidateFacts::ranked))]
+    pub(crate) fn is_nearer(&self, other: &Candidate, point: &Point) -> bool
+        requires this { IsCandidate point.now self.now }
+        requires other { IsCandidate point.now other.now }
+        ensures { result ≡ is_lt (nearness_cmp point.now self.now.runway.now other.now.runway.now) }
+    {
+        match self.distance().compare(&other.distance()) {
+            Ordering::Less => true,
+            Ordering::Greater => false,
+            Ordering::Equal => self.cmp_elevation(other, point).is_lt(),
+        }
+    }
+}

@@ -1,0 +1,19 @@
+//! Notice of construction near an airport: the slopes of 77.9(b)(1) and (2), from the nearest runway.
+//!
+//! Lengths, coordinates and elevations are whole tenths of a foot.
+#![tactic(auto)]
+
+mod candidate;
+mod laws;
+mod limit;
+mod nearest;
+mod notice;
+mod slope;
+mod square_distance;
+
+pub use laws::notice_slope_is;
+pub use notice::{SLOPE_REACH, excess_notice};
+pub use slope::{RANGE_B1, RANGE_B2, RATIO_B1, RATIO_B2, Slope, Sub};
+
+#[cfg(test)]
+mod tests;

@@ -1,0 +1,60 @@
+//! The slopes of 77.9(b)(1) and (2).
+
+use airfields::RunwayName;
+
+/// How far the slope of 77.9(b)(1) goes out, in tenths of a foot: 20,000 feet.
+pub const RANGE_B1: i64 = 200_000;
+
+/// How far out the slope of 77.9(b)(1) rises by one.
+pub const RATIO_B1: i64 = 100;
+
+/// How far the slope of 77.9(b)(2) goes out, in tenths of a foot: 10,000 feet.
+pub const RANGE_B2: i64 = 100_000;
+
+/// How far out the slope of 77.9(b)(2) rises by one.
+pub const RATIO_B2: i64 = 50;
+
+/// Which of the two slopes an airport has.
+#[derive(Clone, Copy, Debug, PartialEq, Eq)]
+pub enum Sub {
+    /// 100 to 1 for 20,000 feet, where the longest runway is more than 3,200 feet long: 77.9(b)(1).
+    B1,
+    /// 50 to 1 for 10,000 feet, where it is not: 77.9(b)(2).
+    B2,
+}
+
+/// How far a structure is above the slope from the nearest runway of an airport.
+#[derive(Clone, Copy, Debug, PartialEq, Eq)]
+pub struct Slope {
+    /// The slope that the airport has.
+    pub sub: Sub,
+    /// The nearest runway.
+    pub runway: RunwayName,
+    /// How far the top is above the slope, in tenths of a foot, rounded down.
+    pub excess: u32,
+}
+
+impl Sub {
+    ghost use Rattle.std.specs.Prelude.{◌≡◌};
+    ghost use Rattle.runway_notice.specs.Slopes.{range_of, ratio_of};
+
+    /// How far it goes out, in tenths of a foot.
+    pub(crate) fn range(self) -> i64
+        ensures { result ≡ range_of self }
+    {
+        match self {
+            Sub::B1 => RANGE_B1,
+            Sub::B2 => RANGE_B2,
+        }
+    }
+
+    /// How far out it rises by one.
+    pub(crate) fn ratio(self) -> i64
+        ensures { result ≡ ratio_of self }
+    {
+        match self {
+            Sub::B1 => RATIO_B1,
+            Sub::B2 => RATIO_B2,
+        }
+    }
+}

@@ -1,0 +1,85 @@
+//! The square of a distance.
+
+ghost use Rattle.std.specs.Prelude.{◌≡◌, ◌↔◌, ◌*◌, ◌^◌, ◌≤◌, IsTrue, unsigned_abs};
+ghost use Rattle.grid_exact.specs.Lines.{IsReach};
+ghost use Rattle.runway_notice.specs.Distances.{IsMeasure, beyond as beyond_of};
+
+use grid_exact::Offset;
+use std::cmp::Ordering;
+
+/// The square of the distance from a point to a line, in square tenths of a foot: the fraction of `part` and `whole`.
+#[derive(Clone, Copy)]
+pub(crate) struct SquareDistance {
+    part: u128,
+    whole: u128,
+    ghost measure: { IsMeasure part whole },
+}
+
+/// How far before the start or past the end of a line a point lies that lies so by it, times the line's length.
+fn beyond(at: &Offset) -> u128
+    ensures value { result ≡ beyond_of at.now }
+    ensures reach { IsReach result at.now.square }
+{
+    let along = at.along();
+    if along < 0 {
+        return along.unsigned_abs();
+    }
+    let square = at.square() as i128;
+    if square < along {
+        return (along - square).unsigned_abs();
+    }
+    0
+}
+
+/// The square of a number that is not too large.
+fn square(number: u128) -> u128
+    requires { number ≤ 2 ^ 45 }
+    ensures value { result ≡ number * number }
+    ensures size { result ≤ 2 ^ 90 }
+{
+    number * number
+}
+
+impl SquareDistance {
+    ghost use Rattle.runway_notice.specs.Distances.{square_distance, fraction_cmp, IsAtLeastRootOf, IsAboveRootOf};
+    ghost use Rattle.runway_notice.specs.Measures.{fraction};
+
+    /// From a line to a point that lies so by it.
+    pub(crate) fn of(at: &Offset) -> SquareDistance
+        ensures { fraction result ≡ square_distance at.now }
+    {
+        SquareDistance {
+            part: square(beyond(at)) + square(at.aside().unsigned_abs()),
+            whole: at.square(),
+        }
+    }
+
+    /// Compares it with another.
+    pub(crate) fn compare(&self, other: &SquareDistance) -> Ordering
+        ensures { result ≡ fraction_cmp (fraction self.now) (fraction other.now) }
+    {
+        (self.part * other.whole).cmp(&(other.part * self.whole))
+    }
+
+    /// Whether a number is at least the distance.
+    pub(crate) fn is_at_most(&self, number: i64) -> bool
+        requires { unsigned_abs number ≤ 2 ^ 40 }
+        ensures { IsTrue result ↔ IsAtLeastRootOf (fraction self.now) number }
+    {
+        if number < 0 {
+            return false;
+        }
+        self.part <= square(number.unsigned_abs() as u128) * self.whole
+    }
+
+    /// Whether a number is above the distance.
+    pub(crate) fn is_below(&self, number: i64) -> bool
+        requires { unsigned_abs number ≤ 2 ^ 40 }
+        ensures { IsTrue result ↔ IsAboveRootOf (fraction self.now) number }
+    {
+        if number < 0 {
+            return false;
+        }
+        self.part < square(number.unsigned_abs() as u128) * self.whole
+    }
+}

@@ -1,0 +1,122 @@
+//! The texts of findings.
+
+ghost use Rattle.std.specs.Prelude.{◌≡◌, ◌++◌, OnOk, OnErr, codes, string_bytes};
+ghost use Rattle.grid_exact.specs.Texts.{Extends};
+ghost use Rattle.wire_values.specs.Words.{name_text};
+ghost use Rattle.wire_replies.specs.Entries as spec;
+
+use crate::fields::{append_next_word, append_number};
+use airfields::RunwayName;
+use grid_exact::NoMemory;
+use oe_findings::{Finding, Rule, SurfaceKey};
+use wire_values::{FieldValue, append_text};
+
+fn rule_word(rule: Rule) -> &'static str
+    ensures { result.now ≡ spec.rule_word rule }
+{
+    match rule {
+        Rule::H499 => "17a1",
+        Rule::Near => "17a2",
+        Rule::Horizontal => "19a",
+        Rule::Conical => "19b",
+        Rule::Primary => "19c",
+        Rule::Approach => "19d",
+        Rule::Transition => "19e",
+        Rule::PadPrimary => "23p",
+        Rule::PadApproach => "23a",
+        Rule::PadTransition => "23t",
+        Rule::NoticeA => "9a",
+        Rule::NoticeB1 => "9b1",
+        Rule::NoticeB2 => "9b2",
+        Rule::NoticeB3 => "9b3",
+        Rule::NoticeD => "9d",
+        Rule::WayA => "9c-a",
+        Rule::WayB1 => "9c-b1",
+        Rule::WayB2 => "9c-b2",
+        Rule::WayB3 => "9c-b3",
+    }
+}
+
+// Appends the airfield of an entry.
+fn append_airfield(text: &mut String, rule: Rule, key: &SurfaceKey) -> Result<(), NoMemory>
+    ensures ok { OnOk result (string_bytes text.new ≡ string_bytes text.old ++ spec.airfield_text rule key.now) }
+    ensures part { OnErr result (Extends (string_bytes text.old) (string_bytes text.new)) }
+{
+    match rule {
+        Rule::H499 | Rule::NoticeA | Rule::WayA => append_text(text, "-"),
+        _ => key.field.append(text),
+    }
+}
+
+// Appends the name of a runway, or a dash.
+fn append_runway(text: &mut String, runway: &Option<RunwayName>) -> Result<(), NoMemory>
+    ensures ok { OnOk result (string_bytes text.new ≡ string_bytes text.old ++ name_text runway.now) }
+    ensures part { OnErr result (Extends (string_bytes text.old) (string_bytes text.new)) }
+{
+    match runway {
+        Some(name) => name.append(text),
+        None => append_text(text, "-"),
+    }
+}
+
+// Appends the runway of a key and its end or side, a dot between.
+#[tactic(auto, using(grid_exact::proofs::Extending::extending))]
+fn append_runway_part(text: &mut String, key: &SurfaceKey) -> Result<(), NoMemory>
+    ensures ok { OnOk result (string_bytes text.new ≡ string_bytes text.old ++ spec.runway_part_text key.now) }
+    ensures part { OnErr result (Extends (string_bytes text.old) (string_bytes text.new)) }
+{
+    append_runway(text, &key.runway)?;
+    append_text(text, ".")?;
+    append_number(text, u64::from(key.part))
+}
+
+// Appends the surface of an entry.
+fn append_surface(text: &mut String, rule: Rule, key: &SurfaceKey) -> Result<(), NoMemory>
+    ensures ok { OnOk result (string_bytes text.new ≡ string_bytes text.old ++ spec.surface_text rule key.now) }
+    ensures part { OnErr result (Extends (string_bytes text.old) (string_bytes text.new)) }
+{
+    match rule {
+        Rule::Primary | Rule::NoticeB1 | Rule::NoticeB2 | Rule::WayB1 | Rule::WayB2 => {
+            append_runway(text, &key.runway)
+        }
+        Rule::Approach | Rule::Transition => append_runway_part(text, key),
+        Rule::PadApproach | Rule::PadTransition => append_number(text, u64::from(key.part)),
+        _ => append_text(text, "-"),
+    }
+}
+
+// Appends the airfield and the surface of an entry, a space between.
+#[tactic(auto, using(grid_exact::proofs::Extending::extending))]
+fn append_place(text: &mut String, rule: Rule, key: &SurfaceKey) -> Result<(), NoMemory>
+    ensures ok { OnOk result (string_bytes text.new ≡ string_bytes text.old ++ spec.place_text rule key.now) }
+    ensures part { OnErr result (Extends (string_bytes text.old) (string_bytes text.new)) }
+{
+    append_airfield(text, rule, key)?;
+    append_text(text, " ")?;
+    append_surface(text, rule, key)
+}
+
+// Appends an entry, a comma before it.
+#[tactic(auto, using(grid_exact::proofs::Extending::extending))]
+fn append_entry(text: &mut String, finding: &Finding) -> Result<(), NoMemory>
+    ensures ok { OnOk result (string_bytes text.new ≡ string_bytes text.old ++ (codes "," ++ spec.entry_text finding.now)) }
+    ensures part { OnErr result (Extends (string_bytes text.old) (string_bytes text.new)) }
+{
+    append_next_word(text, rule_word(finding.rule))?;
+    append_text(text, " ")?;
+    append_place(text, finding.rule, &finding.key)?;
+    append_text(text, " ")?;
+    append_number(text, u64::from(finding.excess))
+}
+
+// Appends the entries of a list.
+#[tactic(auto, using(grid_exact::proofs::Extending::extending))]
+pub(crate) fn append_entries(text: &mut String, list: &[Finding]) -> Result<(), NoMemory>
+    ensures ok { OnOk result (string_bytes text.new ≡ string_bytes text.old ++ spec.entries_text list.now) }
+    ensures part { OnErr result (Extends (string_bytes text.old) (string_bytes text.new)) }
+{
+    for finding in list {
+        append_entry(text, finding)?;
+    }
+    Ok(())
+}

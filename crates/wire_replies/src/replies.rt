@@ -1,0 +1,149 @@
+//! The texts of replies.
+
+ghost use Rattle.std.specs.Prelude.{◌≡◌, ◌++◌, IfOk, OnOk, OnErr, codes, string_bytes};
+ghost use Rattle.grid_exact.specs.Texts.{Extends};
+ghost use Rattle.wire_replies.specs.Replies as spec;
+ghost use Rattle.wire_replies.specs.Rows.{airfield_row};
+
+use crate::entries::append_entries;
+use crate::fields::{append_next_number, append_next_word, append_number};
+use crate::refusals::append_refused;
+use crate::reply::{Outcome, Reply};
+use crate::rows::append_row;
+use airfields::Airfield;
+use grid_exact::{NoMemory, Text};
+use oe_findings::{Finding, Verdict};
+use std::alloc::Global;
+use wire_values::append_text;
+
+fn publication_word(published: bool) -> &'static str
+    ensures { result.now ≡ spec.publication_word published }
+{
+    if published { "published" } else { "waiting" }
+}
+
+fn yes_word(holds: bool) -> &'static str
+    ensures { result.now ≡ spec.yes_word holds }
+{
+    if holds { "yes" } else { "no" }
+}
+
+// Appends what an accepted request led to, a comma before it.
+fn append_outcome(text: &mut String, outcome: Outcome) -> Result<(), NoMemory>
+    ensures ok { OnOk result (string_bytes text.new ≡ string_bytes text.old ++ (codes "," ++ spec.outcome_text outcome)) }
+    ensures part { OnErr result (Extends (string_bytes text.old) (string_bytes text.new)) }
+{
+    match outcome {
+        Outcome::Plain(plain) => append_next_word(text, plain.word()),
+    }
+}
+
+// Appends the reply of an accepted request.
+#[tactic(auto, using(grid_exact::proofs::Extending::extending))]
+fn append_accepted(
+    text: &mut String,
+    entry: u64,
+    published: bool,
+    outcome: Outcome,
+) -> Result<(), NoMemory>
+    ensures ok { OnOk result (string_bytes text.new ≡ string_bytes text.old ++ spec.accepted_text entry published outcome) }
+    ensures part { OnErr result (Extends (string_bytes text.old) (string_bytes text.new)) }
+{
+    append_text(text, "ok,")?;
+    append_number(text, entry)?;
+    append_next_word(text, publication_word(published))?;
+    append_outcome(text, outcome)?;
+    append_text(text, "\n")
+}
+
+/// Appends the reply of a list of findings over the register after its entry of number `last`, with the line feed that ends it.
+///
+/// # Errors
+///
+/// `NoMemory` where memory was refused; the text may then have a part of the reply.
+#[tactic(auto, using(grid_exact::proofs::Extending::extending))]
+pub fn append_found(text: &mut String, last: u64, list: &[Finding]) -> Result<(), NoMemory>
+    ensures ok { OnOk result (string_bytes text.new ≡ string_bytes text.old ++ spec.found_text last list.now) }
+    ensures part { OnErr result (Extends (string_bytes text.old) (string_bytes text.new)) }
+{
+    append_text(text, "found,")?;
+    append_number(text, last)?;
+    append_next_number(text, list.len() as u64)?;
+    append_entries(text, list)?;
+    append_text(text, "\n")
+}
+
+// Appends the reply of what findings come to.
+#[tactic(auto, using(grid_exact::proofs::Extending::extending))]
+fn append_verdict(text: &mut String, last: u64, verdict: Verdict) -> Result<(), NoMemory>
+    ensures ok { OnOk result (string_bytes text.new ≡ string_bytes text.old ++ spec.verdict_text last verdict) }
+    ensures part { OnErr result (Extends (string_bytes text.old) (string_bytes text.new)) }
+{
+    append_text(text, "verdict,")?;
+    append_number(text, last)?;
+    append_next_word(text, yes_word(verdict.notice))?;
+    append_next_word(text, yes_word(verdict.obstruction))?;
+    append_next_number(text, u64::from(verdict.entries))?;
+    append_text(text, "\n")
+}
+
+/// Appends the reply that tells an airfield by its row, with the line feed that ends it.
+///
+/// # Errors
+///
+/// `NoMemory` where memory was refused; the text may then have a part of the reply.
+#[tactic(auto, using(grid_exact::proofs::Extending::extending))]
+pub fn append_airfield(text: &mut String, airfield: &Airfield) -> Result<(), NoMemory>
+    ensures ok { OnOk result (string_bytes text.new ≡ string_bytes text.old ++ spec.row_text (airfield_row airfield.now)) }
+    ensures part { OnErr result (Extends (string_bytes text.old) (string_bytes text.new)) }
+{
+    append_text(text, "airfield,")?;
+    append_row(text, airfield)?;
+    append_text(text, "\n")
+}
+
+// Appends the reply of a row.
+#[tactic(auto, using(grid_exact::proofs::Extending::extending))]
+fn append_row_text(text: &mut String, row: &str) -> Result<(), NoMemory>
+    ensures ok { OnOk result (string_bytes text.new ≡ string_bytes text.old ++ spec.row_text row.now) }
+    ensures part { OnErr result (Extends (string_bytes text.old) (string_bytes text.new)) }
+{
+    append_text(text, "airfield")?;
+    append_next_word(text, row)?;
+    append_text(text, "\n")
+}
+
+/// Appends a reply, with the line feed that ends it.
+///
+/// # Errors
+///
+/// `NoMemory` where memory was refused; the text may then have a part of the reply.
+pub fn append_reply(text: &mut String, reply: &Reply) -> Result<(), NoMemory>
+    ensures ok { OnOk result (string_bytes text.new ≡ string_bytes text.old ++ spec.reply_text reply.now) }
+    ensures part { OnErr result (Extends (string_bytes text.old) (string_bytes text.new)) }
+{
+    match reply {
+        Reply::Accepted {
+            entry,
+            published,
+            outcome,
+        } => append_accepted(text, *entry, *published, *outcome),
+        Reply::Refused(refusal) => append_refused(text, *refusal),
+        Reply::Found { last, list } => append_found(text, *last, list.as_slice()),
+        Reply::Verdict { last, verdict } => append_verdict(text, *last, *verdict),
+        Reply::Airfield(row) => append_row_text(text, row.as_str()),
+    }
+}
+
+/// The text of a reply, with the line feed that ends it.
+///
+/// # Errors
+///
+/// `NoMemory` where memory was refused.
+pub fn write_reply(alloc: Global, reply: &Reply) -> Result<Text, NoMemory>
+    ensures { IfOk result (λ text. text ≡ spec.reply_text reply.now) }
+{
+    let mut text = String::new(alloc);
+    append_reply(&mut text, reply)?;
+    Ok(Text::from_string(text))
+}

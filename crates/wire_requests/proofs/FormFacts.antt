@@ -1,0 +1,71 @@
+-- The first field of a record names its form.
+use Rattle.std.proofs.Common.{arith, ◌≡◌, ◌≢◌, ◌≤◌, ◌+◌, List, [], ◌∷◌, ℕ, codes, length, refl, ap, sym, subst, ◌∙◌, inl, inr, Result, Ok, Err, IfErr}
+use Rattle.wire_values.specs.Wanted.{Wanted, Spelled}
+use Rattle.wire_values.specs.declared.plain.Plain.TheVariants as plains
+use Rattle.wire_requests.specs.Shape.{FirstBad, Place, place_after, Took, IsBad}
+use Rattle.wire_requests.specs.Forms.{form_word, fields_of_form, shape_of, BeginsWith, FirstWrong, NoForm, InForm}
+use Rattle.wire_requests.specs.Readings.{IsReading}
+use Rattle.wire_requests.specs.Requests.{spelling}
+use Rattle.wire_requests.specs.declared.cursor.BadField.{BadField}
+use Rattle.wire_requests.specs.declared.form.Form.{Form}
+use Rattle.wire_requests.specs.declared.form.Form.TheVariants as forms
+use Rattle.wire_requests.specs.declared.request.Request.{Request}
+
+-- a word that is that of no form
+pub no_form : (word : List ℕ) → word ≢ codes "screen" → word ≢ codes "airport" → word ≢ codes "runway" → word ≢ codes "droprunway" → word ≢ codes "heliport"
+    → word ≢ codes "drop" → word ≢ codes "verdict" → word ≢ codes "airfield" → (form : Form) → word ≢ form_word form
+no_form word s a r d h o v f (forms.Plain plains.Airport) = a
+no_form word s a r d h o v f (forms.Plain plains.Runway) = r
+no_form word s a r d h o v f (forms.Plain plains.DropRunway) = d
+no_form word s a r d h o v f (forms.Plain plains.Heliport) = h
+no_form word s a r d h o v f (forms.Plain plains.Drop) = o
+no_form word s a r d h o v f forms.Screen = s
+no_form word s a r d h o v f forms.Verdict = v
+no_form word s a r d h o v f forms.Airfield = f
+
+-- the reader took the first field, the word of this form
+abbrev TookForm : Form → Place → Place → Type 0
+TookForm form start now = Took (Spelled (form_word form) ∷ []) (form_word form ∷ []) start now
+
+begins_with : (form : Form) (fields rest : List (List ℕ)) → fields ≡ form_word form ∷ rest → BeginsWith (form_word form) fields
+begins_with form fields rest e = rw e refl
+
+-- the fields are those of the request that is read of them
+pub all_fields : (form : Form) (r : Request) (fields : List (List ℕ)) (start now : Place) → start ≡ place_after 0 fields → TookForm form start now → IsReading form r now
+    → fields ≡ spelling r
+all_fields form r fields start now e p h = ap (λ s. s.rest) (sym e) ∙ p.read ∙ h.fields
+
+-- a bad field after the first is the first wrong one
+in_form : (form : Form) (fields : List (List ℕ)) (start now : Place) (n : ℕ) → start ≡ place_after 0 fields → TookForm form start now → IsBad (fields_of_form form) now n
+    → FirstWrong fields n
+in_form form fields start now n e p h =
+    let q : TookForm form (place_after 0 fields) now = subst (λ s. TookForm form s now) e p in
+    InForm form (begins_with form fields now.rest q.read) (q.bad (fields_of_form form) n h.first)
+
+pub wrong_form : (form : Form) (fields : List (List ℕ)) (start now : Place) (r : Result Request BadField) → start ≡ place_after 0 fields → TookForm form start now
+    → IfErr r (λ b. IsBad (fields_of_form form) now (b.before + 1)) → IfErr r (λ b. FirstWrong fields (b.before + 1))
+wrong_form form fields start now (Ok x) e p h = tt
+wrong_form form fields start now (Err b) e p h = in_form form fields start now (b.before + 1) e p h
+
+-- the first bad field is at most one past those that are wanted
+bad_early : (ws : List Wanted) (before : List ℕ) (fields : List (List ℕ)) (number n : ℕ) → FirstBad ws before fields number n → n ≤ number + length ws
+bad_early [] before [] number n h = absurd h
+bad_early [] before (f ∷ fs) number n h = omega (arith, h)
+bad_early (w ∷ ws) before [] number n h = omega (arith, h)
+bad_early (w ∷ ws) before (f ∷ fs) number n (inl h) = omega (arith, bad_early ws f fs (number + 1) n h.1)
+bad_early (w ∷ ws) before (f ∷ fs) number n (inr h) = omega (arith, h.1)
+
+pub short_shape : (form : Form) → length (shape_of form) ≤ 15
+short_shape (forms.Plain plains.Airport) = omega arith
+short_shape (forms.Plain plains.Runway) = omega arith
+short_shape (forms.Plain plains.DropRunway) = omega arith
+short_shape (forms.Plain plains.Heliport) = omega arith
+short_shape (forms.Plain plains.Drop) = omega arith
+short_shape forms.Screen = omega arith
+short_shape forms.Verdict = omega arith
+short_shape forms.Airfield = omega arith
+
+-- so the number of a wrong field is small
+pub wrong_early : (fields : List (List ℕ)) (n : ℕ) → FirstWrong fields n → n ≤ 16
+wrong_early fields n (NoForm h e) = omega arith
+wrong_early fields n (InForm form f b) = omega (arith, bad_early (shape_of form) [] fields 1 n b, short_shape form)

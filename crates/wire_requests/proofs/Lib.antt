@@ -1,0 +1,10 @@
+pub mod ShapeFacts
+pub mod FormFacts
+pub mod ExitFacts
+pub mod ReadFacts
+pub mod ShapeLaws
+pub mod RequestFacts
+pub mod OneRequest
+pub mod FormLaw
+pub mod LineFacts
+pub mod OneReading

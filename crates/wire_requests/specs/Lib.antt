@@ -1,0 +1,12 @@
+pub use Rattle.wire_values.specs.Words
+pub use Rattle.wire_values.specs.Wanted
+pub use Rattle.wire_values.specs.Commas
+pub use Rattle.wire_values.specs.Plains
+pub use Rattle.record_fields.specs.Fields
+pub mod Shape
+pub mod Forms
+pub mod Changes
+pub mod Spellings
+pub mod Limits
+pub mod Requests
+pub mod Readings

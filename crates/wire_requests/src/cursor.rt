@@ -1,0 +1,143 @@
+//! The fields of a record, taken one after the other.
+
+ghost use Rattle.std.specs.Prelude.{◌≡◌, ◌∷◌, ◌+◌, [], pos, Some, IfSome, IfNone, IfOk, IfErr, OnOk};
+ghost use Rattle.std.specs.Fmt.{signed_decimal};
+ghost use Rattle.csv.specs.Records.{fields_of};
+ghost use Rattle.whole_number.specs.Whole.{HasNineDigits};
+ghost use Rattle.airfields.specs.Sites.{greatest_mobile};
+ghost use Rattle.wire_values.specs.Words.{kind_word, IsBetween};
+ghost use Rattle.wire_values.specs.Wanted.{Between, any_number, MobileWanted};
+ghost use Rattle.wire_requests.specs.Shape.{place_after, Steps, Took, Stops, IsBad};
+
+use airfields::StructureKind;
+use csv::ByteRecord;
+use std::marker::Model;
+use whole_number::NUMBER_LIMIT;
+use wire_values::{FieldValue, number_within};
+
+/// A field that is not as its form wants it.
+#[derive(Clone, Copy)]
+pub(crate) struct BadField {
+    /// How many fields stand before it.
+    pub(crate) before: usize,
+}
+
+/// Where a reader of the fields of a record stands.
+#[derive(Drop)]
+pub(crate) struct Cursor<'a> {
+    fields: &'a ByteRecord,
+    taken: usize,
+}
+
+impl<'a> Model for Cursor<'a> {
+    ghost use Rattle.csv.specs.Records.{fields_of};
+    ghost use Rattle.wire_requests.specs.Shape.{Place, place_after};
+
+    ghost Value = { Place };
+
+    ghost view = { λ c. place_after c.taken (fields_of c.fields.now) };
+}
+
+impl<'a> Cursor<'a> {
+    /// Before the first of the fields.
+    pub(crate) fn new(fields: &'a ByteRecord) -> Cursor<'a>
+        ensures { result ≡ place_after 0 (fields_of fields.now) }
+    {
+        Cursor { fields, taken: 0 }
+    }
+
+    /// The next field, which is then taken.
+    #[tactic(auto, using(crate::proofs::ShapeFacts::moving))]
+    pub(crate) fn next(&mut self) -> Option<&'a [u8]>
+        ensures some { IfSome result (λ text. Steps text.now self.old self.new) }
+        ensures none { IfNone result (self.old.rest ≡ []) }
+    {
+        match self.fields.get(self.taken) {
+            Some(text) => {
+                self.taken += 1;
+                Some(text)
+            }
+            None => None,
+        }
+    }
+}
+
+impl Cursor<'_> {
+    /// The value that the next field spells.
+    #[tactic(auto, using(crate::proofs::ShapeFacts::taking))]
+    pub(crate) fn take<V: FieldValue>(&mut self) -> Result<V, BadField>
+        ensures took { IfOk result (λ v. Took (V.wanted ∷ []) (V.spelled v ∷ []) self.old self.new) }
+        ensures before { IfOk result (λ v. self.new.before ≡ V.spelled v) }
+        ensures good { IfOk result (λ v. V.good v) }
+        ensures stops { IfErr result (λ b. Stops (V.wanted ∷ []) self.old (b.before + 1)) }
+    {
+        let before = self.taken;
+        let Some(text) = self.next() else {
+            return Err(BadField { before });
+        };
+        match V::parse(text) {
+            Some(value) => Ok(value),
+            None => Err(BadField { before }),
+        }
+    }
+
+    /// The whole number within the limits that the next field spells.
+    #[tactic(auto, using(crate::proofs::ShapeFacts::taking))]
+    pub(crate) fn number(&mut self, low: i64, high: i64) -> Result<i64, BadField>
+        requires low { HasNineDigits low }
+        requires high { HasNineDigits high }
+        ensures took { IfOk result (λ z. Took (Between low high ∷ []) (signed_decimal z ∷ []) self.old self.new) }
+        ensures within { IfOk result (λ z. IsBetween low high z) }
+        ensures short { IfOk result (λ z. HasNineDigits z) }
+        ensures stops { IfErr result (λ b. Stops (Between low high ∷ []) self.old (b.before + 1)) }
+    {
+        let before = self.taken;
+        let Some(text) = self.next() else {
+            return Err(BadField { before });
+        };
+        match number_within(text, low, high) {
+            Some(number) => Ok(number),
+            None => Err(BadField { before }),
+        }
+    }
+
+    /// The whole number of at most nine digits that the next field spells.
+    pub(crate) fn whole(&mut self) -> Result<i64, BadField>
+        ensures took { IfOk result (λ z. Took (any_number ∷ []) (signed_decimal z ∷ []) self.old self.new) }
+        ensures short { IfOk result (λ z. HasNineDigits z) }
+        ensures stops { IfErr result (λ b. Stops (any_number ∷ []) self.old (b.before + 1)) }
+    {
+        self.number(-NUMBER_LIMIT, NUMBER_LIMIT)
+    }
+
+    /// The height of the highest mobile object on a structure of this kind, which the field before tells.
+    #[tactic(auto, using(crate::proofs::ShapeFacts::taking))]
+    pub(crate) fn mobile(&mut self, kind: StructureKind) -> Result<i64, BadField>
+        requires { self.old.before ≡ kind_word kind }
+        ensures took { IfOk result (λ z. Took (MobileWanted ∷ []) (signed_decimal z ∷ []) self.old self.new) }
+        ensures within { IfOk result (λ z. IsBetween (pos 0) (greatest_mobile kind) z) }
+        ensures short { IfOk result (λ z. HasNineDigits z) }
+        ensures stops { IfErr result (λ b. Stops (MobileWanted ∷ []) self.old (b.before + 1)) }
+    {
+        let before = self.taken;
+        let Some(text) = self.next() else {
+            return Err(BadField { before });
+        };
+        match number_within(text, 0, kind.mobile_most()) {
+            Some(number) => Ok(number),
+            None => Err(BadField { before }),
+        }
+    }
+
+    /// The end of the fields.
+    pub(crate) fn end(&mut self) -> Result<(), BadField>
+        ensures none { OnOk result (self.old.rest ≡ []) }
+        ensures bad { IfErr result (λ b. IsBad [] self.old (b.before + 1)) }
+    {
+        let before = self.taken;
+        match self.next() {
+            Some(_) => Err(BadField { before }),
+            None => Ok(()),
+        }
+    }
+}

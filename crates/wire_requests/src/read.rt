@@ -1,0 +1,98 @@
+//! Requests, read from lines.
+
+ghost use Rattle.std.specs.Prelude.{◌≡◌, ◌+◌, ◌<◌, IfOk, IfErr};
+ghost use Rattle.csv.specs.Records.{fields_of};
+ghost use Rattle.wire_requests.specs.Forms.{FirstWrong};
+ghost use Rattle.wire_requests.specs.Requests.{spelling, IsGood, IsRecord, IsRefusal};
+
+use crate::cursor::{BadField, Cursor};
+use crate::form::Form;
+use crate::register::change;
+use crate::request::{ReadRefusal, Request};
+use crate::structures::{airfield, screen, verdict};
+use csv::ByteRecord;
+use grid_exact::LINE_LIMIT;
+use record_fields::find_fields;
+use std::alloc::Global;
+
+// The request whose spelling the fields are.
+#[tactic(auto, using(crate::proofs::FormFacts::all_fields))]
+fn request(fields: &ByteRecord) -> Result<Request, BadField>
+    ensures read { IfOk result (λ r. fields_of fields.now ≡ spelling r) }
+    ensures good { IfOk result (λ r. IsGood r) }
+    ensures bad { IfErr result (λ b. FirstWrong (fields_of fields.now) (b.before + 1)) }
+{
+    let mut cursor = Cursor::new(fields);
+    match cursor.form() {
+        Some(Form::Plain(plain)) => change(&mut cursor, plain),
+        Some(Form::Screen) => screen(&mut cursor),
+        Some(Form::Verdict) => verdict(&mut cursor),
+        Some(Form::Airfield) => airfield(&mut cursor),
+        None => Err(BadField { before: 0 }),
+    }
+}
+
+// The refusal of a record that is wrong at a field.
+#[tactic(auto, using(crate::proofs::FormFacts::wrong_early))]
+fn malformed(fields: &ByteRecord, bad: BadField) -> ReadRefusal
+    requires { FirstWrong (fields_of fields.now) (bad.before + 1) }
+    ensures { result ≡ ReadRefusal.Malformed (bad.before + 1) }
+{
+    ReadRefusal::Malformed {
+        field: bad.before as u32 + 1,
+    }
+}
+
+/// Reads records, and keeps the room for their fields from line to line.
+#[derive(Drop)]
+pub struct RecordReader {
+    alloc: Global,
+    fields: ByteRecord,
+}
+
+impl RecordReader {
+    /// A reader. It takes no memory.
+    pub fn new(alloc: Global) -> RecordReader {
+        RecordReader {
+            alloc,
+            fields: ByteRecord::new(alloc),
+        }
+    }
+
+    /// The request that the line, without its end, is the record of.
+    ///
+    /// # Errors
+    ///
+    /// `Malformed` where the line is the record of no request, and `NoMemory` where memory was refused.
+    pub fn read(&mut self, line: &[u8]) -> Result<Request, ReadRefusal>
+        ensures found { IfOk result (λ r. IsRecord line.now r) }
+        ensures malformed { IfErr result (λ e. IsRefusal line.now e) }
+    {
+        if line.len() > LINE_LIMIT {
+            return Err(ReadRefusal::Malformed { field: 0 });
+        }
+        if line.is_empty() {
+            return Err(ReadRefusal::Malformed { field: 1 });
+        }
+        match find_fields(self.alloc, line, &mut self.fields) {
+            Err(_) => Err(ReadRefusal::NoMemory),
+            Ok(false) => Err(ReadRefusal::Malformed { field: 0 }),
+            Ok(true) => match request(&self.fields) {
+                Ok(request) => Ok(request),
+                Err(bad) => Err(malformed(&self.fields, bad)),
+            },
+        }
+    }
+}
+
+/// The request that a line, without its end, is the record of.
+///
+/// # Errors
+///
+/// `Malformed` where the line is the record of no request, and `NoMemory` where memory was refused.
+pub fn read_record(alloc: Global, line: &[u8]) -> Result<Request, ReadRefusal>
+    ensures found { IfOk result (λ r. IsRecord line.now r) }
+    ensures malformed { IfErr result (λ e. IsRefusal line.now e) }
+{
+    RecordReader::new(alloc).read(line)
+}

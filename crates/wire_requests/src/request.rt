@@ -1,0 +1,79 @@
+//! Requests.
+
+use airfields::{FieldId, Filing};
+use airport_register::Amendment;
+use std::marker::Model;
+use wire_values::Word;
+
+/// What a changing request asks for.
+#[derive(Clone, Copy)]
+pub enum Act {
+    /// A change to the register of airfields.
+    Amend(Amendment),
+}
+
+/// A request that changes what the desk holds; a key names each request of a caller. It has a record: each of its values is within the
+/// limits of its field.
+#[derive(Clone, Copy)]
+pub struct Change {
+    /// Who asks.
+    pub caller: Word,
+    /// What the caller names the request by.
+    pub key: Word,
+    /// What is asked for.
+    pub act: Act,
+}
+
+impl Model for Change {
+    ghost use Rattle.wire_requests.specs.Changes.{Asked};
+    ghost use Rattle.wire_requests.specs.Limits.{IsChangeRecord};
+
+    ghost Value = { Asked };
+
+    ghost view = { λ c. record { caller = c.caller; key = c.key; act = c.act } };
+
+    ghost invariant = { λ c. IsChangeRecord (record { caller = c.caller; key = c.key; act = c.act }) };
+
+    ghost inverse = { λ v. record { caller = v.caller; key = v.key; act = v.act } };
+}
+
+impl Change {
+    ghost use Rattle.wire_requests.specs.Limits.{IsChangeRecord};
+
+    /// Shows to a proof that the change has a record.
+    pub fn has_record(&self)
+        ensures { IsChangeRecord self.now }
+    {
+        let _ = &self.act;
+    }
+}
+
+/// A request that changes nothing.
+#[derive(Clone, Copy)]
+pub enum Query {
+    /// The list of findings of a structure.
+    Screen(Filing),
+    /// What the list of findings of a structure comes to.
+    Verdict(Filing),
+    /// The row of the airfield of this name.
+    Airfield(FieldId),
+}
+
+/// A request.
+#[derive(Clone, Copy)]
+pub enum Request {
+    /// One that changes nothing.
+    Query(Query),
+    /// One that changes what the desk holds.
+    Change(Change),
+}
+
+/// Why a line is read as no request.
+#[derive(Clone, Copy, Debug, PartialEq, Eq)]
+pub enum ReadRefusal {
+    /// The line is the record of no request. The field, counted from 1, is the first that no record with the same earlier fields has; it is
+    /// 0 where the line is longer than `LINE_LIMIT` bytes or not one record.
+    Malformed { field: u32 },
+    /// Memory was refused.
+    NoMemory,
+}

@@ -1,0 +1,7 @@
+pub mod WordFacts
+pub mod LetterFacts
+pub mod LimitFacts
+pub mod TextFacts
+pub mod Decisions
+pub mod Named
+pub mod FieldFacts

@@ -1,0 +1,43 @@
+-- A text that is none of the words of a value.
+use Rattle.std.proofs.Common.{◌≢◌, List, ℕ, Bool, true, false, codes}
+use Rattle.runway_classes.specs.declared.ApproachKind.{ApproachKind}
+use Rattle.runway_classes.specs.declared.ApproachKind.TheVariants.{Visual, NonprecisionAbove, NonprecisionLow, Precision}
+use Rattle.airfields.specs.declared.category.Category.{Category}
+use Rattle.airfields.specs.declared.category.Category.TheVariants.{PublicUse, PublicBuilding, MilitaryBuilding, Federal, Dod, Procedure, OtherPrivate}
+use Rattle.airfields.specs.declared.structure.StructureKind.{StructureKind}
+use Rattle.airfields.specs.declared.structure.StructureKind.TheVariants as kinds
+use Rattle.wire_values.specs.Words.{category_word, approach_word, weight_word, pavement_word, kind_word}
+
+pub no_category : (word : List ℕ) → word ≢ codes "public" → word ≢ codes "building" → word ≢ codes "military" → word ≢ codes "federal"
+    → word ≢ codes "dod" → word ≢ codes "procedure" → word ≢ codes "private" → (category : Category) → word ≢ category_word category
+no_category word p b m f d r o PublicUse = p
+no_category word p b m f d r o PublicBuilding = b
+no_category word p b m f d r o MilitaryBuilding = m
+no_category word p b m f d r o Federal = f
+no_category word p b m f d r o Dod = d
+no_category word p b m f d r o Procedure = r
+no_category word p b m f d r o OtherPrivate = o
+
+pub no_approach : (word : List ℕ) → word ≢ codes "V" → word ≢ codes "NA" → word ≢ codes "NL" → word ≢ codes "P" → (kind : ApproachKind) → word ≢ approach_word kind
+no_approach word v a l p Visual = v
+no_approach word v a l p NonprecisionAbove = a
+no_approach word v a l p NonprecisionLow = l
+no_approach word v a l p Precision = p
+
+pub no_weight : (word : List ℕ) → word ≢ codes "utility" → word ≢ codes "other" → (utility : Bool) → word ≢ weight_word utility
+no_weight word u o true = u
+no_weight word u o false = o
+
+pub no_pavement : (word : List ℕ) → word ≢ codes "hard" → word ≢ codes "soft" → (hard : Bool) → word ≢ pavement_word hard
+no_pavement word h s true = h
+no_pavement word h s false = s
+
+pub no_kind : (word : List ℕ) → word ≢ codes "object" → word ≢ codes "antenna" → word ≢ codes "interstate" → word ≢ codes "road"
+    → word ≢ codes "private" → word ≢ codes "rail" → word ≢ codes "water" → (kind : StructureKind) → word ≢ kind_word kind
+no_kind word o a i r p l w kinds.Object = o
+no_kind word o a i r p l w kinds.Antenna = a
+no_kind word o a i r p l w kinds.Interstate = i
+no_kind word o a i r p l w kinds.Road = r
+no_kind word o a i r p l w kinds.Private = p
+no_kind word o a i r p l w kinds.Rail = l
+no_kind word o a i r p l w kinds.Water = w

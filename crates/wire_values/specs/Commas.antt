@@ -1,0 +1,12 @@
+-- Fields of a canonical line.
+use Rattle.std.specs.Prelude.{ℕ, List, [], ◌∷◌, ◌++◌, codes}
+use Rattle.std.specs.List.{flat_map}
+
+-- fields with a comma before each
+abbrev pub with_commas : List (List ℕ) → List ℕ
+with_commas fields = flat_map (λ f. codes "," ++ f) fields
+
+-- fields with a comma between each two
+abbrev pub joined : List (List ℕ) → List ℕ
+joined [] = []
+joined (field ∷ more) = field ++ with_commas more

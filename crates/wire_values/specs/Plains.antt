@@ -1,0 +1,11 @@
+-- Forms of changes whose accepted reply says no more than its form.
+use Rattle.std.specs.Prelude.{ℕ, List, codes}
+use Rattle.wire_values.specs.declared.plain.Plain.{Plain}
+use Rattle.wire_values.specs.declared.plain.Plain.TheVariants as plains
+
+abbrev pub plain_word : Plain → List ℕ
+plain_word plains.Airport = codes "airport"
+plain_word plains.Runway = codes "runway"
+plain_word plains.DropRunway = codes "droprunway"
+plain_word plains.Heliport = codes "heliport"
+plain_word plains.Drop = codes "drop"

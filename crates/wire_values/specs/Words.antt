@@ -1,0 +1,89 @@
+-- The words by which records spell values.
+use Rattle.std.specs.Prelude.{ℕ, ℤ, ◌≤ℤ◌, List, [], ◌∷◌, ◌++◌, ◌≤◌, ◌≡◌, ◌⊎◌, length, Bool, Option, Some, None, codes, if◌then◌else◌}
+use Rattle.std.specs.List.{All}
+use Rattle.runway_classes.specs.declared.ApproachKind.{ApproachKind}
+use Rattle.runway_classes.specs.declared.ApproachKind.TheVariants as approaches
+use Rattle.airfields.specs.declared.category.Category.{Category}
+use Rattle.airfields.specs.declared.category.Category.TheVariants as categories
+use Rattle.airfields.specs.declared.structure.StructureKind.{StructureKind}
+use Rattle.airfields.specs.declared.structure.StructureKind.TheVariants as kinds
+use Rattle.airfields.specs.declared.structure.Flags.{Flags}
+use Rattle.airfields.specs.Names.{IsFieldId}
+use Rattle.wire_values.specs.declared.word.TheConstants.{WORD_LIMIT}
+
+-- the code of an ASCII letter, of a digit, of a dot or of an underscore
+abbrev pub IsWordByte : ℕ → Type 0
+IsWordByte b = ((65 ≤ b) × (b ≤ 90)) ⊎ (((97 ≤ b) × (b ≤ 122)) ⊎ (((48 ≤ b) × (b ≤ 57)) ⊎ ((b ≡ 46) ⊎ (b ≡ 95))))
+
+-- the name of a caller or the key of a request: one to so many such bytes
+pub record IsWord (word : List ℕ) : Type 0 where
+  pub least : 1 ≤ length word
+  pub most : length word ≤ WORD_LIMIT
+  pub bytes : All IsWordByte word
+
+-- what an airfield is, under 77.9(d)
+abbrev pub category_word : Category → List ℕ
+category_word categories.PublicUse = codes "public"
+category_word categories.PublicBuilding = codes "building"
+category_word categories.MilitaryBuilding = codes "military"
+category_word categories.Federal = codes "federal"
+category_word categories.Dod = codes "dod"
+category_word categories.Procedure = codes "procedure"
+category_word categories.OtherPrivate = codes "private"
+
+-- the kind of approach of a runway end (77.19)
+abbrev pub approach_word : ApproachKind → List ℕ
+approach_word approaches.Visual = codes "V"
+approach_word approaches.NonprecisionAbove = codes "NA"
+approach_word approaches.NonprecisionLow = codes "NL"
+approach_word approaches.Precision = codes "P"
+
+-- whether a runway is a utility runway (77.3)
+abbrev pub weight_word : Bool → List ℕ
+weight_word utility = if utility then codes "utility" else codes "other"
+
+-- whether a runway has a prepared hard surface (77.19(c))
+abbrev pub pavement_word : Bool → List ℕ
+pavement_word hard = if hard then codes "hard" else codes "soft"
+
+-- the kind of a structure
+abbrev pub kind_word : StructureKind → List ℕ
+kind_word kinds.Object = codes "object"
+kind_word kinds.Antenna = codes "antenna"
+kind_word kinds.Interstate = codes "interstate"
+kind_word kinds.Road = codes "road"
+kind_word kinds.Private = codes "private"
+kind_word kinds.Rail = codes "rail"
+kind_word kinds.Water = codes "water"
+
+-- a text, or a dash where it is empty
+abbrev pub or_dash : List ℕ → List ℕ
+or_dash [] = codes "-"
+or_dash (b ∷ bs) = b ∷ bs
+
+-- a letter before others, where its flag stands
+abbrev pub marked : Bool → List ℕ → List ℕ → List ℕ
+marked stands letter others = if stands then letter ++ others else others
+
+-- the letters of the flags that stand, in their order: shielded (77.9(e)(1)), a device (77.9(e)(2)), another regulation's notice
+-- (77.9(e)(3)), increases another antenna structure (77.9(e)(4)), ground traffic control (77.17(b)), temporary
+abbrev pub flag_letters : Flags → List ℕ
+flag_letters f = marked f.shielded (codes "S") (marked f.device (codes "D") (marked f.other_rule (codes "R")
+    (marked f.increases (codes "I") (marked f.controlled (codes "G") (marked f.temporary (codes "T") [])))))
+
+abbrev pub flags_text : Flags → List ℕ
+flags_text f = or_dash (flag_letters f)
+
+-- a name, or a dash where there is none
+abbrev pub name_text : Option (List ℕ) → List ℕ
+name_text None = codes "-"
+name_text (Some name) = name
+
+-- no name, or the name of an airfield
+abbrev pub IsAirfieldName : Option (List ℕ) → Type 0
+IsAirfieldName None = Unit {0}
+IsAirfieldName (Some name) = IsFieldId name
+
+-- a whole number within these limits
+abbrev pub IsBetween : ℤ → ℤ → ℤ → Type 0
+IsBetween low high z = (low ≤ℤ z) × (z ≤ℤ high)

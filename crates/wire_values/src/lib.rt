@@ -1,0 +1,21 @@
+//! The values that the fields of records and replies spell, each with its one spelling.
+//!
+//! Lengths, coordinates and elevations are whole tenths of a foot.
+#![tactic(auto)]
+
+mod field_value;
+mod flags;
+mod names;
+mod numbers;
+mod plain;
+mod word;
+mod words;
+
+pub use field_value::{FieldValue, append_next, append_text};
+pub use numbers::{WholeNumber, number_within};
+pub use plain::Plain;
+pub use word::{WORD_LIMIT, Word};
+pub use words::{Pavement, Weight};
+
+#[cfg(test)]
+mod tests;
