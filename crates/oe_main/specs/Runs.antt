@@ -25,12 +25,10 @@ pub record RunWrites (status : Status) (input left held_old held_new : Option (L
   -- where memory is wanting, no part of a reply was written
   pub memory : status ≡ statuses.NoMemory → AnsweredFront Step opening input held_old held_new
 
--- Usage is the status exactly where the words are not the one word `desk`; then nothing was read and nothing written
-pub record TellsUsage (words : List (List ℕ)) (status : Status) (input left held_old held_new : Option (List ℕ)) : Type 0 where
+-- Usage is the status exactly where the words are not the one word `desk`
+pub record TellsUsage (words : List (List ℕ)) (status : Status) : Type 0 where
   pub usage : words ≢ codes "desk" ∷ [] → status ≡ statuses.Usage
   pub command : words ≡ codes "desk" ∷ [] → status ≢ statuses.Usage
-  pub unread : status ≡ statuses.Usage → left ≡ input
-  pub unwritten : status ≡ statuses.Usage → held_new ≡ held_old
 
 -- why a run ended so: a fault of a stream is told only where its count rose, and a long input only after its limit
 pub record RunCauses (status : Status) (input left : Option (List ℕ)) (read_old read_new write_old write_new : ℕ) : Type 0 where

@@ -49,8 +49,10 @@ pub fn run<S: Source, O: Sink>(
     ensures begun { Begun Step opening (S.left input.old) (O.held output.old) (O.held output.new) }
     // How much of the input was read then, and which replies were written whole.
     ensures written { RunWrites result (S.left input.old) (S.left input.new) (O.held output.old) (O.held output.new) }
-    // Usage is told exactly where the words are no command; both streams are then as they were.
-    ensures usage { TellsUsage words.now result (S.left input.old) (S.left input.new) (O.held output.old) (O.held output.new) }
+    // Usage is told exactly where the words are no command.
+    ensures usage { TellsUsage words.now result }
+    // Both streams are then as they were, also where they tell nothing: nothing was read and nothing written.
+    ensures untouched { result ≡ Status.Usage → (input.new ≡ input.old) × (output.new ≡ output.old) }
     // A fault is told only where that stream's count of faults rose.
     ensures causes { RunCauses result (S.left input.old) (S.left input.new) (S.faults input.old) (S.faults input.new) (O.faults output.old) (O.faults output.new) }
 {

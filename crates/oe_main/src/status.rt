@@ -18,7 +18,7 @@ pub enum Status {
     WriteFault,
     /// Memory was refused.
     NoMemory,
-    /// The input is longer than 2^40 bytes.
+    /// 2^40 bytes of the input were read.
     InputLong,
 }
 
