@@ -1,7 +1,8 @@
 -- A plain line is the record of its parts.
-use Rattle.std.proofs.Common.{arith, ℕ, ◌+◌, ◌<◌, ◌≤◌, ◌≡◌, ◌==◌, true, false, List, [], ◌∷◌, ◌++◌, take, drop, length, get_or, Some, None, All, refl, sym, ◌∙◌, cond, ap, append-nil, append_assoc, length-append, subst}
+use Rattle.std.proofs.Common.{arith, ℕ, ◌+◌, ◌^◌, ◌<◌, ◌≤◌, ◌≡◌, ◌==◌, true, false, List, [], ◌∷◌, ◌++◌, take, drop, length, get_or, Some, None, All, refl, sym, ◌∙◌, cond, ap, append-nil, append_assoc, length-append}
 use Rattle.std.specs.List.{slice_split, onto_first, flat_map}
-use Rattle.std.proofs.lemmas.List.Splits.{slice_split_at, slice_split_none}
+use Rattle.std.proofs.lemmas.List.Sums.{count_by-le-length}
+use Rattle.std.proofs.lemmas.List.Splits.{slice_split_at, slice_split_none, length-slice_split}
 use Rattle.std.proofs.lemmas.List.Elements.{All-nil, All-head, All-tail, All-append, All-cons, All-more, All-same}
 use Rattle.std.proofs.lemmas.List.{take-append-drop, drop_more, take_all}
 use Rattle.csv.specs.Machine.{next_record}
@@ -80,35 +81,27 @@ not_comma xs h k d lt = (h k d lt).1
 are_plain : (xs : List ℕ) → All IsOrdinary xs → All IsPlain xs
 are_plain xs h k d lt = (h k d lt).0
 
-around : (rest : List ℕ) (at : ℕ) → at < length rest → get_or rest at 0 ≡ 44 → rest ≡ take at rest ++ 44 ∷ drop (at + 1) rest
-around rest at lt e = sym (take-append-drop at rest) ∙ ap (λ t. take at rest ++ t) (drop_more rest at 0 lt ∙ ap (λ b. b ∷ drop (at + 1) rest) e)
+-- what holds of all items before a place, and of the one there
+pub one_more : (P : ℕ → Type 0) (xs : List ℕ) (i : ℕ) → All P (take i xs) → i < length xs → P (get_or xs i 0) → All P (take (i + 1) xs)
+one_more P xs i before lt h = All-more P xs i 0 lt before h
 
--- one more part is cut off at a comma
-pub record Cut (line rest : List ℕ) (fields : List (List ℕ)) : Type 0 where
-  pub parts : slice_split (λ b. b == 44) line ≡ fields ++ slice_split (λ b. b == 44) rest
-  pub plain : All IsPlain rest → All IsPlain line
+pub all_of : (P : ℕ → Type 0) (xs : List ℕ) (i : ℕ) → All P (take i xs) → length xs ≤ i → All P xs
+all_of P xs i h le = All-same P xs (take i xs) (sym (take_all i xs le)) h
 
-pub cut_more : (line rest : List ℕ) (fields new : List (List ℕ)) (at : ℕ) → Cut line rest fields → at < length rest → All IsOrdinary (take at rest)
-    → get_or rest at 0 ≡ 44 → (begun : List ℕ) → begun ≡ [] → new ≡ fields ++ (begun ++ take at rest) ∷ [] → Cut line (drop (at + 1) rest) new
-cut_more line rest fields new at c lt h e begun b n =
-    let r = around rest at lt e in
-    let s : slice_split (λ b. b == 44) rest ≡ take at rest ∷ slice_split (λ b. b == 44) (drop (at + 1) rest) =
-    ap (slice_split (λ b. b == 44)) r ∙ slice_split_at (λ b. b == 44) (take at rest) 44 (drop (at + 1) rest) (not_comma (take at rest) h) refl in
-    record {
-      parts = rw (c.parts, s, n, b, append_assoc fields (take at rest ∷ []) (slice_split (λ b. b == 44) (drop (at + 1) rest))) refl;
-      plain = λ more. c.plain (subst (All IsPlain) (sym r) (All-append IsPlain (take at rest) (44 ∷ drop (at + 1) rest) (are_plain (take at rest) h) (All-cons IsPlain 44 (drop (at + 1) rest) (refl, refl, refl, refl) more)));
-    }
+-- the first part of a text ends at its first comma
+around : (text : List ℕ) (at : ℕ) → at < length text → get_or text at 0 ≡ 44 → text ≡ take at text ++ 44 ∷ drop (at + 1) text
+around text at lt e = sym (take-append-drop at text) ∙ ap (λ t. take at text ++ t) (drop_more text at 0 lt ∙ ap (λ b. b ∷ drop (at + 1) text) e)
 
-pub cut_done : (line rest : List ℕ) (fields new : List (List ℕ)) → 0 < length line → Cut line rest fields → All IsOrdinary rest
-    → (begun : List ℕ) → begun ≡ [] → new ≡ fields ++ (begun ++ rest) ∷ [] → one_record line ≡ Some new
-cut_done line rest fields new some c h begun b n =
-    one_record_plain line some (c.plain (are_plain rest h)) ∙ ap Some (rw (c.parts, slice_split_none (λ b. b == 44) rest (not_comma rest h), n, b) refl)
+pub first_part : (text : List ℕ) (at : ℕ) → at < length text → get_or text at 0 ≡ 44 → All (λ b. (b == 44) ≡ false) (take at text)
+    → slice_split (λ b. b == 44) text ≡ take at text ∷ slice_split (λ b. b == 44) (drop (at + 1) text)
+first_part text at lt e none =
+    ap (slice_split (λ b. b == 44)) (around text at lt e) ∙ slice_split_at (λ b. b == 44) (take at text) 44 (drop (at + 1) text) none refl
 
-pub more_ordinary : (xs : List ℕ) (i : ℕ) → All IsOrdinary (take i xs) → i < length xs → IsOrdinary (get_or xs i 0) → All IsOrdinary (take (i + 1) xs)
-more_ordinary xs i before lt h = All-more IsOrdinary xs i 0 lt before h
+pub only_part : (text : List ℕ) → All (λ b. (b == 44) ≡ false) text → slice_split (λ b. b == 44) text ≡ text ∷ []
+only_part text none = slice_split_none (λ b. b == 44) text none
 
-pub all_ordinary : (xs : List ℕ) (i : ℕ) → All IsOrdinary (take i xs) → length xs ≤ i → All IsOrdinary xs
-all_ordinary xs i h le = All-same IsOrdinary xs (take i xs) (sym (take_all i xs le)) h
+pub few_parts : (text : List ℕ) → length text < 2 ^ 63 → length (slice_split (λ b. b == 44) text) < 2 ^ 64
+few_parts text few = rw (length-slice_split (λ b. b == 44) text) (omega (arith, few, count_by-le-length (λ b. b == 44) text))
 
 -- fields without commas, with a comma before each but the first, are cut into those fields
 split_again : (first : List ℕ) (more : List (List ℕ)) → All IsOrdinary first → All (All IsOrdinary) more

@@ -1,5 +1,9 @@
 -- The fields of a line that is one record of comma-separated values.
-use Rattle.std.specs.Prelude.{List, [], ℕ, false, ◌≡◌, ◌==◌, Option, Some, None, is_none, if◌then◌else◌}
+use Rattle.std.specs.Prelude.{List, [], ℕ, false, ◌≡◌, ◌==◌, Option, Some, None, is_none, drop, if◌then◌else◌}
+use Rattle.std.specs.List.{slice_split}
+use Rattle.csv.specs.Records.{fields_of}
+use Rattle.record_fields.specs.declared.fields.Left.{Left}
+use Rattle.record_fields.specs.declared.fields.Left.TheVariants.{Text, Nothing, Row}
 use Rattle.csv.specs.Machine.{Read, next_record}
 use Rattle.csv.specs.Reading.{default_config, strip_bom}
 use Rattle.csv.specs.declared.parser.State.TheVariants as st
@@ -12,6 +16,14 @@ only (Some p) = if is_none (next_record default_config p.1 [] [] p.2) then Some 
 -- the fields of a line, where it is one record: fields between commas, or between double quotes; a byte order mark before the first is taken off
 abbrev pub one_record : List ℕ → Option (List (List ℕ))
 one_record line = only (next_record default_config st.StartRecord [] [] (strip_bom line))
+
+-- ---- for proofs alone
+
+-- the fields that are left
+abbrev pub fields_left : Left → List (List ℕ)
+fields_left (Text text) = slice_split (λ b. b == 44) text.now
+fields_left Nothing = []
+fields_left (Row row taken) = drop taken (fields_of row.now)
 
 -- a byte with no meaning of its own in a record, or a comma: no quote, no line end, and not the first of a byte order mark
 abbrev pub IsPlain : ℕ → Type 0

@@ -3,9 +3,11 @@
 //! Lines without quotes are cut at their commas; the others are read by `csv`.
 #![tactic(auto)]
 
+mod fields;
 mod plain;
 mod record;
 
+pub use fields::Fields;
 pub use record::find_fields;
 
 #[cfg(test)]
@@ -16,17 +18,15 @@ mod tests {
 
     // The fields of a line, a stroke before each, or `none`.
     fn shown(alloc: Global, line: &[u8]) -> Result<Vec<u8>, AllocError> {
-        let mut fields = ByteRecord::new(alloc);
+        let mut row = ByteRecord::new(alloc);
         let mut text = Vec::new(alloc);
-        if !find_fields(alloc, line, &mut fields)? {
+        let Some(mut fields) = find_fields(alloc, line, &mut row)? else {
             text.extend_from_slice(b"none")?;
             return Ok(text);
-        }
-        for at in 0..fields.len() {
+        };
+        while let Some(field) = fields.next() {
             text.extend_from_slice(b"|")?;
-            if let Some(field) = fields.get(at) {
-                text.extend_from_slice(field)?;
-            }
+            text.extend_from_slice(field)?;
         }
         Ok(text)
     }

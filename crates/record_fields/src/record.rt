@@ -1,36 +1,41 @@
 //! A line as one record.
 
-ghost use Rattle.std.specs.Prelude.{◌≡◌, IfOk, option_map, true, false, Some, None};
+ghost use Rattle.std.specs.Prelude.{◌≡◌, ◌<◌, ◌^◌, IfOk, IfSome, length, option_map};
 ghost use Rattle.csv.specs.Records.{fields_of};
 ghost use Rattle.record_fields.specs.Fields.{one_record};
 
-use crate::plain::cut_plain;
+use crate::fields::Fields;
+use crate::plain::is_plain;
 use csv::{ByteRecord, ReaderBuilder};
 use std::alloc::{AllocError, Global};
 
-/// Puts the fields of a line that is one record into `fields`, in place of what it held, and answers whether the line is one.
+/// The fields of a line that is one record, or `None` where it is not. A row of them is kept in `row` where the line cannot be cut at its
+/// commas.
 ///
 /// # Errors
 ///
 /// `AllocError` where memory was refused.
-#[tactic(auto, using(crate::proofs::PlainFacts::no_record))]
-pub fn find_fields(alloc: Global, line: &[u8], fields: &mut ByteRecord) -> Result<bool, AllocError>
-    ensures found { IfOk result (λ found. found ≡ true → one_record line.now ≡ Some (fields_of fields.new)) }
-    ensures none { IfOk result (λ found. found ≡ false → one_record line.now ≡ None) }
+#[tactic(auto, using(crate::proofs::PlainFacts::one_record_plain, crate::proofs::PlainFacts::no_record))]
+pub fn find_fields<'a>(
+    alloc: Global,
+    line: &'a [u8],
+    row: &'a mut ByteRecord,
+) -> Result<Option<Fields<'a>>, AllocError>
+    ensures found { IfOk result (λ fields. fields ≡ one_record line.now) }
+    ensures few { IfOk result (λ fields. IfSome fields (λ f. length f < 2 ^ 64)) }
 {
-    fields.clear();
     if line.is_empty() {
-        return Ok(false);
+        return Ok(None);
     }
-    if cut_plain(line, fields)? {
-        return Ok(true);
+    if is_plain(line) {
+        return Ok(Some(Fields::of_text(line)));
     }
     match read_one(alloc, line)? {
-        Some(row) => {
-            *fields = row;
-            Ok(true)
+        Some(fields) => {
+            *row = fields;
+            Ok(Some(Fields::of_row(row)))
         }
-        None => Ok(false),
+        None => Ok(None),
     }
 }
 

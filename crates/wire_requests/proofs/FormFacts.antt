@@ -2,7 +2,7 @@
 use Rattle.std.proofs.Common.{arith, ◌≡◌, ◌≢◌, ◌≤◌, ◌+◌, List, [], ◌∷◌, ℕ, codes, length, refl, ap, sym, subst, ◌∙◌, inl, inr, Result, Ok, Err, IfErr}
 use Rattle.wire_values.specs.Wanted.{Wanted, Spelled}
 use Rattle.wire_values.specs.declared.plain.Plain.TheVariants as plains
-use Rattle.wire_requests.specs.Shape.{FirstBad, Place, place_after, Took, IsBad}
+use Rattle.wire_requests.specs.Shape.{FirstBad, Place, beginning, Took, IsBad}
 use Rattle.wire_requests.specs.Forms.{form_word, fields_of_form, shape_of, BeginsWith, FirstWrong, NoForm, InForm}
 use Rattle.wire_requests.specs.Readings.{IsReading}
 use Rattle.wire_requests.specs.Requests.{spelling}
@@ -31,18 +31,18 @@ begins_with : (form : Form) (fields rest : List (List ℕ)) → fields ≡ form_
 begins_with form fields rest e = rw e refl
 
 -- the fields are those of the request that is read of them
-pub all_fields : (form : Form) (r : Request) (fields : List (List ℕ)) (start now : Place) → start ≡ place_after 0 fields → TookForm form start now → IsReading form r now
+pub all_fields : (form : Form) (r : Request) (fields : List (List ℕ)) (start now : Place) → start ≡ beginning fields → TookForm form start now → IsReading form r now
     → fields ≡ spelling r
 all_fields form r fields start now e p h = ap (λ s. s.rest) (sym e) ∙ p.read ∙ h.fields
 
 -- a bad field after the first is the first wrong one
-in_form : (form : Form) (fields : List (List ℕ)) (start now : Place) (n : ℕ) → start ≡ place_after 0 fields → TookForm form start now → IsBad (fields_of_form form) now n
+in_form : (form : Form) (fields : List (List ℕ)) (start now : Place) (n : ℕ) → start ≡ beginning fields → TookForm form start now → IsBad (fields_of_form form) now n
     → FirstWrong fields n
 in_form form fields start now n e p h =
-    let q : TookForm form (place_after 0 fields) now = subst (λ s. TookForm form s now) e p in
+    let q : TookForm form (beginning fields) now = subst (λ s. TookForm form s now) e p in
     InForm form (begins_with form fields now.rest q.read) (q.bad (fields_of_form form) n h.first)
 
-pub wrong_form : (form : Form) (fields : List (List ℕ)) (start now : Place) (r : Result Request BadField) → start ≡ place_after 0 fields → TookForm form start now
+pub wrong_form : (form : Form) (fields : List (List ℕ)) (start now : Place) (r : Result Request BadField) → start ≡ beginning fields → TookForm form start now
     → IfErr r (λ b. IsBad (fields_of_form form) now (b.before + 1)) → IfErr r (λ b. FirstWrong fields (b.before + 1))
 wrong_form form fields start now (Ok x) e p h = tt
 wrong_form form fields start now (Err b) e p h = in_form form fields start now (b.before + 1) e p h

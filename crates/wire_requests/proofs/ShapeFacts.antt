@@ -1,30 +1,9 @@
 -- A reader takes the fields of a record one after the other.
-use Rattle.std.proofs.Common.{ℕ, zero, suc, ◌+◌, ◌≡◌, List, [], ◌∷◌, ◌++◌, Some, None, refl, ap, sym, subst, ◌∙◌, inl, inr, get_or, drop, append-nil, append_assoc, add-one}
-use Rattle.csv.specs.Records.{field_at}
+use Rattle.std.proofs.Common.{ℕ, ◌≡◌, List, [], ◌∷◌, ◌++◌, ap, sym, subst, ◌∙◌, inl, inr, append-nil, append_assoc}
 use Rattle.wire_values.specs.Wanted.{Wanted, Fits}
-use Rattle.wire_requests.specs.Shape.{HasShape, FirstBad, Place, place_after, Steps, Took, Stops, IsBad}
+use Rattle.wire_requests.specs.Shape.{HasShape, FirstBad, Place, Steps, Took, Stops, IsBad}
 
 -- ---- one field
-
--- the place after one more field
-step_at : (fields : List (List ℕ)) (i : ℕ) (text : List ℕ) → field_at fields i ≡ Some text → (drop i fields ≡ text ∷ drop (i + 1) fields) × (get_or fields i [] ≡ text)
-unfolding field_at
-step_at [] i text e = absurd (cc)
-step_at (f ∷ fs) zero text e = let q : f ≡ text = cc in (ap (λ x. x ∷ fs) q, q)
-step_at (f ∷ fs) (suc i) text e = rw (add-one (suc i)) (rw (add-one i) at (step_at fs i text e))
-
-pub steps : (fields : List (List ℕ)) (i : ℕ) (text : List ℕ) → field_at fields i ≡ Some text → Steps text (place_after i fields) (place_after (i + 1) fields)
-steps fields i text e = let h = step_at fields i text e in record { rest = h.0; before = rw (add-one i) h.1; number = refl }
-
--- there is no field after the last
-pub no_more : (fields : List (List ℕ)) (i : ℕ) → field_at fields i ≡ None → drop i fields ≡ []
-unfolding field_at
-no_more [] zero e = refl
-no_more [] (suc i) e = refl
-no_more (f ∷ fs) zero e = absurd (cc)
-no_more (f ∷ fs) (suc i) e = no_more fs i e
-
-pub ruleset moving = (steps, no_more)
 
 -- the field is as wanted
 took_field : (w : Wanted) (text : List ℕ) (old new : Place) → Steps text old new → Fits w old.before text → Took (w ∷ []) (text ∷ []) old new

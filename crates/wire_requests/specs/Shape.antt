@@ -1,5 +1,5 @@
 -- The shape of a record: what its fields may be, from the first to the last.
-use Rattle.std.specs.Prelude.{ℕ, ◌+◌, ◌≡◌, ◌⊎◌, List, [], ◌∷◌, ◌++◌, drop, slice_index_or}
+use Rattle.std.specs.Prelude.{ℕ, ◌+◌, ◌≡◌, ◌⊎◌, List, [], ◌∷◌, ◌++◌}
 use Rattle.wire_values.specs.Wanted.{Wanted, Fits}
 
 -- the fields are as wanted, none too few and none too many; before is the field before them
@@ -25,9 +25,9 @@ pub record Place : Type 0 where
   pub rest : List (List ℕ)
   pub number : ℕ
 
--- the place after so many fields
-abbrev pub place_after : ℕ → List (List ℕ) → Place
-place_after taken fields = record { before = slice_index_or ([] ∷ fields) taken []; rest = drop taken fields; number = taken + 1 }
+-- the place before the first of the fields
+abbrev pub beginning : List (List ℕ) → Place
+beginning fields = record { before = []; rest = fields; number = 1 }
 
 -- it took this field
 pub record Steps (field : List ℕ) (old new : Place) : Type 0 where

@@ -1,16 +1,15 @@
 //! The fields of a record, taken one after the other.
 
-ghost use Rattle.std.specs.Prelude.{◌≡◌, ◌∷◌, ◌+◌, [], pos, Some, IfSome, IfNone, IfOk, IfErr, OnOk};
+ghost use Rattle.std.specs.Prelude.{◌≡◌, ◌∷◌, ◌+◌, [], pos, ◌<◌, ◌^◌, length, Some, IfSome, IfNone, IfOk, IfErr, OnOk};
 ghost use Rattle.std.specs.Fmt.{signed_decimal};
-ghost use Rattle.csv.specs.Records.{fields_of};
 ghost use Rattle.whole_number.specs.Whole.{HasNineDigits};
 ghost use Rattle.airfields.specs.Sites.{greatest_mobile};
 ghost use Rattle.wire_values.specs.Words.{kind_word, IsBetween};
 ghost use Rattle.wire_values.specs.Wanted.{Between, any_number, MobileWanted};
-ghost use Rattle.wire_requests.specs.Shape.{place_after, Steps, Took, Stops, IsBad};
+ghost use Rattle.wire_requests.specs.Shape.{beginning, Steps, Took, Stops, IsBad};
 
 use airfields::StructureKind;
-use csv::ByteRecord;
+use record_fields::Fields;
 use std::marker::Model;
 use whole_number::NUMBER_LIMIT;
 use wire_values::{FieldValue, number_within};
@@ -28,36 +27,44 @@ pub(crate) struct BadField {
 /// memory, which is a third of the time of a line.
 #[derive(Drop)]
 pub(crate) struct Cursor<'a> {
-    fields: &'a ByteRecord,
+    fields: Fields<'a>,
+    before: &'a [u8],
     taken: usize,
 }
 
 impl<'a> Model for Cursor<'a> {
-    ghost use Rattle.csv.specs.Records.{fields_of};
-    ghost use Rattle.wire_requests.specs.Shape.{Place, place_after};
+    ghost use Rattle.std.specs.Prelude.{length, ◌+◌, ◌<◌, ◌^◌};
+    ghost use Rattle.wire_requests.specs.Shape.{Place};
 
     ghost Value = { Place };
 
-    ghost view = { λ c. place_after c.taken (fields_of c.fields.now) };
+    ghost view = { λ c. record { before = c.before.now; rest = c.fields; number = c.taken + 1 } };
+
+    ghost invariant = { λ c. c.taken + length c.fields < 2 ^ 64 };
 }
 
 impl<'a> Cursor<'a> {
     /// Before the first of the fields.
-    pub(crate) fn new(fields: &'a ByteRecord) -> Cursor<'a>
-        ensures { result ≡ place_after 0 (fields_of fields.now) }
+    pub(crate) fn new(fields: Fields<'a>) -> Cursor<'a>
+        requires few { length fields < 2 ^ 64 }
+        ensures { result ≡ beginning fields.entry }
     {
-        Cursor { fields, taken: 0 }
+        Cursor {
+            fields,
+            before: b"",
+            taken: 0,
+        }
     }
 
     /// The next field, which is then taken.
     #[inline(always)]
-    #[tactic(auto, using(crate::proofs::ShapeFacts::moving))]
     pub(crate) fn next(&mut self) -> Option<&'a [u8]>
         ensures some { IfSome result (λ text. Steps text.now self.old self.new) }
         ensures none { IfNone result (self.old.rest ≡ []) }
     {
-        match self.fields.get(self.taken) {
+        match self.fields.next() {
             Some(text) => {
+                self.before = text;
                 self.taken += 1;
                 Some(text)
             }

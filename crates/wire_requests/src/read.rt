@@ -1,7 +1,6 @@
 //! Requests, read from lines.
 
-ghost use Rattle.std.specs.Prelude.{◌≡◌, ◌+◌, ◌<◌, IfOk, IfErr};
-ghost use Rattle.csv.specs.Records.{fields_of};
+ghost use Rattle.std.specs.Prelude.{◌≡◌, ◌+◌, ◌<◌, ◌^◌, ℕ, List, length, IfOk, IfErr};
 ghost use Rattle.wire_requests.specs.Forms.{FirstWrong};
 ghost use Rattle.wire_requests.specs.Requests.{spelling, IsGood, IsRecord, IsRefusal};
 
@@ -12,15 +11,16 @@ use crate::request::{ReadRefusal, Request};
 use crate::structures::{airfield, screen, verdict};
 use csv::ByteRecord;
 use grid_exact::LINE_LIMIT;
-use record_fields::find_fields;
+use record_fields::{Fields, find_fields};
 use std::alloc::Global;
 
 // The request whose spelling the fields are.
 #[tactic(auto, using(crate::proofs::FormFacts::all_fields))]
-fn request(fields: &ByteRecord) -> Result<Request, BadField>
-    ensures read { IfOk result (λ r. fields_of fields.now ≡ spelling r) }
+fn request(fields: Fields<'_>) -> Result<Request, BadField>
+    requires few { length fields < 2 ^ 64 }
+    ensures read { IfOk result (λ r. fields.entry ≡ spelling r) }
     ensures good { IfOk result (λ r. IsGood r) }
-    ensures bad { IfErr result (λ b. FirstWrong (fields_of fields.now) (b.before + 1)) }
+    ensures bad { IfErr result (λ b. FirstWrong fields.entry (b.before + 1)) }
 {
     let mut cursor = Cursor::new(fields);
     match cursor.form() {
@@ -34,8 +34,8 @@ fn request(fields: &ByteRecord) -> Result<Request, BadField>
 
 // The refusal of a record that is wrong at a field.
 #[tactic(auto, using(crate::proofs::FormFacts::wrong_early))]
-fn malformed(fields: &ByteRecord, bad: BadField) -> ReadRefusal
-    requires { FirstWrong (fields_of fields.now) (bad.before + 1) }
+fn malformed(bad: BadField) -> ReadRefusal
+    requires { (fields : List (List ℕ)) × FirstWrong fields (bad.before + 1) }
     ensures { result ≡ ReadRefusal.Malformed (bad.before + 1) }
 {
     ReadRefusal::Malformed {
@@ -43,11 +43,11 @@ fn malformed(fields: &ByteRecord, bad: BadField) -> ReadRefusal
     }
 }
 
-/// Reads records, and keeps the room for their fields from line to line.
+/// Reads records, and keeps the room for a row of fields from line to line.
 #[derive(Drop)]
 pub struct RecordReader {
     alloc: Global,
-    fields: ByteRecord,
+    row: ByteRecord,
 }
 
 impl RecordReader {
@@ -55,7 +55,7 @@ impl RecordReader {
     pub fn new(alloc: Global) -> RecordReader {
         RecordReader {
             alloc,
-            fields: ByteRecord::new(alloc),
+            row: ByteRecord::new(alloc),
         }
     }
 
@@ -74,12 +74,12 @@ impl RecordReader {
         if line.is_empty() {
             return Err(ReadRefusal::Malformed { field: 1 });
         }
-        match find_fields(self.alloc, line, &mut self.fields) {
+        match find_fields(self.alloc, line, &mut self.row) {
             Err(_) => Err(ReadRefusal::NoMemory),
-            Ok(false) => Err(ReadRefusal::Malformed { field: 0 }),
-            Ok(true) => match request(&self.fields) {
+            Ok(None) => Err(ReadRefusal::Malformed { field: 0 }),
+            Ok(Some(fields)) => match request(fields) {
                 Ok(request) => Ok(request),
-                Err(bad) => Err(malformed(&self.fields, bad)),
+                Err(bad) => Err(malformed(bad)),
             },
         }
     }
