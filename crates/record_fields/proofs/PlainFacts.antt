@@ -1,10 +1,11 @@
 -- A plain line is the record of its parts.
-use Rattle.std.proofs.Common.{arith, ℕ, ◌+◌, ◌^◌, ◌<◌, ◌≤◌, ◌≡◌, ◌==◌, true, false, List, [], ◌∷◌, ◌++◌, take, drop, length, get_or, Some, None, All, refl, sym, ◌∙◌, cond, ap, append-nil, append_assoc, length-append}
+use Rattle.std.proofs.Common.{arith, ℕ, ◌+◌, ◌^◌, ◌<◌, ◌≤◌, ◌≡◌, ◌==◌, Bool, true, false, ◌||◌, List, [], ◌∷◌, ◌++◌, take, drop, length, get_or, Some, None, All, refl, sym, ◌∙◌, cond, ap, append-nil, append_assoc, length-append}
 use Rattle.std.specs.List.{slice_split, onto_first, flat_map}
 use Rattle.std.proofs.lemmas.List.Sums.{count_by-le-length}
 use Rattle.std.proofs.lemmas.List.Splits.{slice_split_at, slice_split_none, length-slice_split}
-use Rattle.std.proofs.lemmas.List.Elements.{All-nil, All-head, All-tail, All-append, All-cons, All-more, All-same}
+use Rattle.std.proofs.lemmas.List.Elements.{All-nil, All-head, All-tail, All-append, All-cons, All-more, All-same, All-from_get_or}
 use Rattle.std.proofs.lemmas.List.{take-append-drop, drop_more, take_all}
+use Rattle.memchr.specs.Find.{IsFirstByte, is_byte, is_byte3}
 use Rattle.csv.specs.Machine.{next_record}
 use Rattle.csv.specs.Reading.{default_config, strip_bom}
 use Rattle.csv.specs.declared.parser.State.TheVariants as st
@@ -80,6 +81,22 @@ not_comma xs h k d lt = (h k d lt).1
 
 are_plain : (xs : List ℕ) → All IsOrdinary xs → All IsPlain xs
 are_plain xs h k d lt = (h k d lt).0
+
+-- a text in which the searches for marks find nothing is plain
+not_passed : (b : Bool) → (b ≡ true → ⊥) → b ≡ false
+not_passed true h = absurd (h refl)
+not_passed false h = refl
+
+none_of : (a b c : Bool) → ((a || b || c) ≡ true → ⊥) → (a ≡ false) × (b ≡ false) × (c ≡ false)
+none_of true b c h = absurd (h refl)
+none_of false true c h = absurd (h refl)
+none_of false false true h = absurd (h refl)
+none_of false false false h = (refl, refl, refl)
+
+pub no_marks : (text : List ℕ) → IsFirstByte (is_byte3 34 13 0xEF) text None → IsFirstByte (is_byte 10) text None → All IsPlain text
+no_marks text marks feeds = All-from_get_or IsPlain text 0 (λ j lt.
+    let m = none_of (get_or text j 0 == 34) (get_or text j 0 == 13) (get_or text j 0 == 0xEF) (marks j (omega arith) lt) in
+    (m.0, m.1, not_passed (get_or text j 0 == 10) (feeds j (omega arith) lt), m.2))
 
 -- what holds of all items before a place, and of the one there
 pub one_more : (P : ℕ → Type 0) (xs : List ℕ) (i : ℕ) → All P (take i xs) → i < length xs → P (get_or xs i 0) → All P (take (i + 1) xs)
