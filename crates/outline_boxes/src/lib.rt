@@ -1,0 +1,5 @@
+//! The least whole boxes of outlines that lie on both sides of a line: rectangles and trapezoids. Lengths and coordinates are whole
+//! tenths of a foot.
+#![tactic(auto)]
+
+mod edges;
