@@ -1,5 +1,5 @@
 -- An outline's points lie within the coordinates that its corners reach: east of its start, over plain numbers.
-use Rattle.std.proofs.Common.{◌≡◌, ℕ, ℤ, pos, ◌+◌, ◌-◌, ◌*◌, ◌<◌, ◌≤◌, ◌+ℤ◌, ◌-ℤ◌, ◌*ℤ◌, ◌≤ℤ◌, ◌<ℤ◌, neg_ℤ, unsigned_abs, arith, ap, subst}
+use Rattle.std.proofs.Common.{◌≡◌, ℕ, ℤ, pos, negsuc, ◌+◌, ◌-◌, ◌*◌, ◌<◌, ◌≤◌, ◌+ℤ◌, ◌-ℤ◌, ◌*ℤ◌, ◌≤ℤ◌, ◌<ℤ◌, neg_ℤ, unsigned_abs, arith, ap, refl, subst}
 use Rattle.std.proofs.Math.IntN.{*ℤ_comm}
 use Rattle.std.proofs.Math.Nat.{mul-pos}
 use Rattle.std.proofs.lemmas.Int.{ints, by_lt_z}
@@ -84,3 +84,65 @@ trapezoid_east_of f v z m q b k near far len n p pk pl nf m0 ml side big past_ne
       let e : pos len *ℤ (pos k *ℤ pos q) ≡ pos (len * k * q) = omega (arith, ints) in
       rw (e, es) at side in
     fan_east f v z m q b (len * k) s (len * near) len n p (mul-pos pl pk) m0 ml h3 big h1 h2
+
+pub trapezoid_east : (f v z m k near far len : ℤ) (q b n : ℕ) → 0 < n → pos 0 <ℤ k → pos 0 <ℤ len → pos 0 ≤ℤ near → near ≤ℤ far → pos 0 ≤ℤ m → AtMostRoot m len n →
+    AtMostRoot (len *ℤ (k *ℤ pos q) -ℤ (far -ℤ near) *ℤ m) (len *ℤ near) n → (pos n *ℤ v) ≤ℤ (m *ℤ f +ℤ pos (q * b)) →
+    AtMostRoot (near *ℤ pos b) (k *ℤ z) n → AtMostRoot ((k *ℤ len) *ℤ f +ℤ far *ℤ pos b) (k *ℤ z) n → v ≤ℤ z
+trapezoid_east f v z m (pos k) (pos near) (pos far) (pos len) q b n p pk pl hn nf m0 ml side big past_near past_far =
+    trapezoid_east_of f v z m q b k near far len n p (omega (arith, ints, pk)) (omega (arith, ints, pl)) (omega (arith, ints, nf)) m0 ml side big past_near past_far
+trapezoid_east f v z m (negsuc k) near far len q b n p pk pl hn nf m0 ml side big past_near past_far = absurd (omega (arith, ints, pk))
+trapezoid_east f v z m (pos k) (negsuc near) far len q b n p pk pl hn nf m0 ml side big past_near past_far = absurd (omega (arith, ints, hn))
+trapezoid_east f v z m (pos k) (pos near) (negsuc far) len q b n p pk pl hn nf m0 ml side big past_near past_far = absurd (omega (arith, ints, nf))
+trapezoid_east f v z m (pos k) (pos near) (pos far) (negsuc len) q b n p pk pl hn nf m0 ml side big past_near past_far = absurd (omega (arith, ints, pl))
+
+pub rectangle_east : (f v z m k h : ℤ) (q b n : ℕ) → 0 < n → pos 0 <ℤ k → pos 0 ≤ℤ h → pos 0 ≤ℤ m → m ≤ℤ pos n → AtMostRoot (k *ℤ pos q) h n → (pos n *ℤ v) ≤ℤ (m *ℤ f +ℤ pos (q * b)) →
+    AtMostRoot (h *ℤ pos b) (k *ℤ z) n → AtMostRoot (h *ℤ pos b) (k *ℤ (z -ℤ f)) n → v ≤ℤ z
+rectangle_east f v z m (pos k) (pos h) q b n p pk hh m0 m1 side big near far =
+    let e : pos h *ℤ pos b ≡ pos (b * h) = omega (arith, ints) in
+    let near' : AtMostRoot (pos (b * h)) (pos k *ℤ z) n = rw e at near in
+    let far' : AtMostRoot (pos (b * h)) (pos k *ℤ (z -ℤ f)) n = rw e at far in
+    band_east f v z m q b k h n p (omega (arith, ints, pk)) m0 m1 side big near' far'
+rectangle_east f v z m (negsuc k) h q b n p pk hh m0 m1 side big near far = absurd (omega (arith, ints, pk))
+rectangle_east f v z m (pos k) (negsuc h) q b n p pk hh m0 m1 side big near far = absurd (omega (arith, ints, hh))
+
+-- ---- where a point lies by a line tells how far it is in each of the four directions
+along-turn : (ex ey vx vy : ℤ) → along_of ex ey vx vy ≡ along_of vx vy ex ey
+along-turn ex ey vx vy = omega (arith, ints, *ℤ_comm ex vx, *ℤ_comm ey vy)
+
+aside-turn : (ex ey vx vy : ℤ) → unsigned_abs (across_of ex ey vx vy) ≡ unsigned_abs (across_of vx vy ex ey)
+aside-turn ex ey vx vy = omega (arith, ints, *ℤ_comm ex vy, *ℤ_comm ey vx)
+
+-- the point is at (vx, vy) from the start of a line of the vector (dx, dy)
+pub record LiesSo (vx vy dx dy : ℤ) : Type 0 where
+  pub east : (pos (length_of dx dy) *ℤ vx) ≤ℤ (along_of vx vy dx dy *ℤ dx +ℤ pos (unsigned_abs (across_of vx vy dx dy) * unsigned_abs dy))
+  pub west : (pos (length_of dx dy) *ℤ neg_ℤ vx) ≤ℤ (along_of vx vy dx dy *ℤ neg_ℤ dx +ℤ pos (unsigned_abs (across_of vx vy dx dy) * unsigned_abs dy))
+  pub north : (pos (length_of dx dy) *ℤ vy) ≤ℤ (along_of vx vy dx dy *ℤ dy +ℤ pos (unsigned_abs (across_of vx vy dx dy) * unsigned_abs dx))
+  pub south : (pos (length_of dx dy) *ℤ neg_ℤ vy) ≤ℤ (along_of vx vy dx dy *ℤ neg_ℤ dy +ℤ pos (unsigned_abs (across_of vx vy dx dy) * unsigned_abs dx))
+
+east_of : (vx vy dx dy : ℤ) → (pos (length_of dx dy) *ℤ vx) ≤ℤ (along_of vx vy dx dy *ℤ dx +ℤ pos (unsigned_abs (across_of vx vy dx dy) * unsigned_abs dy))
+east_of vx vy dx dy = rw (along-turn dx dy vx vy, aside-turn dx dy vx vy) at (lagrange_most dx dy vx vy)
+
+west_of : (vx vy dx dy : ℤ) → (pos (length_of dx dy) *ℤ neg_ℤ vx) ≤ℤ (along_of vx vy dx dy *ℤ neg_ℤ dx +ℤ pos (unsigned_abs (across_of vx vy dx dy) * unsigned_abs dy))
+west_of vx vy dx dy =
+    let n : length_of (neg_ℤ dx) dy ≡ length_of dx dy = rw abs_neg refl in
+    let m : along_of (neg_ℤ vx) vy (neg_ℤ dx) dy ≡ along_of vx vy dx dy = omega (arith, ints, neg-mul vx dx) in
+    let q : unsigned_abs (across_of (neg_ℤ vx) vy (neg_ℤ dx) dy) ≡ unsigned_abs (across_of vx vy dx dy) =
+      omega (arith, ints, mul-neg vy dx, *ℤ_comm (neg_ℤ vx) dy, mul-neg dy vx, *ℤ_comm dy vx) in
+    rw (n, m, q) at (east_of (neg_ℤ vx) vy (neg_ℤ dx) dy)
+
+swap : (vx vy dx dy : ℤ) → along_of vy vx dy dx ≡ along_of vx vy dx dy
+swap vx vy dx dy = omega (arith, ints)
+
+swap_aside : (vx vy dx dy : ℤ) → unsigned_abs (across_of vy vx dy dx) ≡ unsigned_abs (across_of vx vy dx dy)
+swap_aside vx vy dx dy = omega (arith, ints)
+
+swap_length : (dx dy : ℤ) → length_of dy dx ≡ length_of dx dy
+swap_length dx dy = omega arith
+
+pub lies_so : (vx vy dx dy : ℤ) → LiesSo vx vy dx dy
+lies_so vx vy dx dy = record {
+  east = east_of vx vy dx dy;
+  west = west_of vx vy dx dy;
+  north = rw (swap_length dx dy, swap vx vy dx dy, swap_aside vx vy dx dy) at (east_of vy vx dy dx);
+  south = rw (swap_length dx dy, swap vx vy dx dy, swap_aside vx vy dx dy) at (west_of vy vx dy dx);
+}

@@ -1,2 +1,4 @@
-pub mod Sides
+pub mod EdgeSizes
 pub mod Covers
+pub mod Corners
+pub mod BoxFacts

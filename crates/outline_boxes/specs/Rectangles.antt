@@ -1,5 +1,5 @@
 -- Rectangles about a line, from its start to its end.
-use Rattle.std.specs.Prelude.{ℤ, pos, neg_ℤ, ◌+ℤ◌, ◌*ℤ◌, ◌≤ℤ◌, ◌<ℤ◌}
+use Rattle.std.specs.Prelude.{ℤ, pos, neg_ℤ, ◌+ℤ◌, ◌*ℤ◌, ◌≤ℤ◌}
 use Rattle.grid_exact.specs.Root.{AtMostRoot}
 use Rattle.grid_exact.specs.Lines.{Line, Offset}
 use Rattle.grid_exact.specs.declared.area.Area.{Area}
@@ -23,11 +23,3 @@ pub record OnRectangle (r : Rectangle) (o : Offset) : Type 0 where
   pub past_start : pos 0 ≤ℤ o.along
   pub before_end : o.along ≤ℤ pos o.square
   pub not_beside : AtMostRoot (r.scale *ℤ pos o.aside) r.half o.square
-
--- ---- sizes
-
-pub record HasRectangleSizes (scale half : ℤ) : Type 0 where
-  pub scale_least : pos 0 <ℤ scale
-  pub scale_most : scale ≤ℤ pos 1048576
-  pub half_least : pos 0 ≤ℤ half
-  pub half_most : half ≤ℤ (scale *ℤ pos 1048576)

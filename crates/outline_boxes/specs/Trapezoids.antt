@@ -1,5 +1,5 @@
 -- Trapezoids about a line, from its start on as far as a length.
-use Rattle.std.specs.Prelude.{ℤ, pos, neg_ℤ, ◌+ℤ◌, ◌-ℤ◌, ◌*ℤ◌, ◌≤ℤ◌, ◌<ℤ◌}
+use Rattle.std.specs.Prelude.{ℤ, pos, neg_ℤ, ◌+ℤ◌, ◌-ℤ◌, ◌*ℤ◌, ◌≤ℤ◌}
 use Rattle.grid_exact.specs.Root.{AtMostRoot}
 use Rattle.grid_exact.specs.Lines.{Line, Offset}
 use Rattle.grid_exact.specs.declared.area.Area.{Area}
@@ -26,14 +26,3 @@ pub record OnTrapezoid (t : Trapezoid) (o : Offset) : Type 0 where
   pub ahead : pos 0 ≤ℤ o.along
   pub not_past : AtMostRoot o.along t.length o.square
   pub not_beside : AtMostRoot (t.length *ℤ (t.scale *ℤ pos o.aside) -ℤ (t.far -ℤ t.near) *ℤ o.along) (t.length *ℤ t.near) o.square
-
--- ---- sizes
-
-pub record HasTrapezoidSizes (scale near far length : ℤ) : Type 0 where
-  pub scale_least : pos 0 <ℤ scale
-  pub scale_most : scale ≤ℤ pos 1048576
-  pub near_least : pos 0 ≤ℤ near
-  pub near_most : near ≤ℤ far
-  pub length_least : pos 0 <ℤ length
-  pub length_most : length ≤ℤ pos 1048576
-  pub reach_most : (scale *ℤ length +ℤ far) ≤ℤ (scale *ℤ pos 1048576)

@@ -3,3 +3,9 @@
 #![tactic(auto)]
 
 mod edges;
+mod rectangle;
+mod sides;
+mod trapezoid;
+
+pub use rectangle::RectangleOutline;
+pub use trapezoid::TrapezoidOutline;

@@ -1,11 +1,11 @@
 -- Sizes of what corners on both sides of a line reach, over plain numbers.
-use Rattle.std.proofs.Common.{◌≡◌, ◌⊎◌, inl, inr, ℕ, suc, ℤ, pos, negsuc, ◌+◌, ◌*◌, ◌^◌, ◌<◌, ◌≤◌, ◌+ℤ◌, ◌-ℤ◌, ◌*ℤ◌, ◌≤ℤ◌, ◌<ℤ◌, neg_ℤ, unsigned_abs, FitsSigned, w64, arith, ap}
+use Rattle.std.proofs.Common.{◌≡◌, ◌⊎◌, inl, inr, ℕ, suc, ℤ, pos, negsuc, ◌+◌, ◌*◌, ◌^◌, ◌<◌, ◌≤◌, ◌+ℤ◌, ◌-ℤ◌, ◌*ℤ◌, ◌≤ℤ◌, ◌<ℤ◌, neg_ℤ, unsigned_abs, FitsSigned, w64, to_z-of_z, arith, ap}
 use Rattle.std.proofs.Math.Nat.{mul-le-mul, mul-le-mul_left}
 use Rattle.std.proofs.lemmas.Int.{ints}
 use Rattle.grid_exact.specs.Root.{AboveRoot, AtMostRoot}
 use Rattle.grid_exact.specs.Level.{IsCoordinate}
 use Rattle.grid_exact.specs.Lines.{IsSquare}
-use Rattle.grid_exact.proofs.IntLaws.{abs_neg, mul-neg}
+use Rattle.grid_exact.proofs.IntLaws.{abs_neg, mul-neg, product_up}
 use Rattle.grid_exact.proofs.RootOrder.{AtMostRoot_less, AtMostRoot_more}
 use Rattle.grid_exact.proofs.RootSums.{AtMostRoot_add, AtMostRoot-scale, at_zero, in_np, in_pp, le_from_squares}
 use Rattle.grid_exact.proofs.RootTables.{AboveRoot-not}
@@ -104,3 +104,12 @@ edges_small scale ahead near far n e = record {
 pub past_of : (e : Edges) (toward : ℤ) (across : ℕ) (z p : ℤ) → (p ≡ e.near *ℤ pos across) ⊎ (p ≡ e.ahead *ℤ toward +ℤ e.far *ℤ pos across) → IsPast e toward across z → AtMostRoot p (e.scale *ℤ z) e.square
 past_of e toward across z p (inl h) q = rw h q.near_edge
 past_of e toward across z p (inr h) q = rw h q.far_edge
+
+-- a length in parts
+pub length_least : (scale length : ℤ) → pos 0 <ℤ scale → pos 0 <ℤ length → pos 0 ≤ℤ (scale *ℤ length)
+length_least scale length p q = product_up scale length (omega (arith, ints, p)) (omega (arith, ints, q))
+
+pub length_fits : (scale length : ℤ) → pos 0 <ℤ scale → scale ≤ℤ pos 1048576 → pos 0 <ℤ length → length ≤ℤ pos 1048576 → FitsSigned w64 (scale *ℤ length)
+length_fits scale length p q r s = omega (arith, ints, abs_mul_le scale length (2 ^ 20) (2 ^ 20) (omega (arith, ints, p, q)) (omega (arith, ints, r, s)))
+
+pub ruleset lengths = (to_z-of_z, length_least, length_fits)
