@@ -1,6 +1,7 @@
 -- Boxes that edges reach are least, and hold what lies on the outline.
 use Rattle.std.proofs.Common.{◌≡◌, ◌⊎◌, inl, inr, ℕ, ℤ, pos, ◌*◌, ◌≤◌, ◌<◌, ◌+ℤ◌, ◌-ℤ◌, ◌*ℤ◌, ◌≤ℤ◌, ◌<ℤ◌, neg_ℤ, unsigned_abs, arith, ap, sym, refl}
-use Rattle.std.proofs.lemmas.Int.{ints}
+use Rattle.std.proofs.lemmas.Int.{clamps, ints}
+use Rattle.std.specs.Int.{int_max, int_min}
 use Rattle.grid_exact.specs.Root.{AtMostRoot}
 use Rattle.grid_exact.specs.Area.{Has}
 use Rattle.grid_exact.specs.Lines.{Line, square, offset}
@@ -9,7 +10,7 @@ use Rattle.grid_exact.specs.declared.point.Point.{Point}
 use Rattle.grid_exact.proofs.IntLaws.{abs_neg, mul-le_left, mul-sub}
 use Rattle.grid_exact.proofs.RootOrder.{AtMostRoot_more}
 use Rattle.outline_boxes.specs.declared.edges.Edges.{Edges}
-use Rattle.outline_boxes.specs.Boxes.{Encloses, IsLeastBox}
+use Rattle.outline_boxes.specs.Boxes.{Encloses, HoldsBoth, IsLeastBox}
 use Rattle.outline_boxes.specs.Corners.{HasCorner, corner}
 use Rattle.outline_boxes.specs.Rectangles.{Rectangle, HasRectangle, OnRectangle}
 use Rattle.outline_boxes.specs.Trapezoids.{Trapezoid, HasTrapezoid, OnTrapezoid}
@@ -62,8 +63,8 @@ trapezoid_around : (t : Trapezoid) (e : Edges) (a : Area) → AreTrapezoidEdges 
 trapezoid_around t e a i h =
     let l = t.line in
     around_of e l.dx l.dy l.x l.y t.near t.far a (ap unsigned_abs (sym i.near_is)) (ap unsigned_abs (sym i.far_is))
-      (rw (i.scale_is, i.square_is) h.near_left) (rw (i.scale_is, i.square_is) h.near_right)
-      (rw (i.ahead_is, i.scale_is, i.square_is) h.far_left) (rw (i.ahead_is, i.scale_is, i.square_is) h.far_right)
+    (rw (i.scale_is, i.square_is) h.near_left) (rw (i.scale_is, i.square_is) h.near_right)
+    (rw (i.ahead_is, i.scale_is, i.square_is) h.far_left) (rw (i.ahead_is, i.scale_is, i.square_is) h.far_right)
 
 pub trapezoid_least : (t : Trapezoid) (e : Edges) (a : Area) → AreTrapezoidEdges t e → IsTightTrapezoid e t.line a → IsLeastBox (HasTrapezoid t) a
 trapezoid_least t e a i h = record {
@@ -166,8 +167,8 @@ rectangle_holds r e a i h =
 end_around : (r : Rectangle) (e : Edges) (x y : ℤ) (a : Area) → AreRectangleEdges r e → HasCorner a (corner r.line r.scale x y (pos 0) r.half) → HasCorner a (corner r.line r.scale x y (pos 0) (neg_ℤ r.half)) → IsAround e r.line.dx r.line.dy x y a
 end_around r e x y a i h k =
     around_of e r.line.dx r.line.dy x y r.half r.half a (ap unsigned_abs (sym i.near_is)) (ap unsigned_abs (sym i.far_is))
-      (rw (i.scale_is, i.square_is) h) (rw (i.scale_is, i.square_is) k)
-      (rw (i.ahead_is, i.scale_is, i.square_is) h) (rw (i.ahead_is, i.scale_is, i.square_is) k)
+    (rw (i.scale_is, i.square_is) h) (rw (i.scale_is, i.square_is) k)
+    (rw (i.ahead_is, i.scale_is, i.square_is) h) (rw (i.ahead_is, i.scale_is, i.square_is) k)
 
 -- a side that is there for one of two ends is no farther out than a side past both
 farther_up : (l d r a b : ℤ) → (a -ℤ l ≡ r) ⊎ (a -ℤ (l +ℤ d) ≡ r) → r ≤ℤ (b -ℤ l) → r ≤ℤ (b -ℤ (l +ℤ d)) → a ≤ℤ b
@@ -232,3 +233,31 @@ rectangle_has r e a i h x on =
     let north : vy ≤ℤ (a.y1 -ℤ l.y) = rectangle_side r e l.dy vy (a.y1 -ℤ (l.y +ℤ l.dy)) (a.y1 -ℤ l.y) m q (unsigned_abs l.dx) i on s.north start.north end.north (end_up a.y1 l.y l.dy) in
     let south : neg_ℤ vy ≤ℤ (l.y -ℤ a.y0) = rectangle_side r e (neg_ℤ l.dy) (neg_ℤ vy) ((l.y +ℤ l.dy) -ℤ a.y0) (l.y -ℤ a.y0) m q (unsigned_abs l.dx) i on s.south start.south end.south (end_down a.y0 l.y l.dy) in
     record { west = from_low x.x l.x a.x0 west; east = from_high x.x l.x a.x1 east; south = from_low x.y l.y a.y0 south; north = from_high x.y l.y a.y1 north }
+
+-- ---- the box of two boxes
+pub joined_least : (a b box : Area) → box.x0 ≡ int_min a.x0 b.x0 → box.y0 ≡ int_min a.y0 b.y0 → box.x1 ≡ int_max a.x1 b.x1 → box.y1 ≡ int_max a.y1 b.y1 → IsLeastBox (HoldsBoth a b) box
+joined_least a b box w s e n = record {
+  holds = record {
+    first = record { west = lower_left a.x0 b.x0 box.x0 w; south = lower_left a.y0 b.y0 box.y0 s; east = upper_left a.x1 b.x1 box.x1 e; north = upper_left a.y1 b.y1 box.y1 n };
+    second = record { west = lower_right a.x0 b.x0 box.x0 w; south = lower_right a.y0 b.y0 box.y0 s; east = upper_right a.x1 b.x1 box.x1 e; north = upper_right a.y1 b.y1 box.y1 n };
+  };
+  least = λ (o : Area) (h : HoldsBoth a b o). record {
+      west = lower_both a.x0 b.x0 box.x0 o.x0 w h.first.west h.second.west;
+      south = lower_both a.y0 b.y0 box.y0 o.y0 s h.first.south h.second.south;
+      east = upper_both a.x1 b.x1 box.x1 o.x1 e h.first.east h.second.east;
+      north = upper_both a.y1 b.y1 box.y1 o.y1 n h.first.north h.second.north;
+    };
+}
+  where
+    lower_left : (a b m : ℤ) → m ≡ int_min a b → m ≤ℤ a
+    lower_left a b m e = omega (arith, ints, clamps, e)
+    lower_right : (a b m : ℤ) → m ≡ int_min a b → m ≤ℤ b
+    lower_right a b m e = omega (arith, ints, clamps, e)
+    lower_both : (a b m o : ℤ) → m ≡ int_min a b → o ≤ℤ a → o ≤ℤ b → o ≤ℤ m
+    lower_both a b m o e h k = omega (arith, ints, clamps, e, h, k)
+    upper_left : (a b m : ℤ) → m ≡ int_max a b → a ≤ℤ m
+    upper_left a b m e = omega (arith, ints, clamps, e)
+    upper_right : (a b m : ℤ) → m ≡ int_max a b → b ≤ℤ m
+    upper_right a b m e = omega (arith, ints, clamps, e)
+    upper_both : (a b m o : ℤ) → m ≡ int_max a b → a ≤ℤ o → b ≤ℤ o → m ≤ℤ o
+    upper_both a b m o e h k = omega (arith, ints, clamps, e, h, k)

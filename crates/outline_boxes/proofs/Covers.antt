@@ -17,9 +17,17 @@ below k v z c n p pk h r = cancel k v z pk (cut c (pos k *ℤ v) (pos k *ℤ z) 
 -- n times k times v, where n times v is at most a sum
 raised : (k n : ℕ) (v m f : ℤ) (q b : ℕ) → 0 < k → (pos n *ℤ v) ≤ℤ (m *ℤ f +ℤ pos (q * b)) → (pos n *ℤ (pos k *ℤ v)) ≤ℤ ((pos k *ℤ f) *ℤ m +ℤ pos b *ℤ pos (k * q))
 raised k n v m f q b pk h =
-    omega (arith, ints, mul-le_left (pos k) (pos n *ℤ v) (m *ℤ f +ℤ pos (q * b)) (omega (arith, ints, pk)) h,
-      mul-add (pos k) (m *ℤ f) (pos (q * b)), ap (λ z. pos k *ℤ z) (*ℤ_comm m f), mul_assoc (pos k) f m,
-      mul_assoc (pos n) (pos k) v, mul_assoc (pos k) (pos n) v, *ℤ_comm (pos n) (pos k))
+    omega (
+      arith,
+      ints,
+      mul-le_left (pos k) (pos n *ℤ v) (m *ℤ f +ℤ pos (q * b)) (omega (arith, ints, pk)) h,
+      mul-add (pos k) (m *ℤ f) (pos (q * b)),
+      ap (λ z. pos k *ℤ z) (*ℤ_comm m f),
+      mul_assoc (pos k) f m,
+      mul_assoc (pos n) (pos k) v,
+      mul_assoc (pos k) (pos n) v,
+      *ℤ_comm (pos n) (pos k),
+    )
 
 -- ---- a rectangle to the end of its line: m along, q aside, b the size of the vector's other coordinate, z past both its edges
 pub band_east : (f v z m : ℤ) (q b k h n : ℕ) → 0 < n → 0 < k → pos 0 ≤ℤ m → m ≤ℤ pos n → AtMostRoot (pos (k * q)) (pos h) n → (pos n *ℤ v) ≤ℤ (m *ℤ f +ℤ pos (q * b)) →
@@ -28,17 +36,17 @@ band_east f v z m q b k h n p pk m0 m1 side big near far =
     let scaled : AtMostRoot (pos b *ℤ pos (k * q)) (pos (b * h)) n = AtMostRoot-scale b (pos (k * q)) (pos h) n side in
     by_lt_z (pos 0) f
     (λ up. let t : ((pos n -ℤ m) *ℤ neg_ℤ f) ≤ℤ pos 0 = product_down (pos n -ℤ m) (neg_ℤ f) (omega (arith, ints, m1)) (omega (arith, ints, up)) in
-      let e : (m *ℤ f) ≤ℤ (pos n *ℤ f) = omega (arith, ints, t, mul-neg (pos n -ℤ m) f, sub-mul (pos n) m f) in
-      let l : (pos n *ℤ (v -ℤ f)) ≤ℤ (pos 0 *ℤ pos 0 +ℤ pos (q * b)) = omega (arith, ints, mul-sub (pos n) v f, e, big) in
-      let r = raised k n (v -ℤ f) (pos 0) (pos 0) q b pk l in
-      let s : (pos n *ℤ (pos k *ℤ (v -ℤ f))) ≤ℤ (pos b *ℤ pos (k * q)) = omega (arith, ints, r) in
-      let d : (v -ℤ f) ≤ℤ (z -ℤ f) = below k (v -ℤ f) (z -ℤ f) (pos (b * h)) n p pk (AtMostRoot_less (pos b *ℤ pos (k * q)) (pos n *ℤ (pos k *ℤ (v -ℤ f))) (pos (b * h)) n s scaled) far in
-      omega (arith, ints, d))
+    let e : (m *ℤ f) ≤ℤ (pos n *ℤ f) = omega (arith, ints, t, mul-neg (pos n -ℤ m) f, sub-mul (pos n) m f) in
+    let l : (pos n *ℤ (v -ℤ f)) ≤ℤ (pos 0 *ℤ pos 0 +ℤ pos (q * b)) = omega (arith, ints, mul-sub (pos n) v f, e, big) in
+    let r = raised k n (v -ℤ f) (pos 0) (pos 0) q b pk l in
+    let s : (pos n *ℤ (pos k *ℤ (v -ℤ f))) ≤ℤ (pos b *ℤ pos (k * q)) = omega (arith, ints, r) in
+    let d : (v -ℤ f) ≤ℤ (z -ℤ f) = below k (v -ℤ f) (z -ℤ f) (pos (b * h)) n p pk (AtMostRoot_less (pos b *ℤ pos (k * q)) (pos n *ℤ (pos k *ℤ (v -ℤ f))) (pos (b * h)) n s scaled) far in
+    omega (arith, ints, d))
     (λ down. let e : (m *ℤ f) ≤ℤ pos 0 = product_down m f m0 down in
-      let l : (pos n *ℤ v) ≤ℤ (pos 0 *ℤ pos 0 +ℤ pos (q * b)) = omega (arith, ints, e, big) in
-      let r = raised k n v (pos 0) (pos 0) q b pk l in
-      let s : (pos n *ℤ (pos k *ℤ v)) ≤ℤ (pos b *ℤ pos (k * q)) = omega (arith, ints, r) in
-      below k v z (pos (b * h)) n p pk (AtMostRoot_less (pos b *ℤ pos (k * q)) (pos n *ℤ (pos k *ℤ v)) (pos (b * h)) n s scaled) near)
+    let l : (pos n *ℤ v) ≤ℤ (pos 0 *ℤ pos 0 +ℤ pos (q * b)) = omega (arith, ints, e, big) in
+    let r = raised k n v (pos 0) (pos 0) q b pk l in
+    let s : (pos n *ℤ (pos k *ℤ v)) ≤ℤ (pos b *ℤ pos (k * q)) = omega (arith, ints, r) in
+    below k v z (pos (b * h)) n p pk (AtMostRoot_less (pos b *ℤ pos (k * q)) (pos n *ℤ (pos k *ℤ v)) (pos (b * h)) n s scaled) near)
 
 -- ---- a trapezoid to a length along its line: a * q - s * m <= h * sqrt(n) beside it
 fan_east : (f v z m : ℤ) (q b a s h len n : ℕ) → 0 < n → 0 < a → pos 0 ≤ℤ m → AtMostRoot m (pos len) n → AtMostRoot (pos (a * q) -ℤ pos s *ℤ m) (pos h) n →
@@ -48,21 +56,29 @@ fan_east f v z m q b a s h len n p pa m0 ml side big near far =
     let out : ℤ = pos (a * q) -ℤ pos s *ℤ m in
     let sides : AtMostRoot (pos b *ℤ out) (pos (b * h)) n = AtMostRoot-scale b out (pos h) n side in
     let total : (pos n *ℤ (pos a *ℤ v)) ≤ℤ (G *ℤ m +ℤ pos b *ℤ out) =
-      omega (arith, ints, raised a n v m f q b pa big, add-mul (pos a *ℤ f) (pos (s * b)) m,
-        *ℤ_comm (pos b) out, sub-mul (pos (a * q)) (pos s *ℤ m) (pos b), *ℤ_comm (pos s *ℤ m) (pos b), mul_assoc (pos b) (pos s) m) in
+    omega (
+      arith,
+      ints,
+      raised a n v m f q b pa big,
+      add-mul (pos a *ℤ f) (pos (s * b)) m,
+      *ℤ_comm (pos b) out,
+      sub-mul (pos (a * q)) (pos s *ℤ m) (pos b),
+      *ℤ_comm (pos s *ℤ m) (pos b),
+      mul_assoc (pos b) (pos s) m,
+    ) in
     by_lt_z G (pos 0)
     (λ low. let e : (G *ℤ m) ≤ℤ pos 0 = omega (arith, ints, product_down m G m0 (omega (arith, ints, low)), *ℤ_comm G m) in
-      let l : (pos n *ℤ (pos a *ℤ v)) ≤ℤ (pos b *ℤ out) = omega (arith, ints, e, total) in
-      below a v z (pos (b * h)) n p pa (AtMostRoot_less (pos b *ℤ out) (pos n *ℤ (pos a *ℤ v)) (pos (b * h)) n l sides) near)
+    let l : (pos n *ℤ (pos a *ℤ v)) ≤ℤ (pos b *ℤ out) = omega (arith, ints, e, total) in
+    below a v z (pos (b * h)) n p pa (AtMostRoot_less (pos b *ℤ out) (pos n *ℤ (pos a *ℤ v)) (pos (b * h)) n l sides) near)
     (λ high. let F : ℕ = unsigned_abs G in
-      let eF : pos F ≡ G = omega (arith, ints, high) in
-      let ahead : AtMostRoot (pos F *ℤ m) (pos F *ℤ pos len) n = AtMostRoot-scale F m (pos len) n ml in
-      let both = AtMostRoot_add (pos F *ℤ m) (pos F *ℤ pos len) (pos b *ℤ out) (pos (b * h)) n ahead sides in
-      let c : ℤ = pos len *ℤ G +ℤ pos (b * h) in
-      let ec : pos F *ℤ pos len +ℤ pos (b * h) ≡ c = omega (arith, ints, ap (λ z. z *ℤ pos len) eF, *ℤ_comm G (pos len)) in
-      let l : (pos n *ℤ (pos a *ℤ v)) ≤ℤ (pos F *ℤ m +ℤ pos b *ℤ out) = omega (arith, ints, total, ap (λ z. z *ℤ m) eF) in
-      let r : AtMostRoot (pos n *ℤ (pos a *ℤ v)) c n = subst (λ z. AtMostRoot (pos n *ℤ (pos a *ℤ v)) z n) ec (AtMostRoot_less (pos F *ℤ m +ℤ pos b *ℤ out) (pos n *ℤ (pos a *ℤ v)) (pos F *ℤ pos len +ℤ pos (b * h)) n l both) in
-      below a v z c n p pa r far)
+    let eF : pos F ≡ G = omega (arith, ints, high) in
+    let ahead : AtMostRoot (pos F *ℤ m) (pos F *ℤ pos len) n = AtMostRoot-scale F m (pos len) n ml in
+    let both = AtMostRoot_add (pos F *ℤ m) (pos F *ℤ pos len) (pos b *ℤ out) (pos (b * h)) n ahead sides in
+    let c : ℤ = pos len *ℤ G +ℤ pos (b * h) in
+    let ec : pos F *ℤ pos len +ℤ pos (b * h) ≡ c = omega (arith, ints, ap (λ z. z *ℤ pos len) eF, *ℤ_comm G (pos len)) in
+    let l : (pos n *ℤ (pos a *ℤ v)) ≤ℤ (pos F *ℤ m +ℤ pos b *ℤ out) = omega (arith, ints, total, ap (λ z. z *ℤ m) eF) in
+    let r : AtMostRoot (pos n *ℤ (pos a *ℤ v)) c n = subst (λ z. AtMostRoot (pos n *ℤ (pos a *ℤ v)) z n) ec (AtMostRoot_less (pos F *ℤ m +ℤ pos b *ℤ out) (pos n *ℤ (pos a *ℤ v)) (pos F *ℤ pos len +ℤ pos (b * h)) n l both) in
+    below a v z c n p pa r far)
 
 -- from how far its edges reach to each side, k times
 trapezoid_east_of : (f v z m : ℤ) (q b k near far len n : ℕ) → 0 < n → 0 < k → 0 < len → near ≤ far → pos 0 ≤ℤ m → AtMostRoot m (pos len) n →
@@ -73,16 +89,16 @@ trapezoid_east_of f v z m q b k near far len n p pk pl nf m0 ml side big past_ne
     let es : pos far -ℤ pos near ≡ pos s = omega (arith, ints, nf) in
     let ez : pos len *ℤ (pos k *ℤ z) ≡ pos (len * k) *ℤ z = omega (arith, ints, mul_assoc (pos len) (pos k) z) in
     let h1 : AtMostRoot (pos (b * (len * near))) (pos (len * k) *ℤ z) n =
-      let e : pos len *ℤ (pos near *ℤ pos b) ≡ pos (b * (len * near)) = omega (arith, ints) in
-      rw (e, ez) at (AtMostRoot-scale len (pos near *ℤ pos b) (pos k *ℤ z) n past_near) in
+    let e : pos len *ℤ (pos near *ℤ pos b) ≡ pos (b * (len * near)) = omega (arith, ints) in
+    rw (e, ez) at (AtMostRoot-scale len (pos near *ℤ pos b) (pos k *ℤ z) n past_near) in
     let h2 : AtMostRoot (pos len *ℤ (pos (len * k) *ℤ f +ℤ pos (s * b)) +ℤ pos (b * (len * near))) (pos (len * k) *ℤ z) n =
-      let g : pos (s * b) +ℤ pos (near * b) ≡ pos (far * b) = let d : s + near ≡ far = omega (arith, nf) in omega (arith, ints, ap (λ x. x * b) d) in
-      let e : pos len *ℤ ((pos k *ℤ pos len) *ℤ f +ℤ pos far *ℤ pos b) ≡ pos len *ℤ (pos (len * k) *ℤ f +ℤ pos (s * b)) +ℤ pos (b * (len * near)) =
-        omega (arith, ints, mul-add (pos len) ((pos k *ℤ pos len) *ℤ f) (pos far *ℤ pos b), mul-add (pos len) (pos (len * k) *ℤ f) (pos (s * b)), ap (λ x. pos len *ℤ x) g, mul-add (pos len) (pos (s * b)) (pos (near * b)), ap (λ x. pos len *ℤ (x *ℤ f)) (*ℤ_comm (pos k) (pos len))) in
-      rw (e, ez) at (AtMostRoot-scale len ((pos k *ℤ pos len) *ℤ f +ℤ pos far *ℤ pos b) (pos k *ℤ z) n past_far) in
+    let g : pos (s * b) +ℤ pos (near * b) ≡ pos (far * b) = let d : s + near ≡ far = omega (arith, nf) in omega (arith, ints, ap (λ x. x * b) d) in
+    let e : pos len *ℤ ((pos k *ℤ pos len) *ℤ f +ℤ pos far *ℤ pos b) ≡ pos len *ℤ (pos (len * k) *ℤ f +ℤ pos (s * b)) +ℤ pos (b * (len * near)) =
+    omega (arith, ints, mul-add (pos len) ((pos k *ℤ pos len) *ℤ f) (pos far *ℤ pos b), mul-add (pos len) (pos (len * k) *ℤ f) (pos (s * b)), ap (λ x. pos len *ℤ x) g, mul-add (pos len) (pos (s * b)) (pos (near * b)), ap (λ x. pos len *ℤ (x *ℤ f)) (*ℤ_comm (pos k) (pos len))) in
+    rw (e, ez) at (AtMostRoot-scale len ((pos k *ℤ pos len) *ℤ f +ℤ pos far *ℤ pos b) (pos k *ℤ z) n past_far) in
     let h3 : AtMostRoot (pos (len * k * q) -ℤ pos s *ℤ m) (pos (len * near)) n =
-      let e : pos len *ℤ (pos k *ℤ pos q) ≡ pos (len * k * q) = omega (arith, ints) in
-      rw (e, es) at side in
+    let e : pos len *ℤ (pos k *ℤ pos q) ≡ pos (len * k * q) = omega (arith, ints) in
+    rw (e, es) at side in
     fan_east f v z m q b (len * k) s (len * near) len n p (mul-pos pl pk) m0 ml h3 big h1 h2
 
 pub trapezoid_east : (f v z m k near far len : ℤ) (q b n : ℕ) → 0 < n → pos 0 <ℤ k → pos 0 <ℤ len → pos 0 ≤ℤ near → near ≤ℤ far → pos 0 ≤ℤ m → AtMostRoot m len n →
@@ -127,7 +143,7 @@ west_of vx vy dx dy =
     let n : length_of (neg_ℤ dx) dy ≡ length_of dx dy = rw abs_neg refl in
     let m : along_of (neg_ℤ vx) vy (neg_ℤ dx) dy ≡ along_of vx vy dx dy = omega (arith, ints, neg-mul vx dx) in
     let q : unsigned_abs (across_of (neg_ℤ vx) vy (neg_ℤ dx) dy) ≡ unsigned_abs (across_of vx vy dx dy) =
-      omega (arith, ints, mul-neg vy dx, *ℤ_comm (neg_ℤ vx) dy, mul-neg dy vx, *ℤ_comm dy vx) in
+    omega (arith, ints, mul-neg vy dx, *ℤ_comm (neg_ℤ vx) dy, mul-neg dy vx, *ℤ_comm dy vx) in
     rw (n, m, q) at (east_of (neg_ℤ vx) vy (neg_ℤ dx) dy)
 
 swap : (vx vy dx dy : ℤ) → along_of vy vx dy dx ≡ along_of vx vy dx dy

@@ -22,3 +22,8 @@ shrunk a margin = record {
   x1 = a.x1 -ℤ margin;
   y1 = a.y1 -ℤ margin;
 }
+
+-- the box holds two boxes
+pub record HoldsBoth (a b box : Area) : Type 0 where
+  pub first : Encloses box a
+  pub second : Encloses box b

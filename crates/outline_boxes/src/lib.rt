@@ -2,10 +2,14 @@
 //! tenths of a foot.
 #![tactic(auto)]
 
+mod boxes;
 mod edges;
 mod rectangle;
 mod sides;
+#[cfg(test)]
+mod tests;
 mod trapezoid;
 
+pub use boxes::joined;
 pub use rectangle::RectangleOutline;
 pub use trapezoid::TrapezoidOutline;

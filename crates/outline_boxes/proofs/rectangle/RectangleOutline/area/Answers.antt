@@ -64,13 +64,13 @@ tight c =
       x_is = rw ay at c.reach-east.ensures.reach;
       y_is = rw ax at c.reach-north.ensures.reach;
       x_span = span s.axis.from.x s.axis.way.x c.reach-east.result c.lower.result c.higher.result c.short_of.result c.past.result
-        (simp to_z-of_z at c.short_of.ensures.value) (simp to_z-of_z at c.past.ensures.value)
-        (simp to_z-of_z at c.lower.ensures.start) (simp to_z-of_z at c.lower.ensures.end) (simp to_z-of_z at c.lower.ensures.one)
-        (simp to_z-of_z at c.higher.ensures.start) (simp to_z-of_z at c.higher.ensures.end) (simp to_z-of_z at c.higher.ensures.one);
+          (simp to_z-of_z at c.short_of.ensures.value) (simp to_z-of_z at c.past.ensures.value)
+          (simp to_z-of_z at c.lower.ensures.start) (simp to_z-of_z at c.lower.ensures.end) (simp to_z-of_z at c.lower.ensures.one)
+          (simp to_z-of_z at c.higher.ensures.start) (simp to_z-of_z at c.higher.ensures.end) (simp to_z-of_z at c.higher.ensures.one);
       y_span = span s.axis.from.y s.axis.way.y c.reach-north.result c.lower-2.result c.higher-2.result c.short_of-2.result c.past-2.result
-        (simp to_z-of_z at c.short_of-2.ensures.value) (simp to_z-of_z at c.past-2.ensures.value)
-        (simp to_z-of_z at c.lower-2.ensures.start) (simp to_z-of_z at c.lower-2.ensures.end) (simp to_z-of_z at c.lower-2.ensures.one)
-        (simp to_z-of_z at c.higher-2.ensures.start) (simp to_z-of_z at c.higher-2.ensures.end) (simp to_z-of_z at c.higher-2.ensures.one);
+          (simp to_z-of_z at c.short_of-2.ensures.value) (simp to_z-of_z at c.past-2.ensures.value)
+          (simp to_z-of_z at c.lower-2.ensures.start) (simp to_z-of_z at c.lower-2.ensures.end) (simp to_z-of_z at c.lower-2.ensures.one)
+          (simp to_z-of_z at c.higher-2.ensures.start) (simp to_z-of_z at c.higher-2.ensures.end) (simp to_z-of_z at c.higher-2.ensures.one);
     }
 
 pub returns-clause-exact : goal.returns-clause-exact
