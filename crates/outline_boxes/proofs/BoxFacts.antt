@@ -242,22 +242,27 @@ joined_least a b box w s e n = record {
     second = record { west = lower_right a.x0 b.x0 box.x0 w; south = lower_right a.y0 b.y0 box.y0 s; east = upper_right a.x1 b.x1 box.x1 e; north = upper_right a.y1 b.y1 box.y1 n };
   };
   least = λ (o : Area) (h : HoldsBoth a b o). record {
-      west = lower_both a.x0 b.x0 box.x0 o.x0 w h.first.west h.second.west;
-      south = lower_both a.y0 b.y0 box.y0 o.y0 s h.first.south h.second.south;
-      east = upper_both a.x1 b.x1 box.x1 o.x1 e h.first.east h.second.east;
-      north = upper_both a.y1 b.y1 box.y1 o.y1 n h.first.north h.second.north;
-    };
+    west = lower_both a.x0 b.x0 box.x0 o.x0 w h.first.west h.second.west;
+    south = lower_both a.y0 b.y0 box.y0 o.y0 s h.first.south h.second.south;
+    east = upper_both a.x1 b.x1 box.x1 o.x1 e h.first.east h.second.east;
+    north = upper_both a.y1 b.y1 box.y1 o.y1 n h.first.north h.second.north;
+  };
 }
   where
     lower_left : (a b m : ℤ) → m ≡ int_min a b → m ≤ℤ a
     lower_left a b m e = omega (arith, ints, clamps, e)
+
     lower_right : (a b m : ℤ) → m ≡ int_min a b → m ≤ℤ b
     lower_right a b m e = omega (arith, ints, clamps, e)
+
     lower_both : (a b m o : ℤ) → m ≡ int_min a b → o ≤ℤ a → o ≤ℤ b → o ≤ℤ m
     lower_both a b m o e h k = omega (arith, ints, clamps, e, h, k)
+
     upper_left : (a b m : ℤ) → m ≡ int_max a b → a ≤ℤ m
     upper_left a b m e = omega (arith, ints, clamps, e)
+
     upper_right : (a b m : ℤ) → m ≡ int_max a b → b ≤ℤ m
     upper_right a b m e = omega (arith, ints, clamps, e)
+
     upper_both : (a b m o : ℤ) → m ≡ int_max a b → a ≤ℤ o → b ≤ℤ o → m ≤ℤ o
     upper_both a b m o e h k = omega (arith, ints, clamps, e, h, k)

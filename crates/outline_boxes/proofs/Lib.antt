@@ -2,3 +2,4 @@ pub mod EdgeSizes
 pub mod Covers
 pub mod Corners
 pub mod BoxFacts
+pub mod More

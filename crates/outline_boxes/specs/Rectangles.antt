@@ -3,6 +3,7 @@ use Rattle.std.specs.Prelude.{ℤ, pos, neg_ℤ, ◌+ℤ◌, ◌*ℤ◌, ◌≤�
 use Rattle.grid_exact.specs.Root.{AtMostRoot}
 use Rattle.grid_exact.specs.Lines.{Line, Offset}
 use Rattle.grid_exact.specs.declared.area.Area.{Area}
+use Rattle.outline_boxes.specs.Boxes.{shrunk}
 use Rattle.outline_boxes.specs.Corners.{HasCorner, corner}
 
 -- `half` is how far it reaches to each side of the line, by the scale: 2 and a width make half that width
@@ -17,6 +18,10 @@ pub record HasRectangle (r : Rectangle) (a : Area) : Type 0 where
   pub start_right : HasCorner a (corner r.line r.scale r.line.x r.line.y (pos 0) (neg_ℤ r.half))
   pub end_left : HasCorner a (corner r.line r.scale (r.line.x +ℤ r.line.dx) (r.line.y +ℤ r.line.dy) (pos 0) r.half)
   pub end_right : HasCorner a (corner r.line r.scale (r.line.x +ℤ r.line.dx) (r.line.y +ℤ r.line.dy) (pos 0) (neg_ℤ r.half))
+
+-- the box holds them with a margin all round
+abbrev pub HasRectangleWithin : Rectangle → (margin : ℤ) → Area → Type 0
+HasRectangleWithin r margin a = HasRectangle r (shrunk a margin)
 
 -- what of a point that lies so by the line is on it
 pub record OnRectangle (r : Rectangle) (o : Offset) : Type 0 where

@@ -1,8 +1,9 @@
 //! Rectangles about a line.
 
-ghost use Rattle.std.specs.Prelude.{◌≡◌};
+ghost use Rattle.std.specs.Prelude.{◌≡◌, ◌≤◌, ◌^◌, unsigned_abs};
 ghost use Rattle.outline_boxes.specs.Sizes.{HasRectangleSizes};
 
+use crate::boxes::widened;
 use crate::edges::Edges;
 use crate::sides::{higher, lower, past, short_of};
 use grid_exact::{Area, Axis};
@@ -25,7 +26,7 @@ impl RectangleOutline {
     ghost use Rattle.outline_boxes.specs.Boxes.{IsLeastBox};
     ghost use Rattle.outline_boxes.specs.Shapes.{rectangle_shape};
     ghost use Rattle.outline_boxes.specs.NearBoxes.{IsNearBox};
-    ghost use Rattle.outline_boxes.specs.Rectangles.{HasRectangle, OnRectangle};
+    ghost use Rattle.outline_boxes.specs.Rectangles.{HasRectangle, HasRectangleWithin, OnRectangle};
     ghost use Rattle.outline_boxes.specs.Reaches.{AreRectangleEdges};
 
     /// Its edge that crosses the line at its start, as both of its edges there.
@@ -59,5 +60,12 @@ impl RectangleOutline {
             x1: past(higher(from.x, way.x), east),
             y1: past(higher(from.y, way.y), north),
         }
+    }
+    /// The least whole box that holds its four corners with a margin all round, in tenths of a foot.
+    pub fn area_within(&self, margin: i64) -> Area
+        requires margin { unsigned_abs margin ≤ 2 ^ 26 }
+        ensures exact { IsLeastBox (HasRectangleWithin (rectangle_shape self.now) margin) result }
+    {
+        widened(&self.area(), margin)
     }
 }

@@ -3,6 +3,7 @@
 ghost use Rattle.std.specs.Prelude.{◌≡◌};
 ghost use Rattle.outline_boxes.specs.Sizes.{HasTrapezoidSizes};
 
+use crate::boxes::joined;
 use crate::edges::Edges;
 use crate::sides::{opposite, past, short_of};
 use grid_exact::{Area, Axis};
@@ -30,7 +31,7 @@ impl TrapezoidOutline {
     ghost use Rattle.outline_boxes.specs.Boxes.{IsLeastBox};
     ghost use Rattle.outline_boxes.specs.Shapes.{trapezoid_shape};
     ghost use Rattle.outline_boxes.specs.NearBoxes.{IsNearBox};
-    ghost use Rattle.outline_boxes.specs.Trapezoids.{HasTrapezoid, OnTrapezoid};
+    ghost use Rattle.outline_boxes.specs.Trapezoids.{HasBoxAndTrapezoid, HasTrapezoid, OnTrapezoid};
     ghost use Rattle.outline_boxes.specs.Reaches.{AreTrapezoidEdges};
 
     /// How long it is, in parts.
@@ -71,5 +72,13 @@ impl TrapezoidOutline {
             x1: past(from.x, edges.reach(way.x, along_y)),
             y1: past(from.y, edges.reach(way.y, along_x)),
         }
+    }
+    /// The least whole box that holds a box and its four corners, which holds each point of the grid that lies in the box or on it.
+    pub fn area_with(&self, held: &Area) -> Area
+        ensures exact { IsLeastBox (HasBoxAndTrapezoid held.now (trapezoid_shape self.now)) result }
+        ensures held { (x : Point) → Has held.now x → Has result x }
+        ensures has { (x : Point) → OnTrapezoid (trapezoid_shape self.now) (offset (trapezoid_shape self.now).line x) → Has result x }
+    {
+        joined(held, &self.area())
     }
 }
