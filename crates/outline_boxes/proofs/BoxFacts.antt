@@ -1,5 +1,5 @@
 -- Boxes that edges reach are least, and hold what lies on the outline.
-use Rattle.std.proofs.Common.{◌≡◌, ◌⊎◌, inl, inr, ℕ, ℤ, pos, ◌*◌, ◌≤◌, ◌<◌, ◌+ℤ◌, ◌-ℤ◌, ◌*ℤ◌, ◌≤ℤ◌, ◌<ℤ◌, neg_ℤ, unsigned_abs, arith, ap, sym, refl}
+use Rattle.std.proofs.Common.{◌≡◌, ◌⊎◌, inl, inr, ℕ, ℤ, pos, ◌*◌, ◌<◌, ◌+ℤ◌, ◌-ℤ◌, ◌*ℤ◌, ◌≤ℤ◌, ◌<ℤ◌, neg_ℤ, unsigned_abs, arith, ap, sym, refl}
 use Rattle.std.proofs.lemmas.Int.{clamps, ints}
 use Rattle.std.specs.Int.{int_max, int_min}
 use Rattle.grid_exact.specs.Root.{AtMostRoot}
@@ -7,16 +7,16 @@ use Rattle.grid_exact.specs.Area.{Has}
 use Rattle.grid_exact.specs.Lines.{Line, square, offset}
 use Rattle.grid_exact.specs.declared.area.Area.{Area}
 use Rattle.grid_exact.specs.declared.point.Point.{Point}
-use Rattle.grid_exact.proofs.IntLaws.{abs_neg, mul-le_left, mul-sub}
+use Rattle.grid_exact.proofs.IntLaws.{abs_neg, mul-le_left}
 use Rattle.grid_exact.proofs.RootOrder.{AtMostRoot_more}
 use Rattle.outline_boxes.specs.declared.edges.Edges.{Edges}
-use Rattle.outline_boxes.specs.Boxes.{Encloses, HoldsBoth, IsLeastBox}
+use Rattle.outline_boxes.specs.Boxes.{HoldsBoth, IsLeastBox}
 use Rattle.outline_boxes.specs.Corners.{HasCorner, corner}
 use Rattle.outline_boxes.specs.Rectangles.{Rectangle, HasRectangle, OnRectangle}
 use Rattle.outline_boxes.specs.Trapezoids.{Trapezoid, HasTrapezoid, OnTrapezoid}
 use Rattle.outline_boxes.specs.Reaches.{IsPast, IsReach, AreTrapezoidEdges, AreRectangleEdges}
 use Rattle.outline_boxes.proofs.Corners.{IsAround, around_of, far_corner, near_corner}
-use Rattle.outline_boxes.proofs.Covers.{LiesSo, lies_so, rectangle_east, trapezoid_east}
+use Rattle.outline_boxes.proofs.Covers.{lies_so, rectangle_east, trapezoid_east}
 
 -- what is past the edges stays so farther out
 past_more : (e : Edges) (t : ℤ) (a : ℕ) (y z : ℤ) → y ≤ℤ z → IsPast e t a y → IsPast e t a z

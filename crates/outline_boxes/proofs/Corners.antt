@@ -1,15 +1,16 @@
 -- What holds the corners of two edges, and the other way round, over plain numbers.
-use Rattle.std.proofs.Common.{◌≡◌, ◌⊎◌, ℕ, ℤ, pos, negsuc, ◌*◌, ◌<◌, ◌≤◌, ◌+ℤ◌, ◌-ℤ◌, ◌*ℤ◌, ◌≤ℤ◌, ◌<ℤ◌, neg_ℤ, unsigned_abs, arith, ap}
+use Rattle.std.proofs.Common.{◌≡◌, ℕ, ℤ, pos, negsuc, ◌*◌, ◌+ℤ◌, ◌-ℤ◌, ◌*ℤ◌, ◌≤ℤ◌, neg_ℤ, unsigned_abs, arith, ap, refl}
 use Rattle.std.proofs.Math.IntN.{*ℤ_comm}
 use Rattle.std.proofs.lemmas.Int.{ints, by_lt_z, unsigned_abs-mul}
 use Rattle.grid_exact.specs.Root.{AtLeastRoot, AtMostRoot}
+use Rattle.grid_exact.specs.Lines.{square}
 use Rattle.grid_exact.specs.declared.area.Area.{Area}
-use Rattle.grid_exact.proofs.IntLaws.{abs_neg, mul-le_left, mul-neg, mul-sub}
-use Rattle.grid_exact.proofs.RootOrder.{AtLeastRoot-neg, AtMostRoot-neg, AtMostRoot_less, AtMostRoot_more}
+use Rattle.grid_exact.proofs.IntLaws.{abs_neg, mul-neg, mul-sub}
+use Rattle.grid_exact.proofs.RootOrder.{AtLeastRoot-neg, AtMostRoot-neg, AtMostRoot_less}
 use Rattle.outline_boxes.specs.declared.edges.Edges.{Edges}
-use Rattle.outline_boxes.specs.Corners.{Corner, HasCorner}
-use Rattle.outline_boxes.specs.Edges.{IsEdges}
-use Rattle.outline_boxes.specs.Reaches.{IsPast, IsReach}
+use Rattle.outline_boxes.specs.Corners.{Corner, HasCorner, corner}
+use Rattle.outline_boxes.specs.Rectangles.{Rectangle, HasRectangle}
+use Rattle.outline_boxes.specs.Reaches.{IsPast}
 
 -- ---- one coordinate: the corners at l and at -l to the left of the line, `ahead` of the base, are up to B where the farther one is
 side : (l a half : ℤ) → pos 0 ≤ℤ half → unsigned_abs l ≡ unsigned_abs half → pos (unsigned_abs (l *ℤ a)) ≡ half *ℤ pos (unsigned_abs a)
@@ -116,3 +117,28 @@ around_of e dx dy x y near far a s t nl nr fl fr =
         far_edge = corners_down e.ahead dy (neg_ℤ far) dx e.far e.scale a.y0 y e.square q t' fl.south fr.south;
       };
     }
+
+-- ---- what the corners at one end of a rectangle say of its box
+pub record EndBounds (r : Rectangle) (x y : ℤ) (a : Area) : Type 0 where
+  pub east : AtMostRoot (r.half *ℤ pos (unsigned_abs r.line.dy)) (r.scale *ℤ (a.x1 -ℤ x)) (square r.line)
+  pub west : AtMostRoot (r.half *ℤ pos (unsigned_abs r.line.dy)) (r.scale *ℤ (x -ℤ a.x0)) (square r.line)
+  pub north : AtMostRoot (r.half *ℤ pos (unsigned_abs r.line.dx)) (r.scale *ℤ (a.y1 -ℤ y)) (square r.line)
+  pub south : AtMostRoot (r.half *ℤ pos (unsigned_abs r.line.dx)) (r.scale *ℤ (y -ℤ a.y0)) (square r.line)
+
+end_bounds : (r : Rectangle) (x y : ℤ) (a : Area) → pos 0 ≤ℤ r.half → HasCorner a (corner r.line r.scale x y (pos 0) r.half) → HasCorner a (corner r.line r.scale x y (pos 0) (neg_ℤ r.half)) → EndBounds r x y a
+end_bounds r x y a p left right =
+    let l = r.line in
+    let dx = pos (unsigned_abs l.dx) in
+    let dy = pos (unsigned_abs l.dy) in
+    record {
+      east = rw (none l.dx (r.half *ℤ dy)) (corners_up (pos 0 *ℤ l.dx) r.half l.dy r.half (r.scale *ℤ (a.x1 -ℤ x)) (square l) p refl left.east right.east);
+      west = rw (none (neg_ℤ l.dx) (r.half *ℤ dy)) (corners_down (pos 0) l.dx r.half l.dy r.half r.scale a.x0 x (square l) p refl left.west right.west);
+      north = rw (none l.dy (r.half *ℤ dx)) (corners_up (pos 0 *ℤ l.dy) (neg_ℤ r.half) l.dx r.half (r.scale *ℤ (a.y1 -ℤ y)) (square l) p (abs_neg r.half) left.north right.north);
+      south = rw (none (neg_ℤ l.dy) (r.half *ℤ dx)) (corners_down (pos 0) l.dy (neg_ℤ r.half) l.dx r.half r.scale a.y0 y (square l) p (abs_neg r.half) left.south right.south);
+    }
+
+pub start_bounds : (r : Rectangle) (a : Area) → pos 0 ≤ℤ r.half → HasRectangle r a → EndBounds r r.line.x r.line.y a
+start_bounds r a p h = end_bounds r r.line.x r.line.y a p h.start_left h.start_right
+
+pub far_bounds : (r : Rectangle) (a : Area) → pos 0 ≤ℤ r.half → HasRectangle r a → EndBounds r (r.line.x +ℤ r.line.dx) (r.line.y +ℤ r.line.dy) a
+far_bounds r a p h = end_bounds r (r.line.x +ℤ r.line.dx) (r.line.y +ℤ r.line.dy) a p h.end_left h.end_right

@@ -1,5 +1,5 @@
 -- An outline's points lie within the coordinates that its corners reach: east of its start, over plain numbers.
-use Rattle.std.proofs.Common.{◌≡◌, ℕ, ℤ, pos, negsuc, ◌+◌, ◌-◌, ◌*◌, ◌<◌, ◌≤◌, ◌+ℤ◌, ◌-ℤ◌, ◌*ℤ◌, ◌≤ℤ◌, ◌<ℤ◌, neg_ℤ, unsigned_abs, arith, ap, refl, subst}
+use Rattle.std.proofs.Common.{◌≡◌, ℕ, ℤ, pos, negsuc, ◌+◌, ◌-◌, ◌*◌, ◌<◌, ◌≤◌, ◌+ℤ◌, ◌-ℤ◌, ◌*ℤ◌, ◌≤ℤ◌, ◌<ℤ◌, neg_ℤ, unsigned_abs, arith, ap, refl, subst, ◌∙◌}
 use Rattle.std.proofs.Math.IntN.{*ℤ_comm}
 use Rattle.std.proofs.Math.Nat.{mul-pos}
 use Rattle.std.proofs.lemmas.Int.{ints, by_lt_z}
@@ -29,24 +29,33 @@ raised k n v m f q b pk h =
       *ℤ_comm (pos n) (pos k),
     )
 
--- ---- a rectangle to the end of its line: m along, q aside, b the size of the vector's other coordinate, z past both its edges
-pub band_east : (f v z m : ℤ) (q b k h n : ℕ) → 0 < n → 0 < k → pos 0 ≤ℤ m → m ≤ℤ pos n → AtMostRoot (pos (k * q)) (pos h) n → (pos n *ℤ v) ≤ℤ (m *ℤ f +ℤ pos (q * b)) →
-    AtMostRoot (pos (b * h)) (pos k *ℤ z) n → AtMostRoot (pos (b * h)) (pos k *ℤ (z -ℤ f)) n → v ≤ℤ z
-band_east f v z m q b k h n p pk m0 m1 side big near far =
-    let scaled : AtMostRoot (pos b *ℤ pos (k * q)) (pos (b * h)) n = AtMostRoot-scale b (pos (k * q)) (pos h) n side in
+-- ---- a rectangle to the end of its line: m along, c the part to a side, b the size of the vector's other coordinate, z past both its edges
+band_reach : (f u z m c : ℤ) (b k h n : ℕ) → 0 < n → 0 < k → pos 0 ≤ℤ m → m ≤ℤ pos n → AtMostRoot (pos k *ℤ c) (pos (b * h)) n → (pos n *ℤ u) ≤ℤ (m *ℤ f +ℤ c) →
+    AtMostRoot (pos (b * h)) (pos k *ℤ z) n → AtMostRoot (pos (b * h)) (pos k *ℤ (z -ℤ f)) n → u ≤ℤ z
+band_reach f u z m c b k h n p pk m0 m1 side big near far =
     by_lt_z (pos 0) f
     (λ up. let t : ((pos n -ℤ m) *ℤ neg_ℤ f) ≤ℤ pos 0 = product_down (pos n -ℤ m) (neg_ℤ f) (omega (arith, ints, m1)) (omega (arith, ints, up)) in
     let e : (m *ℤ f) ≤ℤ (pos n *ℤ f) = omega (arith, ints, t, mul-neg (pos n -ℤ m) f, sub-mul (pos n) m f) in
-    let l : (pos n *ℤ (v -ℤ f)) ≤ℤ (pos 0 *ℤ pos 0 +ℤ pos (q * b)) = omega (arith, ints, mul-sub (pos n) v f, e, big) in
-    let r = raised k n (v -ℤ f) (pos 0) (pos 0) q b pk l in
-    let s : (pos n *ℤ (pos k *ℤ (v -ℤ f))) ≤ℤ (pos b *ℤ pos (k * q)) = omega (arith, ints, r) in
-    let d : (v -ℤ f) ≤ℤ (z -ℤ f) = below k (v -ℤ f) (z -ℤ f) (pos (b * h)) n p pk (AtMostRoot_less (pos b *ℤ pos (k * q)) (pos n *ℤ (pos k *ℤ (v -ℤ f))) (pos (b * h)) n s scaled) far in
+    let l : (pos n *ℤ (u -ℤ f)) ≤ℤ c = omega (arith, ints, mul-sub (pos n) u f, e, big) in
+    let d : (u -ℤ f) ≤ℤ (z -ℤ f) = below k (u -ℤ f) (z -ℤ f) (pos (b * h)) n p pk (AtMostRoot_less (pos k *ℤ c) (pos n *ℤ (pos k *ℤ (u -ℤ f))) (pos (b * h)) n (times k n (u -ℤ f) c pk l) side) far in
     omega (arith, ints, d))
     (λ down. let e : (m *ℤ f) ≤ℤ pos 0 = product_down m f m0 down in
-    let l : (pos n *ℤ v) ≤ℤ (pos 0 *ℤ pos 0 +ℤ pos (q * b)) = omega (arith, ints, e, big) in
-    let r = raised k n v (pos 0) (pos 0) q b pk l in
-    let s : (pos n *ℤ (pos k *ℤ v)) ≤ℤ (pos b *ℤ pos (k * q)) = omega (arith, ints, r) in
-    below k v z (pos (b * h)) n p pk (AtMostRoot_less (pos b *ℤ pos (k * q)) (pos n *ℤ (pos k *ℤ v)) (pos (b * h)) n s scaled) near)
+    let l : (pos n *ℤ u) ≤ℤ c = omega (arith, ints, e, big) in
+    below k u z (pos (b * h)) n p pk (AtMostRoot_less (pos k *ℤ c) (pos n *ℤ (pos k *ℤ u)) (pos (b * h)) n (times k n u c pk l) side) near)
+  where
+    times : (k n : ℕ) (v c : ℤ) → 0 < k → (pos n *ℤ v) ≤ℤ c → (pos n *ℤ (pos k *ℤ v)) ≤ℤ (pos k *ℤ c)
+    times k n v c pk h = omega (arith, ints, mul-le_left (pos k) (pos n *ℤ v) c (omega (arith, ints, pk)) h, mul_assoc (pos n) (pos k) v, mul_assoc (pos k) (pos n) v, *ℤ_comm (pos n) (pos k))
+
+pub band_east : (f u z m k h c : ℤ) (b n : ℕ) → 0 < n → pos 0 <ℤ k → pos 0 ≤ℤ h → pos 0 ≤ℤ m → m ≤ℤ pos n → AtMostRoot (k *ℤ c) (h *ℤ pos b) n → (pos n *ℤ u) ≤ℤ (m *ℤ f +ℤ c) →
+    AtMostRoot (h *ℤ pos b) (k *ℤ z) n → AtMostRoot (h *ℤ pos b) (k *ℤ (z -ℤ f)) n → u ≤ℤ z
+band_east f u z m (pos k) (pos h) c b n p pk hh m0 m1 side big near far =
+    let e : pos h *ℤ pos b ≡ pos (b * h) = omega (arith, ints) in
+    let side' : AtMostRoot (pos k *ℤ c) (pos (b * h)) n = rw e at side in
+    let near' : AtMostRoot (pos (b * h)) (pos k *ℤ z) n = rw e at near in
+    let far' : AtMostRoot (pos (b * h)) (pos k *ℤ (z -ℤ f)) n = rw e at far in
+    band_reach f u z m c b k h n p (omega (arith, ints, pk)) m0 m1 side' big near' far'
+band_east f u z m (negsuc k) h c b n p pk hh m0 m1 side big near far = absurd (omega (arith, ints, pk))
+band_east f u z m (pos k) (negsuc h) c b n p pk hh m0 m1 side big near far = absurd (omega (arith, ints, hh))
 
 -- ---- a trapezoid to a length along its line: a * q - s * m <= h * sqrt(n) beside it
 fan_east : (f v z m : ℤ) (q b a s h len n : ℕ) → 0 < n → 0 < a → pos 0 ≤ℤ m → AtMostRoot m (pos len) n → AtMostRoot (pos (a * q) -ℤ pos s *ℤ m) (pos h) n →
@@ -113,13 +122,10 @@ trapezoid_east f v z m (pos k) (pos near) (pos far) (negsuc len) q b n p pk pl h
 
 pub rectangle_east : (f v z m k h : ℤ) (q b n : ℕ) → 0 < n → pos 0 <ℤ k → pos 0 ≤ℤ h → pos 0 ≤ℤ m → m ≤ℤ pos n → AtMostRoot (k *ℤ pos q) h n → (pos n *ℤ v) ≤ℤ (m *ℤ f +ℤ pos (q * b)) →
     AtMostRoot (h *ℤ pos b) (k *ℤ z) n → AtMostRoot (h *ℤ pos b) (k *ℤ (z -ℤ f)) n → v ≤ℤ z
-rectangle_east f v z m (pos k) (pos h) q b n p pk hh m0 m1 side big near far =
-    let e : pos h *ℤ pos b ≡ pos (b * h) = omega (arith, ints) in
-    let near' : AtMostRoot (pos (b * h)) (pos k *ℤ z) n = rw e at near in
-    let far' : AtMostRoot (pos (b * h)) (pos k *ℤ (z -ℤ f)) n = rw e at far in
-    band_east f v z m q b k h n p (omega (arith, ints, pk)) m0 m1 side big near' far'
-rectangle_east f v z m (negsuc k) h q b n p pk hh m0 m1 side big near far = absurd (omega (arith, ints, pk))
-rectangle_east f v z m (pos k) (negsuc h) q b n p pk hh m0 m1 side big near far = absurd (omega (arith, ints, hh))
+rectangle_east f v z m k h q b n p pk hh m0 m1 side big near far =
+    let e : pos b *ℤ (k *ℤ pos q) ≡ k *ℤ pos (q * b) = *ℤ_comm (pos b) (k *ℤ pos q) ∙ mul_assoc k (pos q) (pos b) in
+    let scaled : AtMostRoot (k *ℤ pos (q * b)) (h *ℤ pos b) n = rw (e, *ℤ_comm (pos b) h) at (AtMostRoot-scale b (k *ℤ pos q) h n side) in
+    band_east f v z m k h (pos (q * b)) b n p pk hh m0 m1 scaled big near far
 
 -- ---- where a point lies by a line tells how far it is in each of the four directions
 along-turn : (ex ey vx vy : ℤ) → along_of ex ey vx vy ≡ along_of vx vy ex ey

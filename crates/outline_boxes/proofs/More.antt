@@ -1,5 +1,5 @@
 -- What a box holds, every box about it holds.
-use Rattle.std.proofs.Common.{◌≡◌, ℕ, ℤ, pos, ◌+ℤ◌, ◌-ℤ◌, ◌*ℤ◌, ◌≤ℤ◌, ◌<ℤ◌, neg_ℤ, arith, sym, refl, subst}
+use Rattle.std.proofs.Common.{◌≡◌, ℕ, ℤ, pos, ◌+ℤ◌, ◌-ℤ◌, ◌*ℤ◌, ◌≤ℤ◌, ◌<ℤ◌, arith}
 use Rattle.std.proofs.lemmas.Int.{ints}
 use Rattle.grid_exact.specs.Area.{Has}
 use Rattle.grid_exact.specs.declared.area.Area.{Area}
@@ -79,4 +79,3 @@ with_margin a box margin r p w h = record {
       east = omega (arith, ints, w.east, e.east);
       north = omega (arith, ints, w.north, e.north);
     }
-

@@ -1,5 +1,5 @@
 -- Corners of rotated outlines, whose coordinates have a root, and whole boxes that hold them.
-use Rattle.std.specs.Prelude.{ℕ, ℤ, ◌+ℤ◌, ◌-ℤ◌, ◌*ℤ◌, neg_ℤ}
+use Rattle.std.specs.Prelude.{ℕ, ℤ, ◌-ℤ◌, ◌*ℤ◌, neg_ℤ}
 use Rattle.grid_exact.specs.Root.{AtLeastRoot, AtMostRoot}
 use Rattle.grid_exact.specs.Lines.{Line, square}
 use Rattle.grid_exact.specs.declared.area.Area.{Area}

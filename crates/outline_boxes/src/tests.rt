@@ -4,16 +4,9 @@ use crate::{RectangleOutline, TrapezoidOutline, joined};
 use grid_exact::{Area, Axis, Point, Start, Vector};
 use std::test::Fail;
 
-/// The line from a point to another, outside the limits of lines.
+/// A line is outside the limits.
 #[derive(Clone, Copy, Debug)]
 struct OutsideLimits;
-
-/// The line from one point to another.
-fn line(from: (i64, i64), to: (i64, i64)) -> Result<Axis, Fail> {
-    let start = Point::new(from.0, from.1)?;
-    let end = Point::new(to.0, to.1)?;
-    Ok(axis(&start, &end)?)
-}
 
 /// The line from one point to another.
 fn axis(from: &Point, to: &Point) -> Result<Axis, OutsideLimits> {
@@ -26,6 +19,11 @@ fn axis(from: &Point, to: &Point) -> Result<Axis, OutsideLimits> {
         from: Start::at(from),
         way,
     })
+}
+
+/// The line from one point to another, each by its two coordinates.
+fn line(from: (i64, i64), to: (i64, i64)) -> Result<Axis, Fail> {
+    Ok(axis(&Point::new(from.0, from.1)?, &Point::new(to.0, to.1)?)?)
 }
 
 #[test]
@@ -123,6 +121,47 @@ fn approach_surfaces(rt: HostRuntime) -> Result<(), Fail> {
             y0: 500,
             x1: 26_600,
             y1: 34_300
+        }
+    );
+    Ok(())
+}
+
+#[test]
+fn boxes_about_others(rt: HostRuntime) -> Result<(), Fail> {
+    let precision = TrapezoidOutline {
+        axis: line((-52_000, 0), (-156_000, 0))?,
+        scale: 40,
+        near: 2_200_000,
+        far: 5_200_000,
+        length: 500_000,
+    };
+    let hull = Area {
+        x0: -192_000,
+        y0: -140_000,
+        x1: 192_000,
+        y1: 140_000,
+    };
+    assert_eq!(rt;
+        precision.area_with(&hull),
+        Area {
+            x0: -552_000,
+            y0: -140_000,
+            x1: 192_000,
+            y1: 140_000
+        }
+    );
+    let pad = RectangleOutline {
+        axis: line((0, 0), (600, 800))?,
+        scale: 2,
+        half: 1_000,
+    };
+    assert_eq!(rt;
+        pad.area_within(50_000),
+        Area {
+            x0: -50_400,
+            y0: -50_300,
+            x1: 51_000,
+            y1: 51_100
         }
     );
     Ok(())

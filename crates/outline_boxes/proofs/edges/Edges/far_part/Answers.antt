@@ -1,7 +1,6 @@
 use Rattle.std.proofs.Common.{◌≡◌, ◌≤◌, ◌^◌, ◌+ℤ◌, ◌*ℤ◌, pos, unsigned_abs, ap, FitsSigned, w64, to_z-of_z, arith}
 use Rattle.std.specs.Int.{w128}
 use Rattle.std.proofs.lemmas.Int.{ints, to_z_pos}
-use Rattle.grid_exact.proofs.Sizes.{abs_add_le}
 use Rattle.outline_boxes.proofs.EdgeSizes.{edges_small, part_59}
 use Rattle.outline_boxes.proofs.edges.Edges.far_part.Goals as goal
 use Rattle.outline_boxes.proofs.edges.Edges.far_part.Goals.{After-product-2, After-plus}

@@ -1,4 +1,4 @@
-use Rattle.std.proofs.Common.{◌≡◌, ◌≤◌, ◌^◌, ◌*ℤ◌, pos, unsigned_abs, ap, FitsSigned, w64, to_z-of_z, arith}
+use Rattle.std.proofs.Common.{◌≡◌, ◌*ℤ◌, pos, unsigned_abs, ap, FitsSigned, w64, to_z-of_z, arith}
 use Rattle.std.specs.Int.{w128}
 use Rattle.std.proofs.lemmas.Int.{ints, to_z_pos}
 use Rattle.outline_boxes.proofs.EdgeSizes.{edges_small, part_59}

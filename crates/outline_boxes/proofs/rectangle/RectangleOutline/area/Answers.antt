@@ -1,10 +1,9 @@
-use Rattle.std.proofs.Common.{◌≡◌, ◌⊎◌, inl, inr, ℤ, pos, ◌+ℤ◌, ◌-ℤ◌, ◌≤ℤ◌, unsigned_abs, FitsSigned, w64, to_z-of_z, arith, ap, sym}
+use Rattle.std.proofs.Common.{◌≡◌, ◌⊎◌, inl, inr, ℤ, ◌+ℤ◌, ◌-ℤ◌, ◌≤ℤ◌, unsigned_abs, FitsSigned, w64, to_z-of_z, arith}
 use Rattle.std.proofs.lemmas.Int.{ints}
 use Rattle.grid_exact.specs.Lines.{square}
 use Rattle.grid_exact.specs.declared.area.Area.{Area}
 use Rattle.outline_boxes.proofs.EdgeSizes.{vector_part}
 use Rattle.outline_boxes.specs.Shapes.{rectangle_shape}
-use Rattle.outline_boxes.specs.Reaches.{IsReach}
 use Rattle.outline_boxes.proofs.BoxFacts.{IsSpan, IsTightRectangle, rectangle_has, rectangle_least}
 use Rattle.outline_boxes.proofs.rectangle.RectangleOutline.area.Goals as goal
 use Rattle.outline_boxes.proofs.rectangle.RectangleOutline.area.Goals.{After-past-2}

@@ -1,6 +1,5 @@
-use Rattle.std.proofs.Common.{◌≡◌, ◌+◌, ◌*◌, ◌≤◌, ℤ, ◌-ℤ◌, neg_ℤ, unsigned_abs, FitsSigned, w64, to_z-of_z, arith, sym, subst}
+use Rattle.std.proofs.Common.{◌≡◌, ◌-ℤ◌, neg_ℤ, unsigned_abs, FitsSigned, w64, to_z-of_z, arith, sym, subst}
 use Rattle.std.proofs.lemmas.Int.{ints}
-use Rattle.grid_exact.specs.Lines.{square}
 use Rattle.grid_exact.specs.declared.area.Area.{Area}
 use Rattle.grid_exact.proofs.IntLaws.{abs_neg}
 use Rattle.outline_boxes.specs.Shapes.{trapezoid_shape}
