@@ -3,6 +3,7 @@
 #![tactic(auto)]
 
 mod approach;
+mod areas;
 mod beside_approach;
 mod beside_primary;
 mod excesses;

@@ -23,7 +23,7 @@ use std::marker::Model;
 #[derive(Drop)]
 pub struct Strip {
     runway: Runway,
-    primary: PrimarySurface,
+    pub(crate) primary: PrimarySurface,
     approach1: ApproachSurface,
     approach2: ApproachSurface,
 }
@@ -61,7 +61,7 @@ impl Strip {
     }
 
     /// The approach surface of this end.
-    fn approach(&self, end: End) -> &ApproachSurface
+    pub(crate) fn approach(&self, end: End) -> &ApproachSurface
         ensures shape { approach_shape result.now ≡ approach_of self.now end }
     {
         match end {
