@@ -15,7 +15,7 @@ use Rattle.grid_exact.proofs.IntLaws.{product_up}
 use Rattle.outline_boxes.specs.Boxes.{Encloses, IsLeastBox}
 use Rattle.outline_boxes.specs.Rectangles.{OnRectangle}
 use Rattle.outline_boxes.specs.Sizes.{HasTrapezoidSizes}
-use Rattle.outline_boxes.specs.Trapezoids.{OnTrapezoid}
+use Rattle.outline_boxes.specs.Trapezoids.{HasBoxAndTrapezoid, OnTrapezoid}
 use Rattle.outline_boxes.proofs.Covers.{widening}
 use Rattle.runway_classes.specs.Class.{HasSizes, IsFlared}
 use Rattle.runway_classes.specs.declared.class.EndClass.{EndClass}
@@ -24,7 +24,7 @@ use Rattle.airfields.specs.Runways.{IsProper}
 use Rattle.runway_lines.specs.declared.end.End.{End}
 use Rattle.runway_lines.specs.declared.end.End.TheVariants.{One, Two}
 use Rattle.imaginary_surfaces.specs.declared.areas.StripAreas.{StripAreas}
-use Rattle.imaginary_surfaces.specs.Areas.{CoverStrip, HullHas, SkipStrip, approach_outline, primary_outline}
+use Rattle.imaginary_surfaces.specs.Areas.{CoverStrip, HoldsBeside, HullHas, SkipStrip, approach_outline, primary_outline}
 use Rattle.imaginary_surfaces.specs.Approaches.{Approach, ApproachCovers, IsApproach, outside}
 use Rattle.imaginary_surfaces.specs.Primaries.{Primary, PrimaryCovers}
 use Rattle.imaginary_surfaces.specs.Strips.{primary_surface, approach_surface, primary_transition_surface, approach_transition_surface}
@@ -86,6 +86,9 @@ pub beside_precision_in : (a : Approach) (x : Point) (cap : Cap) (hull box : Are
     ((y : Point) → OnTrapezoid (approach_outline a (pos 2000000)) (offset a.line y) → Has box y) → HullHas hull x cap → (beside_approach a x cap).Covers → Has box x
 beside_precision_in a x (Level l) hull box z s held on h k = held x (h (λ e. cc))
 beside_precision_in a x Beyond hull box z s held on h k = on x (on_outline a (offset a.line x) (pos 2000000) z s k.reached.ahead k.reached.not_past k.limited.near)
+
+pub precision_least : (a : Approach) (hull box : Area) → a.precision ≡ true → IsLeastBox (HasBoxAndTrapezoid hull (approach_outline a (pos 2000000))) box → IsLeastBox (HoldsBeside a hull) box
+precision_least a hull box e h = record { holds = rw e h.holds; least = λ (o : Area) (g : HoldsBeside a hull o). h.least o (rw e at g) }
 
 -- ---- a box is the least that holds itself
 pub itself_least : (a : Area) → IsLeastBox (λ box. Encloses box a) a

@@ -5,6 +5,7 @@ ghost use Rattle.grid_exact.specs.Area.{Has};
 ghost use Rattle.grid_exact.specs.Lines.{offset};
 ghost use Rattle.grid_exact.specs.declared.cap.Cap.{Cap};
 ghost use Rattle.grid_exact.specs.declared.point.Point.{Point};
+ghost use Rattle.airfields.specs.Runways.{IsProper};
 ghost use Rattle.outline_boxes.specs.Boxes.{IsLeastBox};
 ghost use Rattle.outline_boxes.specs.Rectangles.{HasRectangle};
 ghost use Rattle.outline_boxes.specs.Shapes.{rectangle_shape, trapezoid_shape};
@@ -105,6 +106,7 @@ impl Strip {
     fn primary_area(&self) -> Area
         ensures exact { IsLeastBox (HasRectangle (primary_outline (primary_of self.now))) result }
         ensures covers { (x : Point) → (primary_surface self.now x).Covers → Has result x }
+        ensures proper { IsProper self.now }
     {
         self.primary.area()
     }
@@ -129,6 +131,7 @@ impl Strip {
     fn six_areas(&self, hull: &Area) -> StripAreas
         ensures exact { IsStripAreas self.now hull.now result }
         ensures covers { CoverStrip self.now hull.now result }
+        ensures proper { IsProper self.now }
     {
         StripAreas {
             primary: self.primary_area(),
