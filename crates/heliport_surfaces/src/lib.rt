@@ -3,6 +3,7 @@
 #![tactic(auto)]
 
 mod approach;
+mod areas;
 mod axis;
 mod gap;
 mod landing;

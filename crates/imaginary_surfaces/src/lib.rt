@@ -24,6 +24,8 @@ pub use runway_lines::End;
 pub use strip::Strip;
 
 #[cfg(test)]
+mod area_tests;
+#[cfg(test)]
 mod tests;
 #[cfg(test)]
 mod transition_tests;
