@@ -108,7 +108,7 @@ line_reach p q a b w d N e h k =
 pub gap_reach : (g : Gap) (a b d : ℕ) → g.square ≡ a * a + b * b → IsWithin g d → AtMostRoot (pos 2 *ℤ (pos (g.beyond * a + g.aside * b) -ℤ pos (d * g.square))) (pos g.width *ℤ pos b) g.square
 gap_reach g a b d e h =
     let s : pos 2 *ℤ (pos (g.beyond * a + g.aside * b) -ℤ pos (d * g.square)) ≡ pos (2 * (g.beyond * a) + 2 * (g.aside * b)) -ℤ pos (2 * (d * g.square)) =
-      omega (arith, ints, mul-sub (pos 2) (pos (g.beyond * a + g.aside * b)) (pos (d * g.square))) in
+    omega (arith, ints, mul-sub (pos 2) (pos (g.beyond * a + g.aside * b)) (pos (d * g.square))) in
     rw s
     (elim (cases_Bool (is_in_line g)) [
       | inl t ↦ line_reach g.beyond g.aside a b g.width d g.square e (at_most_in (pos (2 * g.aside)) (pos g.width) g.square t) (rw t at h)
@@ -126,24 +126,24 @@ pub nearest : (m : ℤ) (n : ℕ) (f : ℤ) → Nearest m n f
 nearest m n f =
     elim (cases_Bool (int_lt m (pos 0))) as (λ _. Nearest m n f) [
       | inl t ↦ record {
-          at = pos 0;
-          past_start = omega (arith, ints);
-          before_end = omega (arith, ints);
-          reach = rw t (omega (arith, ints, unsigned_abs-mul m f));
-        }
+        at = pos 0;
+        past_start = omega (arith, ints);
+        before_end = omega (arith, ints);
+        reach = rw t (omega (arith, ints, unsigned_abs-mul m f));
+      }
       | inr t ↦ elim (cases_Bool (int_lt (pos n) m)) as (λ _. Nearest m n f) [
         | inl u ↦ record {
-            at = pos n;
-            past_start = omega (arith, ints);
-            before_end = omega (arith, ints);
-            reach = rw (t, u) (omega (arith, ints, unsigned_abs-mul (m -ℤ pos n) f, sub-mul m (pos n) f));
-          }
+          at = pos n;
+          past_start = omega (arith, ints);
+          before_end = omega (arith, ints);
+          reach = rw (t, u) (omega (arith, ints, unsigned_abs-mul (m -ℤ pos n) f, sub-mul m (pos n) f));
+        }
         | inr u ↦ record {
-            at = m;
-            past_start = le_of_not_lt m (pos 0) t;
-            before_end = le_of_not_lt (pos n) m u;
-            reach = rw (t, u) (omega (arith, ints));
-          }
+          at = m;
+          past_start = le_of_not_lt m (pos 0) t;
+          before_end = le_of_not_lt (pos n) m u;
+          reach = rw (t, u) (omega (arith, ints));
+        }
       ]
     ]
   where

@@ -23,4 +23,6 @@ pub use pad::Pad;
 pub use parts::{Beside, PadEnd, PadExcesses};
 
 #[cfg(test)]
+mod area_tests;
+#[cfg(test)]
 mod tests;
