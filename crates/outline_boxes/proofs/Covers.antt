@@ -173,6 +173,6 @@ lies_so vx vy dx dy = record {
 pub widening : (len k q s near far m : ℤ) (n : ℕ) → pos 0 <ℤ len → far -ℤ near ≡ s *ℤ len → AtMostRoot (k *ℤ q -ℤ s *ℤ m) near n → AtMostRoot (len *ℤ (k *ℤ q) -ℤ (far -ℤ near) *ℤ m) (len *ℤ near) n
 widening (pos len) k q s near far m n p e h =
     let t : pos len *ℤ (k *ℤ q -ℤ s *ℤ m) ≡ pos len *ℤ (k *ℤ q) -ℤ (far -ℤ near) *ℤ m =
-      omega (arith, ints, mul-sub (pos len) (k *ℤ q) (s *ℤ m), ap (λ z. z *ℤ m) e, mul_assoc (pos len) s m, ap (λ z. z *ℤ m) (*ℤ_comm s (pos len))) in
+    omega (arith, ints, mul-sub (pos len) (k *ℤ q) (s *ℤ m), ap (λ z. z *ℤ m) e, mul_assoc (pos len) s m, ap (λ z. z *ℤ m) (*ℤ_comm s (pos len))) in
     rw t at (AtMostRoot-scale len (k *ℤ q -ℤ s *ℤ m) near n h)
 widening (negsuc len) k q s near far m n p e h = absurd (omega (arith, ints, p))

@@ -6,6 +6,11 @@ use Rattle.outline_boxes.specs.Rectangles.{Rectangle}
 use Rattle.outline_boxes.specs.Trapezoids.{Trapezoid}
 use Rattle.outline_boxes.specs.declared.edges.Edges.{Edges}
 
+-- z is the least at or past a corner, whose part this is
+pub record IsLeastPast (e : Edges) (part z : ℤ) : Type 0 where
+  pub at : AtMostRoot part (e.scale *ℤ z) e.square
+  pub least : (y : ℤ) → AtMostRoot part (e.scale *ℤ y) e.square → z ≤ℤ y
+
 -- z is past the corners that reach farthest in the direction of a coordinate, of which the line's vector has `toward`, and `across`
 -- in size of the other coordinate
 pub record IsPast (e : Edges) (toward : ℤ) (across : ℕ) (z : ℤ) : Type 0 where

@@ -4,6 +4,7 @@
 
 mod boxes;
 mod edges;
+mod guess;
 mod rectangle;
 mod sides;
 #[cfg(test)]

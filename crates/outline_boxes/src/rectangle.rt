@@ -5,6 +5,7 @@ ghost use Rattle.outline_boxes.specs.Sizes.{HasRectangleSizes};
 
 use crate::boxes::widened;
 use crate::edges::Edges;
+use crate::guess::root_in_parts;
 use crate::sides::{higher, lower, past, short_of};
 use grid_exact::{Area, Axis};
 
@@ -33,12 +34,14 @@ impl RectangleOutline {
     fn edges(&self) -> Edges
         ensures { AreRectangleEdges (rectangle_shape self.now) result }
     {
+        let square = self.axis.way.square_length();
         Edges {
             scale: self.scale,
             ahead: 0,
             near: self.half,
             far: self.half,
-            square: self.axis.way.square_length(),
+            square,
+            root: root_in_parts(square),
         }
     }
 

@@ -5,6 +5,7 @@ ghost use Rattle.outline_boxes.specs.Sizes.{HasTrapezoidSizes};
 
 use crate::boxes::joined;
 use crate::edges::Edges;
+use crate::guess::root_in_parts;
 use crate::sides::{opposite, past, short_of};
 use grid_exact::{Area, Axis};
 
@@ -47,12 +48,14 @@ impl TrapezoidOutline {
     fn edges(&self) -> Edges
         ensures { AreTrapezoidEdges (trapezoid_shape self.now) result }
     {
+        let square = self.axis.way.square_length();
         Edges {
             scale: self.scale,
             ahead: self.ahead(),
             near: self.near,
             far: self.far,
-            square: self.axis.way.square_length(),
+            square,
+            root: root_in_parts(square),
         }
     }
 
