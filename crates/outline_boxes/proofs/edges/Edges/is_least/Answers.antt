@@ -1,4 +1,4 @@
-use Rattle.std.proofs.Common.{◌≡◌, ◌↔◌, ℤ, pos, ◌-ℤ◌, ◌*ℤ◌, ◌≤ℤ◌, FitsSigned, w64, to_z-of_z, arith, Bool, true, not, refl}
+use Rattle.std.proofs.Common.{◌≡◌, ◌↔◌, pos, ◌-ℤ◌, ◌*ℤ◌, FitsSigned, w64, to_z-of_z, arith, Bool, true, not, refl}
 use Rattle.std.specs.Prelude.{IsTrue}
 use Rattle.std.specs.Int.{w128}
 use Rattle.std.proofs.lemmas.Int.{ints, by_lt_z}

@@ -1,8 +1,7 @@
-use Rattle.std.proofs.Common.{◌*◌, ◌≤◌, ◌^◌, ◌*ℤ◌, unsigned_abs, ◌≡◌, ap, FitsSigned, w64, to_z-of_z, arith}
+use Rattle.std.proofs.Common.{◌*◌, ◌≤◌, ◌^◌, ◌*ℤ◌, unsigned_abs, ◌≡◌, FitsSigned, w64, to_z-of_z, arith}
 use Rattle.std.specs.Int.{w128}
 use Rattle.std.proofs.lemmas.Int.{ints}
 use Rattle.grid_exact.proofs.Sizes.{ProductFits-small, abs_mul_le}
-use Rattle.outline_boxes.proofs.EdgeSizes.{edges_small}
 use Rattle.outline_boxes.proofs.edges.Edges.is_past.Goals as goal
 
 pub is_at_most_root-requires-clause-right : goal.is_at_most_root-requires-clause-right

@@ -1,4 +1,4 @@
-use Rattle.std.proofs.Common.{◌*ℤ◌, FitsSigned, w64, to_z-of_z, arith, refl}
+use Rattle.std.proofs.Common.{FitsSigned, w64, to_z-of_z, arith, refl}
 use Rattle.std.specs.Int.{w128}
 use Rattle.std.proofs.lemmas.Int.{ints}
 use Rattle.outline_boxes.proofs.EdgeSizes.{edges_small}

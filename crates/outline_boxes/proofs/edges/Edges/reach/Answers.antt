@@ -4,7 +4,7 @@ use Rattle.std.proofs.lemmas.Int.{ints}
 use Rattle.grid_exact.specs.Level.{IsCoordinate}
 use Rattle.grid_exact.proofs.RootOrder.{AtMostRoot_less}
 use Rattle.outline_boxes.specs.Reaches.{IsReach}
-use Rattle.outline_boxes.proofs.EdgeSizes.{edges_small, farthest_fits, past_of}
+use Rattle.outline_boxes.proofs.EdgeSizes.{farthest_fits, past_of}
 use Rattle.outline_boxes.proofs.edges.Edges.reach.Goals as goal
 use Rattle.outline_boxes.proofs.edges.Edges.reach.Goals.{After-farthest, After-least}
 
