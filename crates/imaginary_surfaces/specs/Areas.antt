@@ -75,6 +75,11 @@ pub record SkipStrip (r : Runway) (x : Point) (top : ℤ) (cap : Cap) (a : Strip
 abbrev pub in_order : StripAreas → List Area
 in_order a = a.primary ∷ a.approach1 ∷ a.approach2 ∷ a.beside_primary ∷ a.beside_approach1 ∷ a.beside_approach2 ∷ []
 
+pub record SkipsIn (r : Runway) (x : Point) (top : ℤ) (cap : Cap) (areas : List Area) : Type 0 where
+  pub six : StripAreas
+  pub ordered : areas ≡ in_order six
+  pub skips : SkipStrip r x top cap six
+
 pub record AreStripAreas (r : Runway) (hull : Area) (areas : List Area) : Type 0 where
   pub six : StripAreas
   pub ordered : areas ≡ in_order six
