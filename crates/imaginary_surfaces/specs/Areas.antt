@@ -2,7 +2,6 @@
 use Rattle.std.specs.Prelude.{ℤ, pos, ◌+ℤ◌, ◌*ℤ◌, ◌≡◌, ◌≢◌, Option, None, List, [], ◌∷◌}
 use Rattle.std.specs.Bool.{MatchBool}
 use Rattle.grid_exact.specs.Area.{Has}
-use Rattle.grid_exact.specs.Level.{IsLevel}
 use Rattle.grid_exact.specs.declared.area.Area.{Area}
 use Rattle.grid_exact.specs.declared.cap.Cap.{Cap}
 use Rattle.grid_exact.specs.declared.cap.Cap.TheVariants.{Beyond}
@@ -75,14 +74,14 @@ pub record SkipStrip (r : Runway) (x : Point) (top : ℤ) (cap : Cap) (a : Strip
 abbrev pub in_order : StripAreas → List Area
 in_order a = a.primary ∷ a.approach1 ∷ a.approach2 ∷ a.beside_primary ∷ a.beside_approach1 ∷ a.beside_approach2 ∷ []
 
-pub record SkipsIn (r : Runway) (x : Point) (top : ℤ) (cap : Cap) (areas : List Area) : Type 0 where
-  pub six : StripAreas
-  pub ordered : areas ≡ in_order six
-  pub skips : SkipStrip r x top cap six
-
 pub record AreStripAreas (r : Runway) (hull : Area) (areas : List Area) : Type 0 where
   pub six : StripAreas
   pub ordered : areas ≡ in_order six
   pub exact : IsStripAreas r hull six
   pub covers : CoverStrip r hull six
-  pub skips : (x : Point) (top : ℤ) (cap : Cap) → IsLevel top → HullHas hull x cap → SkipStrip r x top cap six
+
+-- nothing exceeds the surfaces at a point that these areas of them have not
+pub record SkipsIn (r : Runway) (x : Point) (top : ℤ) (cap : Cap) (areas : List Area) : Type 0 where
+  pub six : StripAreas
+  pub ordered : areas ≡ in_order six
+  pub skips : SkipStrip r x top cap six

@@ -1,7 +1,7 @@
 //! Areas of the surfaces of runways, worked out by hand.
 
 use crate::tests::{end, strip};
-use grid_exact::Area;
+use grid_exact::{Area, Cap, Point};
 use runway_classes::ApproachKind;
 use std::test::Fail;
 
@@ -15,13 +15,18 @@ fn of_a_precision_runway(rt: HostRuntime) -> Result<(), Fail> {
     let end1 = end(-50_000, 0, 1_000, ApproachKind::Precision)?;
     let end2 = end(50_000, 0, 1_000, ApproachKind::NonprecisionAbove)?;
     let hull = area(-192_000, -140_000, 192_000, 140_000);
-    let areas = strip(false, true, end1, end2)?.areas(&hull);
+    let strip = strip(false, true, end1, end2)?;
+    let areas = strip.areas(&hull);
     assert_eq!(rt; areas[0], area(-52_000, -5_000, 52_000, 5_000));
     assert_eq!(rt; areas[1], area(-552_000, -80_000, -52_000, 80_000));
     assert_eq!(rt; areas[2], area(52_000, -17_500, 152_000, 17_500));
     assert_eq!(rt; areas[3], hull);
     assert_eq!(rt; areas[4], area(-552_000, -140_000, 192_000, 140_000));
     assert_eq!(rt; areas[5], hull);
+    let x = Point::new(-152_000, 0)?;
+    let excesses = strip.excesses_in(&areas, &x, 4_001, &Cap::Beyond);
+    assert_eq!(rt; excesses.approach1, Some(1_001));
+    assert_eq!(rt; excesses.primary, None);
     Ok(())
 }
 

@@ -2,6 +2,7 @@
 
 ghost use Rattle.std.specs.Prelude.{◌≡◌, ◌≤ℤ◌, ℤ, pos};
 ghost use Rattle.grid_exact.specs.Area.{Has};
+ghost use Rattle.grid_exact.specs.Level.{IsLevel};
 ghost use Rattle.grid_exact.specs.Lines.{offset};
 ghost use Rattle.grid_exact.specs.declared.cap.Cap.{Cap};
 ghost use Rattle.grid_exact.specs.declared.point.Point.{Point};
@@ -99,7 +100,7 @@ impl ApproachSurface {
 }
 
 impl Strip {
-    ghost use Rattle.imaginary_surfaces.specs.Areas.{AreStripAreas, CoverStrip, HoldsBeside, HullHas, IsStripAreas, approach_outline, primary_outline};
+    ghost use Rattle.imaginary_surfaces.specs.Areas.{AreStripAreas, CoverStrip, HoldsBeside, HullHas, IsStripAreas, SkipsIn, approach_outline, primary_outline};
     ghost use Rattle.imaginary_surfaces.specs.Strips.{primary_of, approach_of, primary_surface, approach_surface, approach_transition_surface};
 
     /// The area of the primary surface.
@@ -149,6 +150,7 @@ impl Strip {
     /// horizontal or the conical surface lies over, where transitional surfaces end.
     pub fn areas(&self, hull: &Area) -> [Area; 6]
         ensures areas { AreStripAreas self.now hull.now result }
+        ensures skips { (x : Point) (top : ℤ) (cap : Cap) → IsLevel top → HullHas hull.now x cap → SkipsIn self.now x top cap result }
     {
         let six = self.six_areas(hull);
         [
