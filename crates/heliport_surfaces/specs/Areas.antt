@@ -1,7 +1,6 @@
 -- The areas of the surfaces of a heliport: the least whole boxes that hold their corners.
 use Rattle.std.specs.Prelude.{ℤ, pos, ◌*ℤ◌, ◌≡◌, Option, None, List, [], ◌∷◌}
 use Rattle.grid_exact.specs.Area.{Has}
-use Rattle.grid_exact.specs.Level.{IsLevel}
 use Rattle.grid_exact.specs.declared.area.Area.{Area}
 use Rattle.grid_exact.specs.declared.point.Point.{Point}
 use Rattle.outline_boxes.specs.Boxes.{IsLeastBox}
@@ -79,4 +78,9 @@ pub record ArePadAreas (h : Heliport) (areas : List Area) : Type 0 where
   pub ordered : areas ≡ in_order seven
   pub exact : IsPadAreas h seven
   pub covers : CoverPad h seven
-  pub skips : (x : Point) (top : ℤ) → IsLevel top → SkipPad h x top seven
+
+-- nothing exceeds the surfaces at a point that these areas of them have not
+pub record SkipsIn (h : Heliport) (x : Point) (top : ℤ) (areas : List Area) : Type 0 where
+  pub seven : PadAreas
+  pub ordered : areas ≡ in_order seven
+  pub skips : SkipPad h x top seven

@@ -1,7 +1,8 @@
 //! The areas of the surfaces of a heliport: the least whole boxes that hold their corners.
 
-ghost use Rattle.std.specs.Prelude.{◌≡◌, pos};
+ghost use Rattle.std.specs.Prelude.{◌≡◌, ℤ, pos};
 ghost use Rattle.grid_exact.specs.Area.{Has};
+ghost use Rattle.grid_exact.specs.Level.{IsLevel};
 ghost use Rattle.grid_exact.specs.Lines.{offset};
 ghost use Rattle.grid_exact.specs.declared.point.Point.{Point};
 ghost use Rattle.airfields.specs.Airfields.{IsHeldHeliport};
@@ -133,7 +134,7 @@ impl PadApproach {
 }
 
 impl Pad {
-    ghost use Rattle.heliport_surfaces.specs.Areas.{ArePadAreas, CoverPad, IsPadAreas};
+    ghost use Rattle.heliport_surfaces.specs.Areas.{ArePadAreas, CoverPad, IsPadAreas, SkipsIn};
 
     /// The area of each surface.
     fn seven_areas(&self) -> PadAreas
@@ -157,6 +158,7 @@ impl Pad {
     /// corners and has every point that its surface covers.
     pub fn areas(&self) -> [Area; 7]
         ensures areas { ArePadAreas self.now result }
+        ensures skips { (x : Point) (top : ℤ) → IsLevel top → SkipsIn self.now x top result }
     {
         let seven = self.seven_areas();
         [
