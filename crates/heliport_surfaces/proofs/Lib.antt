@@ -3,3 +3,5 @@ pub mod PadSizes
 pub mod Corners
 pub mod NoticeFacts
 pub mod PadFacts
+pub mod NoticeReach
+pub mod AreaFacts

@@ -8,3 +8,4 @@ pub mod Shapes
 pub mod Laws
 pub mod Pads
 pub mod Prepared
+pub mod Areas

@@ -3,6 +3,7 @@
 #![tactic(auto)]
 
 mod approach;
+mod areas;
 mod axis;
 mod gap;
 mod landing;
@@ -21,5 +22,7 @@ pub use laws::{
 pub use pad::Pad;
 pub use parts::{Beside, PadEnd, PadExcesses};
 
+#[cfg(test)]
+mod area_tests;
 #[cfg(test)]
 mod tests;

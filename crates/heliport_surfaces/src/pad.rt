@@ -33,9 +33,9 @@ const NO_EXCESSES: PadExcesses = PadExcesses {
 #[derive(Drop)]
 pub struct Pad {
     heliport: Heliport,
-    landing: LandingArea,
-    approach1: PadApproach,
-    approach2: PadApproach,
+    pub(crate) landing: LandingArea,
+    pub(crate) approach1: PadApproach,
+    pub(crate) approach2: PadApproach,
 }
 
 impl Model for Pad {

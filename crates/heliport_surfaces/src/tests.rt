@@ -179,7 +179,7 @@ const A_PRIVATE_HELIPORT: [Row; 3] = [
 ];
 
 /// The surfaces of a heliport of this shape.
-fn pad(shape: &Shape) -> Result<Pad, Fail> {
+pub(crate) fn pad(shape: &Shape) -> Result<Pad, Fail> {
     let (category, x, y, width, elevation) = *shape;
     let heliport = Heliport {
         id: FieldId::new(b"HELI")?,

@@ -2,3 +2,4 @@ pub mod Sound
 pub mod SurfaceFacts
 pub mod TransitionFacts
 pub mod ExcessLaws
+pub mod AreaFacts

@@ -7,13 +7,14 @@ use Rattle.grid_exact.specs.Lines.{IsSquare, Offset, offset, square}
 use Rattle.grid_exact.specs.declared.point.Point.{Point}
 use Rattle.runway_classes.specs.declared.ApproachKind.{ApproachKind}
 use Rattle.runway_classes.specs.declared.ApproachKind.TheVariants.{Visual, NonprecisionAbove, NonprecisionLow, Precision}
-use Rattle.runway_classes.specs.Class.{HasSizes, end_class, more_precise, width}
+use Rattle.runway_classes.specs.Class.{HasSizes, IsFlared, end_class, more_precise, width}
+use Rattle.runway_classes.proofs.Classes.{flared}
 use Rattle.airfields.specs.declared.runway.Runway.{Runway}
 use Rattle.airfields.specs.Runways.{IsProper}
 use Rattle.runway_lines.specs.declared.end.End.{End}
 use Rattle.runway_lines.specs.declared.end.End.TheVariants.{One, Two}
 use Rattle.runway_lines.specs.Centerlines.{clamped, elevation}
-use Rattle.runway_lines.specs.Ends.{end_class_of, end_of}
+use Rattle.runway_lines.specs.Ends.{class_of, end_class_of, end_of}
 use Rattle.runway_lines.specs.Profiles.{profile_of}
 use Rattle.runway_lines.proofs.AxisFacts.{axis_square_back, outward_square, runway_square}
 use Rattle.runway_lines.proofs.ElevationFacts.{climb_size}
@@ -55,6 +56,10 @@ end_sized : (r : Runway) (end : End) → HasSizes (end_class_of r end)
 end_sized r One = class_sized r.utility r.end1.kind (more_precise r.end1.kind r.end2.kind)
 end_sized r Two = class_sized r.utility r.end2.kind (more_precise r.end1.kind r.end2.kind)
 
+pub end_flared : (r : Runway) (end : End) → IsFlared (class_of r).width (end_class_of r end)
+end_flared r One = (flared r.utility r.end1.kind r.end2.kind).0
+end_flared r Two = (flared r.utility r.end1.kind r.end2.kind).1
+
 pub end_small : (r : Runway) (end : End) → IsProper r → unsigned_abs (end_of r end).z ≤ 2 ^ 18
 end_small r One p = omega (arith, ints, p.elevation1)
 end_small r Two p = omega (arith, ints, p.elevation2)
@@ -65,6 +70,7 @@ unfolding approach_of
 approach_sound r end p = record {
   wide = width_sized r.utility (more_precise r.end1.kind r.end2.kind);
   sized = end_sized r end;
+  flared = end_flared r end;
   z_size = end_small r end p;
 }
 

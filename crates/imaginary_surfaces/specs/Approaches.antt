@@ -4,7 +4,7 @@ use Rattle.grid_exact.specs.Root.{AtMostRoot}
 use Rattle.grid_exact.specs.Excess.{Surface, root_surface, root_excess_of, is_above_root, is_at_most_root}
 use Rattle.grid_exact.specs.declared.point.Point.{Point}
 use Rattle.runway_classes.specs.declared.class.EndClass.{EndClass}
-use Rattle.runway_classes.specs.Class.{HasSizes}
+use Rattle.runway_classes.specs.Class.{HasSizes, IsFlared}
 use Rattle.grid_exact.specs.Lines.{Line, Offset, offset}
 use Rattle.runway_classes.specs.declared.class.TheConstants.{PRECISION_SLOPE, WIDENING_SCALE}
 use Rattle.imaginary_surfaces.specs.Primaries.{IsWidth}
@@ -69,6 +69,7 @@ excess_over_approach a x top =
 pub record IsApproach (width : ℤ) (class : EndClass) (z : ℤ) : Type 0 where
   pub wide : IsWidth width
   pub sized : HasSizes class
+  pub flared : IsFlared width class
   pub z_size : unsigned_abs z ≤ 2 ^ 18
 
 -- sizes of a slope and its base

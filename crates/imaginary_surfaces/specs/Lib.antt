@@ -4,3 +4,4 @@ pub mod Transitions
 pub mod Shapes
 pub mod Strips
 pub mod Prepared
+pub mod Areas

@@ -3,6 +3,7 @@
 #![tactic(auto)]
 
 mod approach;
+mod areas;
 mod beside_approach;
 mod beside_primary;
 mod excesses;
@@ -10,6 +11,7 @@ mod laws;
 mod measures;
 mod prepare;
 mod primary;
+mod skips;
 mod slope_end;
 mod strip;
 
@@ -22,6 +24,8 @@ pub use measures::{SECOND_SLOPE_DROP, TRANSITION_REACH, TRANSITION_SLOPE};
 pub use runway_lines::End;
 pub use strip::Strip;
 
+#[cfg(test)]
+mod area_tests;
 #[cfg(test)]
 mod tests;
 #[cfg(test)]

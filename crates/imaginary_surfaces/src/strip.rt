@@ -23,7 +23,7 @@ use std::marker::Model;
 #[derive(Drop)]
 pub struct Strip {
     runway: Runway,
-    primary: PrimarySurface,
+    pub(crate) primary: PrimarySurface,
     approach1: ApproachSurface,
     approach2: ApproachSurface,
 }
@@ -61,7 +61,7 @@ impl Strip {
     }
 
     /// The approach surface of this end.
-    fn approach(&self, end: End) -> &ApproachSurface
+    pub(crate) fn approach(&self, end: End) -> &ApproachSurface
         ensures shape { approach_shape result.now ≡ approach_of self.now end }
     {
         match end {
@@ -71,21 +71,21 @@ impl Strip {
     }
 
     /// Where a point lies by the line of the primary surface.
-    fn by_primary(&self, x: &Point) -> Offset
+    pub(crate) fn by_primary(&self, x: &Point) -> Offset
         ensures { result ≡ offset_of (primary_of self.now).line x.now }
     {
         self.primary.axis.offset(x)
     }
 
     /// Where a point lies by the line of the approach surface of this end.
-    fn by_approach(&self, end: End, x: &Point) -> Offset
+    pub(crate) fn by_approach(&self, end: End, x: &Point) -> Offset
         ensures { result ≡ offset_of (approach_of self.now end).line x.now }
     {
         self.approach(end).axis.offset(x)
     }
 
     /// How far `top` is above the primary surface at a point that lies so by its line.
-    fn over_primary(&self, at: &Offset, x: &Point, top: i64) -> Option<u32>
+    pub(crate) fn over_primary(&self, at: &Offset, x: &Point, top: i64) -> Option<u32>
         requires at { at.now ≡ offset_of (primary_of self.now).line x.now }
         requires top { IsLevel top }
         ensures exact { IsExcess (primary_surface self.now x.now) top result }
@@ -95,7 +95,7 @@ impl Strip {
     }
 
     /// How far `top` is above the approach surface of an end at a point that lies so by its line; the clauses alone name the point.
-    fn over_approach(&self, end: End, at: &Offset, x: &Point, top: i64) -> Option<u32>
+    pub(crate) fn over_approach(&self, end: End, at: &Offset, x: &Point, top: i64) -> Option<u32>
         requires at { at.now ≡ offset_of (approach_of self.now end).line x.now }
         requires top { IsLevel top }
         ensures exact { IsExcess (approach_surface self.now end x.now) top result }
@@ -105,7 +105,7 @@ impl Strip {
     }
 
     /// How far `top` is above the transitional surface beside the primary surface at a point that lies so by that one's line.
-    fn beside_primary(&self, at: &Offset, x: &Point, top: i64, cap: &Cap) -> Option<u32>
+    pub(crate) fn beside_primary(&self, at: &Offset, x: &Point, top: i64, cap: &Cap) -> Option<u32>
         requires at { at.now ≡ offset_of (primary_of self.now).line x.now }
         requires top { IsLevel top }
         ensures exact { IsExcess (primary_transition_surface self.now x.now cap.now) top result }
@@ -116,7 +116,14 @@ impl Strip {
 
     /// How far `top` is above the transitional surface beside the approach surface of an end at a point that lies so by that one's
     /// line; the clauses alone name the point.
-    fn beside_approach(&self, end: End, at: &Offset, x: &Point, top: i64, cap: &Cap) -> Option<u32>
+    pub(crate) fn beside_approach(
+        &self,
+        end: End,
+        at: &Offset,
+        x: &Point,
+        top: i64,
+        cap: &Cap,
+    ) -> Option<u32>
         requires at { at.now ≡ offset_of (approach_of self.now end).line x.now }
         requires top { IsLevel top }
         ensures exact { IsExcess (approach_transition_surface self.now end x.now cap.now) top result }

@@ -4,7 +4,7 @@ use Rattle.airfields.specs.Runways.{is_precision}
 use Rattle.grid_exact.specs.Axes.{line_of}
 use Rattle.runway_lines.specs.Ends.{class_of, end_class_of, end_of, line_between, other}
 use Rattle.imaginary_surfaces.specs.Strips.{approach_of}
-use Rattle.imaginary_surfaces.proofs.Sound.{end_small}
+use Rattle.imaginary_surfaces.proofs.Sound.{end_flared, end_small}
 use Rattle.imaginary_surfaces.proofs.SurfaceFacts.{same_approach}
 use Rattle.imaginary_surfaces.proofs.prepare.approach.Goals as goal
 
@@ -20,6 +20,7 @@ invariant_of-result c =
       sound = record {
         wide = record { least = sized.width_least; most = sized.width_most };
         sized = c.end_class.ensures.sized;
+        flared = rw (ap (λ k. k.width) c.class.ensures.value, c.end_class.ensures.value) (end_flared c.args.runway.now c.args.end);
         z_size = rw ez (end_small c.args.runway.now c.args.end c.requires.proper);
       };
     })
