@@ -1,0 +1,5 @@
+pub mod EdgeSizes
+pub mod Covers
+pub mod Corners
+pub mod BoxFacts
+pub mod More

@@ -1,0 +1,9 @@
+pub mod Boxes
+pub mod Corners
+pub mod Sizes
+pub mod NearBoxes
+pub mod Rectangles
+pub mod Trapezoids
+pub mod Shapes
+pub mod Edges
+pub mod Reaches
