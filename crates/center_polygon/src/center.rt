@@ -38,22 +38,8 @@ impl Center {
         }
     }
 
-    /// Its east coordinate.
-    pub fn x(&self) -> i64
-        ensures { result ≡ self.now.x }
-    {
-        self.x
-    }
-
-    /// Its north coordinate.
-    pub fn y(&self) -> i64
-        ensures { result ≡ self.now.y }
-    {
-        self.y
-    }
-
-    /// The start that it lies at.
-    fn start(&self) -> Start
+    /// The start of a line that lies here.
+    pub fn start(&self) -> Start
         ensures x { result.x ≡ self.now.x }
         ensures y { result.y ≡ self.now.y }
     {

@@ -7,7 +7,9 @@ use std::alloc::Global;
 
 /// Whether `center` lies farther south than `least`, or as far and farther west.
 fn is_before(center: &Center, least: &Center) -> bool {
-    center.y() < least.y() || center.y() == least.y() && center.x() < least.x()
+    let center = center.start();
+    let least = least.start();
+    center.y < least.y || center.y == least.y && center.x < least.x
 }
 
 /// The southernmost of the centers, and of several the westernmost: a corner of their polygon.

@@ -12,7 +12,7 @@ use Rattle.horizontal_hull.specs.declared.edge.Edge.TheVariants.{Closed, Open}
 use Rattle.horizontal_hull.specs.Arcs.{ArcShape}
 use Rattle.horizontal_hull.specs.Capsules.{InCapsule, InDisc, InTapered, IsUnderTangent, ahead, aside, flare, span, tangent}
 use Rattle.horizontal_hull.specs.Within.{Within}
-use Rattle.horizontal_hull.proofs.SomeFacts.{SomeTwo_map}
+use Rattle.center_polygon.proofs.SomeFacts.{SomeTwo_map}
 
 -- ---- from capsules to all
 match_map : {P Q P' Q' : Type 0} (b : Bool) → (P → P') → (Q → Q') → MatchBool b P Q → MatchBool b P' Q'

@@ -1,9 +1,8 @@
-pub mod SomeFacts
 pub mod Tests
 pub mod Grows
 pub mod Bounds
 pub mod Reach
-pub mod BoxFacts
+pub mod LeastBoxes
 pub mod ArcFacts
 pub mod BandSizes
 pub mod Conical
