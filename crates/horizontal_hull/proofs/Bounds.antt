@@ -1,5 +1,6 @@
 -- A tapered capsule lies in the box of its two centers, each grown by its radius.
-use Rattle.std.proofs.Common.{◌≡◌, ◌⊎◌, inl, inr, ℕ, suc, ℤ, pos, negsuc, ◌+◌, ◌-◌, ◌*◌, ◌<◌, ◌≤◌, ◌+ℤ◌, ◌-ℤ◌, ◌*ℤ◌, ◌≤ℤ◌, neg_ℤ, unsigned_abs, arith, ap, ◌∙◌, subst}
+use Rattle.std.proofs.Common.{◌≡◌, ◌⊎◌, inl, inr, Bool, true, false, ℕ, suc, ℤ, pos, negsuc, ◌+◌, ◌-◌, ◌*◌, ◌<◌, ◌≤◌, ◌+ℤ◌, ◌-ℤ◌, ◌*ℤ◌, ◌≤ℤ◌, neg_ℤ, unsigned_abs, arith, refl, ap, ◌∙◌, subst}
+use Rattle.std.specs.Prelude.{MatchBool, nat_le}
 use Rattle.std.proofs.Math.Nat.{mul-le-mul, mul-le-mul_left}
 use Rattle.std.proofs.Math.IntN.{*ℤ_comm}
 use Rattle.std.proofs.lemmas.Bool.{cases_lt}
@@ -12,7 +13,7 @@ use Rattle.grid_exact.proofs.RootSums.{AtMostRoot-scale, AtMostRoot_add, at_zero
 use Rattle.grid_exact.proofs.Vectors.{lagrange_most}
 use Rattle.horizontal_hull.specs.declared.edge.Edge.TheVariants.{Closed}
 use Rattle.horizontal_hull.specs.Arcs.{ArcShape}
-use Rattle.horizontal_hull.specs.Capsules.{InTapered, flare}
+use Rattle.horizontal_hull.specs.Capsules.{InCapsule, InTapered, flare}
 
 -- ---- |ey| * sqrt(T) is at most DD + p * ex
 twice_product : (a b : ℕ) → 2 * (a * b) ≤ a * a + b * b
@@ -181,7 +182,7 @@ pub record InGrown (ax ay : ℤ) (m : ℕ) (bx by : ℤ) (n : ℕ) (x y : ℤ) :
   pub north : (y ≤ℤ (ay +ℤ pos m)) ⊎ (y ≤ℤ (by +ℤ pos n))
 
 -- a capsule by the radii of its arcs raised by c
-pub tapered_in_grown : (a b : ArcShape) (x : Point) (c : ℕ) → a.radius ≤ b.radius → InTapered Closed a b x c → InGrown a.x a.y (a.radius + c) b.x b.y (b.radius + c) x.x x.y
+tapered_in_grown : (a b : ArcShape) (x : Point) (c : ℕ) → a.radius ≤ b.radius → InTapered Closed a b x c → InGrown a.x a.y (a.radius + c) b.x b.y (b.radius + c) x.x x.y
 tapered_in_grown a b x c l h =
     elim h [
       | inl d ↦ in_second a.x a.y (a.radius + c) b.x b.y (b.radius + c) x.x x.y d
@@ -223,3 +224,24 @@ tapered_in_grown a b x c l h =
       south = down ay by y r p n e (band_south (bx -ℤ ax) (by -ℤ ay) (x -ℤ ax) (y -ℤ ay) r p s h);
       north = up ay by y r p n e (band_north (bx -ℤ ax) (by -ℤ ay) (x -ℤ ax) (y -ℤ ay) r p s h);
     }
+
+turned_round : (ax ay : ℤ) (m : ℕ) (bx by : ℤ) (n : ℕ) (x y : ℤ) → InGrown bx by n ax ay m x y → InGrown ax ay m bx by n x y
+turned_round ax ay m bx by n x y g = record { west = other g.west; east = other g.east; south = other g.south; north = other g.north }
+  where
+    other : {P Q : Type 0} → P ⊎ Q → Q ⊎ P
+    other h = elim h [ inl p ↦ inr p | inr q ↦ inl q ]
+
+either : {P Q G : Type 0} (b : Bool) → (b ≡ true → P → G) → (b ≡ false → Q → G) → MatchBool b P Q → G
+either true f g h = f refl h
+either false f g h = g refl h
+
+in_order : (m n : ℕ) → nat_le m n ≡ true → m ≤ n
+in_order m n h = grind arith
+
+out_of_order : (m n : ℕ) → nat_le m n ≡ false → n ≤ m
+out_of_order m n h = grind arith
+
+pub capsule_in_grown : (a b : ArcShape) (x : Point) (c : ℕ) → InCapsule Closed a b x c → InGrown a.x a.y (a.radius + c) b.x b.y (b.radius + c) x.x x.y
+capsule_in_grown a b x c h =
+    either (nat_le a.radius b.radius) (λ t. tapered_in_grown a b x c (in_order a.radius b.radius t))
+    (λ f k. turned_round a.x a.y (a.radius + c) b.x b.y (b.radius + c) x.x x.y (tapered_in_grown b a x c (out_of_order a.radius b.radius f) k)) h

@@ -1,7 +1,7 @@
 -- Arcs of one airport are near each other and near each point that its surfaces can reach.
-use Rattle.std.proofs.Common.{ℕ, ◌<◌, ◌≤◌, ℤ, ◌-ℤ◌, unsigned_abs, List, ◌∷◌, length, get_or, arith}
+use Rattle.std.proofs.Common.{◌≡◌, ℕ, ◌+◌, ◌-◌, ◌<◌, ◌≤◌, ℤ, ◌-ℤ◌, unsigned_abs, List, ◌∷◌, length, take, drop, get_or, arith, sym, subst}
 use Rattle.std.proofs.lemmas.Int.{ints}
-use Rattle.std.proofs.lemmas.List.Elements.{All-head, All-tail, All-get_or}
+use Rattle.std.proofs.lemmas.List.Elements.{All-cons, All-drop, All-get_or, All-head, All-tail, All-take}
 use Rattle.grid_exact.specs.declared.point.Point.{Point}
 use Rattle.horizontal_hull.specs.declared.sizes.TheConstants.{BOX_REACH, CENTERS_APART, CENTER_REACH, POINT_APART}
 use Rattle.horizontal_hull.specs.Arcs.{ArcShape}
@@ -31,3 +31,13 @@ pub near_behind : (a : ArcShape) (others : List ArcShape) (x : Point) (i : ℕ) 
 near_behind a others x i d c l =
     near_both c.arp a (get_or others i d) x c.x_size c.y_size (All-head (IsNearReference c.arp) a others c.near)
     (All-get_or (IsNearReference c.arp) others i d l (All-tail (IsNearReference c.arp) a others c.near))
+
+-- an arc and all those behind it are some of all
+pub close_behind : (arcs : List ArcShape) (i : ℕ) (a : ArcShape) (x : Point) → i < length arcs → a ≡ get_or arcs i a → AreClose arcs x → AreClose (a ∷ take (length arcs - (i + 1)) (drop (i + 1) arcs)) x
+close_behind arcs i a x l e c = record {
+  arp = c.arp;
+  near = All-cons (IsNearReference c.arp) a (take (length arcs - (i + 1)) (drop (i + 1) arcs)) (subst (λ (z : ArcShape). IsNearReference c.arp z) (sym e) (All-get_or (IsNearReference c.arp) arcs i a l c.near))
+      (All-take (IsNearReference c.arp) (length arcs - (i + 1)) (drop (i + 1) arcs) (All-drop (IsNearReference c.arp) (i + 1) arcs c.near));
+  x_size = c.x_size;
+  y_size = c.y_size;
+}

@@ -10,3 +10,5 @@ pub mod Listed
 pub mod Standings
 pub mod CloseFacts
 pub mod WithinFacts
+pub mod Rises
+pub mod Beside

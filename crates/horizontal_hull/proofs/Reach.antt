@@ -1,6 +1,5 @@
 -- Nothing is within outside a box that holds the discs.
 use Rattle.std.proofs.Common.{◌≡◌, ◌≢◌, ◌⊎◌, inl, inr, Bool, true, false, List, ◌∷◌, ℕ, ◌+◌, ◌<◌, ◌≤◌, ℤ, pos, ◌+ℤ◌, ◌-ℤ◌, ◌≤ℤ◌, arith, refl}
-use Rattle.std.specs.Prelude.{MatchBool, nat_le}
 use Rattle.std.specs.List.{All}
 use Rattle.std.proofs.lemmas.Int.{ints}
 use Rattle.std.proofs.lemmas.List.Elements.{All-map, All-weaker}
@@ -20,7 +19,7 @@ use Rattle.horizontal_hull.specs.Arcs.{ArcShape, Dome, spot_of}
 use Rattle.horizontal_hull.specs.Areas.{AreHullAreas, CoverHull, HoldsDiscs, disc_box}
 use Rattle.horizontal_hull.specs.Capsules.{InCapsule, InTapered}
 use Rattle.horizontal_hull.specs.Within.{IsCap, Within}
-use Rattle.horizontal_hull.proofs.Bounds.{InGrown, tapered_in_grown}
+use Rattle.horizontal_hull.proofs.Bounds.{InGrown, capsule_in_grown}
 use Rattle.horizontal_hull.proofs.Grows.{Within_closes, Within_grows}
 
 -- ---- capsules
@@ -32,22 +31,8 @@ grown_in_box box a b x c ea eb g = record {
   north = elim g.north [ inl h ↦ omega (arith, ints, h, ea.north) | inr h ↦ omega (arith, ints, h, eb.north) ];
 }
 
-tapered_in_box : (box : Area) (x : Point) (c : ℕ) (a b : ArcShape) → a.radius ≤ b.radius → Encloses box (disc_box c a) → Encloses box (disc_box c b) → InTapered Closed a b x c → Has box x
-tapered_in_box box x c a b l ea eb h = grown_in_box box a b x c ea eb (tapered_in_grown a b x c l h)
-
-either : {P Q G : Type 0} (b : Bool) → (b ≡ true → P → G) → (b ≡ false → Q → G) → MatchBool b P Q → G
-either true f g h = f refl h
-either false f g h = g refl h
-
-in_order : (m n : ℕ) → nat_le m n ≡ true → m ≤ n
-in_order m n h = grind arith
-
-out_of_order : (m n : ℕ) → nat_le m n ≡ false → n ≤ m
-out_of_order m n h = grind arith
-
 capsule_in_box : (box : Area) (x : Point) (c : ℕ) (a b : ArcShape) → Encloses box (disc_box c a) → Encloses box (disc_box c b) → InCapsule Closed a b x c → Has box x
-capsule_in_box box x c a b ea eb h =
-    either (nat_le a.radius b.radius) (λ t. tapered_in_box box x c a b (in_order a.radius b.radius t) ea eb) (λ f. tapered_in_box box x c b a (out_of_order a.radius b.radius f) eb ea) h
+capsule_in_box box x c a b ea eb h = grown_in_box box a b x c ea eb (capsule_in_grown a b x c h)
 
 -- ---- centers
 center_in_box : (box : Area) (c : ℕ) (a : ArcShape) → Encloses box (disc_box c a) → HasSpot box (spot_of a)

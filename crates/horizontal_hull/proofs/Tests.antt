@@ -56,7 +56,7 @@ InTapered-test edge a b x c =
     (and_test (nat_lt (flare a b * flare a b) (span a b)) (in_disc edge a x c || in_band edge a b x c) (nat_lt_test (flare a b * flare a b) (span a b))
     (or_test (in_disc edge a x c) (in_band edge a b x c) (InDisc-test edge a x c) (InBand-test edge a b x c)))
 
-InCapsule-test : (edge : Edge) (a b : ArcShape) (x : Point) (c : ℕ) → IsTrue (in_capsule edge a b x c) ↔ InCapsule edge a b x c
+pub InCapsule-test : (edge : Edge) (a b : ArcShape) (x : Point) (c : ℕ) → IsTrue (in_capsule edge a b x c) ↔ InCapsule edge a b x c
 unfolding in_capsule
 InCapsule-test edge a b x c =
     if_test (nat_le a.radius b.radius) (in_tapered edge a b x c) (in_tapered edge b a x c) (InTapered-test edge a b x c) (InTapered-test edge b a x c)

@@ -1,5 +1,5 @@
 -- For proofs alone: how near to one another the arcs of one airport and the points are that lie within them.
-use Rattle.std.specs.Prelude.{ℤ, ◌-ℤ◌, ◌≤◌, ◌≡◌, ◌^◌, [], List, Option, unsigned_abs}
+use Rattle.std.specs.Prelude.{ℕ, ℤ, pos, neg_ℤ, ◌+◌, ◌-ℤ◌, ◌≤◌, ◌<ℤ◌, ◌≡◌, ◌⊎◌, ◌^◌, [], List, Option, unsigned_abs}
 use Rattle.std.specs.List.{All}
 use Rattle.std.specs.Option.{MatchOption}
 use Rattle.grid_exact.specs.declared.point.Point.{Point}
@@ -40,3 +40,11 @@ pub record IsNearBoth (a b : ArcShape) (x : Point) : Type 0 where
   pub second_y : unsigned_abs (x.y -ℤ b.y) ≤ POINT_APART
   pub first_radius : a.radius ≤ ARC_MOST
   pub second_radius : b.radius ≤ ARC_MOST
+
+-- both discs about the centers of two arcs, their radii raised by c, lie west of a point, or east, south or north of it
+abbrev pub IsBeside : ArcShape → ArcShape → Point → ℕ → Type 0
+IsBeside a b x c =
+    (((pos (a.radius + c) <ℤ (x.x -ℤ a.x)) × (pos (b.radius + c) <ℤ (x.x -ℤ b.x)))
+    ⊎ (((x.x -ℤ a.x) <ℤ neg_ℤ (pos (a.radius + c))) × ((x.x -ℤ b.x) <ℤ neg_ℤ (pos (b.radius + c)))))
+    ⊎ (((pos (a.radius + c) <ℤ (x.y -ℤ a.y)) × (pos (b.radius + c) <ℤ (x.y -ℤ b.y)))
+    ⊎ (((x.y -ℤ a.y) <ℤ neg_ℤ (pos (a.radius + c))) × ((x.y -ℤ b.y) <ℤ neg_ℤ (pos (b.radius + c)))))

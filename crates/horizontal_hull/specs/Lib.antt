@@ -5,3 +5,4 @@ pub mod Standings
 pub mod Areas
 pub mod Close
 pub mod Bands
+pub mod Rises

@@ -12,12 +12,14 @@ ghost use Rattle.horizontal_hull.specs.declared.edge.Edge.{Edge};
 ghost use Rattle.horizontal_hull.specs.Arcs.{arcs_of, arcs_of_runway, centers_of, dome_of};
 ghost use Rattle.horizontal_hull.specs.Areas.{AreHullAreas, CoverHull};
 ghost use Rattle.horizontal_hull.specs.Close.{AreClose};
+ghost use Rattle.horizontal_hull.specs.Rises.{IsRise};
 ghost use Rattle.horizontal_hull.specs.Standings.{IsStanding};
 ghost use Rattle.horizontal_hull.specs.Within.{ConicalCovers, IsCap, IsLeastConical, Within, cap_of, conical, conical_excess, horizontal, horizontal_excess, is_within as is_within_of};
 
 use crate::arc::Arc;
 use crate::areas::{HullAreas, areas};
 use crate::edge::Edge;
+use crate::rise::least_rise;
 use crate::sizes::{CONICAL_RISE, CONICAL_RUN, CONICAL_SLOPE, HORIZONTAL_RISE};
 use crate::some::is_in_some_capsule;
 use crate::standing::Standing;
@@ -174,34 +176,29 @@ impl Hull {
         is_in_some_capsule(edge, self.arcs.as_slice(), x, c)
     }
 
-    /// How much higher than the horizontal surface the least level at or above the conical one is, at a point that this covers: found by
-    /// halving, since what is within grows with the way outward.
-    fn rise(&self, x: &Point) -> u32
-        requires covers { ConicalCovers self.now x.now }
-        ensures reaches { Within Edge.Closed self.now.arcs x.now (CONICAL_SLOPE * result) }
-        ensures least { (k : ℕ) → Within Edge.Closed self.now.arcs x.now (CONICAL_SLOPE * k) → result ≤ k }
-        ensures most { result ≤ CONICAL_RISE }
+    /// How much higher than the horizontal surface the least level at or above the conical one is, at a point that the horizontal surface
+    /// does not cover; `None` where the conical one does not cover it either.
+    fn rise(&self, x: &Point) -> Option<u32>
+        requires beyond { ¬ Within Edge.Closed self.now.arcs x.now 0 }
+        ensures { MatchOption result (¬ Within Edge.Closed self.now.arcs x.now CONICAL_RUN) (IsRise self.now.arcs x.now) }
     {
-        let mut least = 0;
-        let mut reached = CONICAL_RISE;
-        while least < reached {
-            let middle = least + (reached - least) / 2;
-            if self.is_within_beyond(Edge::Closed, x, CONICAL_SLOPE * middle) {
-                reached = middle;
-            } else {
-                least = middle + 1;
-            }
+        if !self.reaches(x, CONICAL_RUN) {
+            return None;
         }
-        reached
+        let rise = least_rise(self.arcs.as_slice(), x);
+        if CONICAL_RISE < rise {
+            return None;
+        }
+        Some(rise)
     }
 
-    /// The least level at or above the conical surface, at a point that this covers.
-    fn least_level(&self, x: &Point) -> i64
-        requires covers { ConicalCovers self.now x.now }
+    /// The least level at or above the conical surface, so much higher than the horizontal one.
+    fn level_at(&self, x: &Point, rise: u32) -> i64
+        requires rise { IsRise self.now.arcs x.now rise }
         ensures least { IsLeastConical self.now x.now result }
         ensures size { unsigned_abs result ≤ 2 ^ 19 }
     {
-        self.level + self.rise(x) as i64
+        self.level + i64::from(rise)
     }
 
     /// Where a point stands under the horizontal and the conical surface, 77.19(a) and (b). All other answers at the point follow from it.
@@ -211,10 +208,10 @@ impl Hull {
         if self.within(x, 0) {
             return Standing::Horizontal;
         }
-        if !self.is_within_beyond(Edge::Closed, x, CONICAL_RUN) {
-            return Standing::Beyond;
+        match self.rise(x) {
+            None => Standing::Beyond,
+            Some(rise) => Standing::Conical(self.level_at(x, rise)),
         }
-        Standing::Conical(self.least_level(x))
     }
 
     /// The lowest whole level at or above the horizontal and the conical surface at a point that stands so, in tenths of a foot: 77.19(a)

@@ -7,10 +7,12 @@ mod areas;
 mod band;
 mod capsule;
 mod edge;
+mod guess;
 mod hull;
 #[cfg(test)]
 mod hull_tests;
 mod laws;
+mod rise;
 mod sizes;
 mod some;
 mod standing;
