@@ -1,5 +1,6 @@
 -- A tapered capsule lies in the box of its two centers, each grown by its radius.
-use Rattle.std.proofs.Common.{◌≡◌, ◌⊎◌, inl, inr, ℕ, suc, ℤ, pos, negsuc, ◌+◌, ◌-◌, ◌*◌, ◌<◌, ◌≤◌, ◌+ℤ◌, ◌-ℤ◌, ◌*ℤ◌, ◌≤ℤ◌, neg_ℤ, unsigned_abs, arith, ap, ◌∙◌, subst}
+use Rattle.std.proofs.Common.{◌≡◌, ◌⊎◌, inl, inr, Bool, true, false, ℕ, suc, ℤ, pos, negsuc, ◌+◌, ◌-◌, ◌*◌, ◌<◌, ◌≤◌, ◌+ℤ◌, ◌-ℤ◌, ◌*ℤ◌, ◌≤ℤ◌, neg_ℤ, unsigned_abs, arith, refl, ap, ◌∙◌, subst}
+use Rattle.std.specs.Prelude.{MatchBool, nat_le}
 use Rattle.std.proofs.Math.Nat.{mul-le-mul, mul-le-mul_left}
 use Rattle.std.proofs.Math.IntN.{*ℤ_comm}
 use Rattle.std.proofs.lemmas.Bool.{cases_lt}
@@ -12,7 +13,7 @@ use Rattle.grid_exact.proofs.RootSums.{AtMostRoot-scale, AtMostRoot_add, at_zero
 use Rattle.grid_exact.proofs.Vectors.{lagrange_most}
 use Rattle.horizontal_hull.specs.declared.edge.Edge.TheVariants.{Closed}
 use Rattle.horizontal_hull.specs.Arcs.{ArcShape}
-use Rattle.horizontal_hull.specs.Capsules.{InTapered, flare}
+use Rattle.horizontal_hull.specs.Capsules.{InCapsule, InTapered, flare}
 
 -- ---- |ey| * sqrt(T) is at most DD + p * ex
 twice_product : (a b : ℕ) → 2 * (a * b) ≤ a * a + b * b
@@ -173,53 +174,74 @@ disc_along vx vy r h =
     let m : unsigned_abs vx ≤ r = le_from_squares (unsigned_abs vx) r (omega arith) in
     (omega (arith, ints, m), omega (arith, ints, m))
 
--- ---- one or other of two centers, each grown by m, is past a coordinate on each side
-pub record InGrown (ax ay bx by x y : ℤ) (m : ℕ) : Type 0 where
-  pub west : ((ax -ℤ pos m) ≤ℤ x) ⊎ ((bx -ℤ pos m) ≤ℤ x)
-  pub east : (x ≤ℤ (ax +ℤ pos m)) ⊎ (x ≤ℤ (bx +ℤ pos m))
-  pub south : ((ay -ℤ pos m) ≤ℤ y) ⊎ ((by -ℤ pos m) ≤ℤ y)
-  pub north : (y ≤ℤ (ay +ℤ pos m)) ⊎ (y ≤ℤ (by +ℤ pos m))
+-- ---- one or other of two centers, grown by m and by n, is past a coordinate on each side
+pub record InGrown (ax ay : ℤ) (m : ℕ) (bx by : ℤ) (n : ℕ) (x y : ℤ) : Type 0 where
+  pub west : ((ax -ℤ pos m) ≤ℤ x) ⊎ ((bx -ℤ pos n) ≤ℤ x)
+  pub east : (x ≤ℤ (ax +ℤ pos m)) ⊎ (x ≤ℤ (bx +ℤ pos n))
+  pub south : ((ay -ℤ pos m) ≤ℤ y) ⊎ ((by -ℤ pos n) ≤ℤ y)
+  pub north : (y ≤ℤ (ay +ℤ pos m)) ⊎ (y ≤ℤ (by +ℤ pos n))
 
--- where either radius and c are at most m
-pub tapered_in_grown : (a b : ArcShape) (x : Point) (c m : ℕ) → a.radius + c ≤ m → b.radius + c ≤ m → InTapered Closed a b x c → InGrown a.x a.y b.x b.y x.x x.y m
-tapered_in_grown a b x c m la lb h =
+-- a capsule by the radii of its arcs raised by c
+tapered_in_grown : (a b : ArcShape) (x : Point) (c : ℕ) → a.radius ≤ b.radius → InTapered Closed a b x c → InGrown a.x a.y (a.radius + c) b.x b.y (b.radius + c) x.x x.y
+tapered_in_grown a b x c l h =
     elim h [
-      | inl d ↦ in_second a.x a.y b.x b.y x.x x.y (b.radius + c) m lb d
+      | inl d ↦ in_second a.x a.y (a.radius + c) b.x b.y (b.radius + c) x.x x.y d
       | inr t ↦ elim t.1 [
-        | inl d ↦ in_first a.x a.y b.x b.y x.x x.y (a.radius + c) m la d
+        | inl d ↦ in_first a.x a.y (a.radius + c) b.x b.y (b.radius + c) x.x x.y d
         | inr band ↦
-            in_band a.x a.y b.x b.y x.x x.y (a.radius + c) (flare a b) m la (both a.radius b.radius c m la lb) t.0
+            in_band a.x a.y b.x b.y x.x x.y (a.radius + c) (flare a b) (b.radius + c) (both a.radius b.radius c l) t.0
             (record { after = band.after; before = band.before; under = band.under })
       ]
     ]
   where
-    both : (r s c m : ℕ) → r + c ≤ m → s + c ≤ m → r + c + (s - r) ≤ m
-    both r s c m l k = omega arith
+    both : (r s c : ℕ) → r ≤ s → r + c + (s - r) ≡ s + c
+    both r s c l = omega (arith, l)
 
-    in_first : (ax ay bx by x y : ℤ) (r m : ℕ) → r ≤ m → length_of (x -ℤ ax) (y -ℤ ay) ≤ r * r → InGrown ax ay bx by x y m
-    in_first ax ay bx by x y r m l d =
-        let h = disc_along (x -ℤ ax) (y -ℤ ay) r d in
-        let v = disc_along (y -ℤ ay) (x -ℤ ax) r (omega arith) in
+    in_first : (ax ay : ℤ) (m : ℕ) (bx by : ℤ) (n : ℕ) (x y : ℤ) → length_of (x -ℤ ax) (y -ℤ ay) ≤ m * m → InGrown ax ay m bx by n x y
+    in_first ax ay m bx by n x y d =
+        let h = disc_along (x -ℤ ax) (y -ℤ ay) m d in
+        let v = disc_along (y -ℤ ay) (x -ℤ ax) m (omega arith) in
         record { west = inl (omega (arith, ints, h)); east = inl (omega (arith, ints, h)); south = inl (omega (arith, ints, v)); north = inl (omega (arith, ints, v)) }
 
-    in_second : (ax ay bx by x y : ℤ) (r m : ℕ) → r ≤ m → length_of (x -ℤ bx) (y -ℤ by) ≤ r * r → InGrown ax ay bx by x y m
-    in_second ax ay bx by x y r m l d =
-        let h = disc_along (x -ℤ bx) (y -ℤ by) r d in
-        let v = disc_along (y -ℤ by) (x -ℤ bx) r (omega arith) in
+    in_second : (ax ay : ℤ) (m : ℕ) (bx by : ℤ) (n : ℕ) (x y : ℤ) → length_of (x -ℤ bx) (y -ℤ by) ≤ n * n → InGrown ax ay m bx by n x y
+    in_second ax ay m bx by n x y d =
+        let h = disc_along (x -ℤ bx) (y -ℤ by) n d in
+        let v = disc_along (y -ℤ by) (x -ℤ bx) n (omega arith) in
         record { west = inr (omega (arith, ints, h)); east = inr (omega (arith, ints, h)); south = inr (omega (arith, ints, v)); north = inr (omega (arith, ints, v)) }
 
-    up : (a b x : ℤ) (r p m : ℕ) → r ≤ m → r + p ≤ m → ((x -ℤ a) ≤ℤ pos r) ⊎ ((x -ℤ a) ≤ℤ (b -ℤ a +ℤ pos (r + p))) → (x ≤ℤ (a +ℤ pos m)) ⊎ (x ≤ℤ (b +ℤ pos m))
-    up a b x r p m l k h = elim h [ inl i ↦ inl (omega (arith, ints, i)) | inr i ↦ inr (omega (arith, ints, i)) ]
+    up : (a b x : ℤ) (r p n : ℕ) → r + p ≡ n → ((x -ℤ a) ≤ℤ pos r) ⊎ ((x -ℤ a) ≤ℤ (b -ℤ a +ℤ pos (r + p))) → (x ≤ℤ (a +ℤ pos r)) ⊎ (x ≤ℤ (b +ℤ pos n))
+    up a b x r p n e h = elim h [ inl i ↦ inl (omega (arith, ints, i)) | inr i ↦ inr (omega (arith, ints, i, e)) ]
 
-    down : (a b x : ℤ) (r p m : ℕ) → r ≤ m → r + p ≤ m → (neg_ℤ (pos r) ≤ℤ (x -ℤ a)) ⊎ ((b -ℤ a -ℤ pos (r + p)) ≤ℤ (x -ℤ a)) → ((a -ℤ pos m) ≤ℤ x) ⊎ ((b -ℤ pos m) ≤ℤ x)
-    down a b x r p m l k h = elim h [ inl i ↦ inl (omega (arith, ints, i)) | inr i ↦ inr (omega (arith, ints, i)) ]
+    down : (a b x : ℤ) (r p n : ℕ) → r + p ≡ n → (neg_ℤ (pos r) ≤ℤ (x -ℤ a)) ⊎ ((b -ℤ a -ℤ pos (r + p)) ≤ℤ (x -ℤ a)) → ((a -ℤ pos r) ≤ℤ x) ⊎ ((b -ℤ pos n) ≤ℤ x)
+    down a b x r p n e h = elim h [ inl i ↦ inl (omega (arith, ints, i)) | inr i ↦ inr (omega (arith, ints, i, e)) ]
 
-    in_band : (ax ay bx by x y : ℤ) (r p m : ℕ) → r ≤ m → r + p ≤ m → p * p < length_of (bx -ℤ ax) (by -ℤ ay) →
+    in_band : (ax ay bx by x y : ℤ) (r p n : ℕ) → r + p ≡ n → p * p < length_of (bx -ℤ ax) (by -ℤ ay) →
         Band (along_of (bx -ℤ ax) (by -ℤ ay) (x -ℤ ax) (y -ℤ ay)) (unsigned_abs (across_of (bx -ℤ ax) (by -ℤ ay) (x -ℤ ax) (y -ℤ ay))) (length_of (bx -ℤ ax) (by -ℤ ay)) r p →
-        InGrown ax ay bx by x y m
-    in_band ax ay bx by x y r p m l k s h = record {
-      west = down ax bx x r p m l k (band_west (bx -ℤ ax) (by -ℤ ay) (x -ℤ ax) (y -ℤ ay) r p s h);
-      east = up ax bx x r p m l k (band_east (bx -ℤ ax) (by -ℤ ay) (x -ℤ ax) (y -ℤ ay) r p s h);
-      south = down ay by y r p m l k (band_south (bx -ℤ ax) (by -ℤ ay) (x -ℤ ax) (y -ℤ ay) r p s h);
-      north = up ay by y r p m l k (band_north (bx -ℤ ax) (by -ℤ ay) (x -ℤ ax) (y -ℤ ay) r p s h);
+        InGrown ax ay r bx by n x y
+    in_band ax ay bx by x y r p n e s h = record {
+      west = down ax bx x r p n e (band_west (bx -ℤ ax) (by -ℤ ay) (x -ℤ ax) (y -ℤ ay) r p s h);
+      east = up ax bx x r p n e (band_east (bx -ℤ ax) (by -ℤ ay) (x -ℤ ax) (y -ℤ ay) r p s h);
+      south = down ay by y r p n e (band_south (bx -ℤ ax) (by -ℤ ay) (x -ℤ ax) (y -ℤ ay) r p s h);
+      north = up ay by y r p n e (band_north (bx -ℤ ax) (by -ℤ ay) (x -ℤ ax) (y -ℤ ay) r p s h);
     }
+
+turned_round : (ax ay : ℤ) (m : ℕ) (bx by : ℤ) (n : ℕ) (x y : ℤ) → InGrown bx by n ax ay m x y → InGrown ax ay m bx by n x y
+turned_round ax ay m bx by n x y g = record { west = other g.west; east = other g.east; south = other g.south; north = other g.north }
+  where
+    other : {P Q : Type 0} → P ⊎ Q → Q ⊎ P
+    other h = elim h [ inl p ↦ inr p | inr q ↦ inl q ]
+
+either : {P Q G : Type 0} (b : Bool) → (b ≡ true → P → G) → (b ≡ false → Q → G) → MatchBool b P Q → G
+either true f g h = f refl h
+either false f g h = g refl h
+
+in_order : (m n : ℕ) → nat_le m n ≡ true → m ≤ n
+in_order m n h = grind arith
+
+out_of_order : (m n : ℕ) → nat_le m n ≡ false → n ≤ m
+out_of_order m n h = grind arith
+
+pub capsule_in_grown : (a b : ArcShape) (x : Point) (c : ℕ) → InCapsule Closed a b x c → InGrown a.x a.y (a.radius + c) b.x b.y (b.radius + c) x.x x.y
+capsule_in_grown a b x c h =
+    either (nat_le a.radius b.radius) (λ t. tapered_in_grown a b x c (in_order a.radius b.radius t))
+    (λ f k. turned_round a.x a.y (a.radius + c) b.x b.y (b.radius + c) x.x x.y (tapered_in_grown b a x c (out_of_order a.radius b.radius f) k)) h

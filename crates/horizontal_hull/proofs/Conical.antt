@@ -9,8 +9,9 @@ use Rattle.horizontal_hull.specs.declared.edge.Edge.TheVariants.{Closed, Open}
 use Rattle.horizontal_hull.specs.declared.sizes.TheConstants.{CONICAL_RISE, CONICAL_RUN, CONICAL_SLOPE}
 use Rattle.horizontal_hull.specs.Arcs.{Dome}
 use Rattle.horizontal_hull.specs.Within.{AboveConical, AtConical, ConicalCovers, IsLeastConical, Within, conical, conical_covers, is_above_conical, is_at_conical, is_within, run_to}
-use Rattle.horizontal_hull.proofs.SomeFacts.{and_test, not_test}
-use Rattle.horizontal_hull.proofs.Tests.{Within-test, int_le_test}
+use Rattle.center_polygon.proofs.SomeFacts.{and_test, not_test}
+use Rattle.center_polygon.proofs.Deciding.{int_le_test}
+use Rattle.horizontal_hull.proofs.Tests.{Within-test}
 use Rattle.horizontal_hull.proofs.Grows.{Within_closes, Within_opens}
 
 -- ---- how far out a level is

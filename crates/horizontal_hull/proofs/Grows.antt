@@ -12,7 +12,7 @@ use Rattle.horizontal_hull.specs.declared.edge.Edge.TheVariants.{Closed, Open}
 use Rattle.horizontal_hull.specs.Arcs.{ArcShape}
 use Rattle.horizontal_hull.specs.Capsules.{InCapsule, InDisc, InTapered, IsUnderTangent, ahead, aside, flare, span, tangent}
 use Rattle.horizontal_hull.specs.Within.{Within}
-use Rattle.horizontal_hull.proofs.SomeFacts.{SomeTwo_map}
+use Rattle.center_polygon.proofs.SomeFacts.{SomeTwo_map}
 
 -- ---- from capsules to all
 match_map : {P Q P' Q' : Type 0} (b : Bool) → (P → P') → (Q → Q') → MatchBool b P Q → MatchBool b P' Q'
@@ -101,3 +101,10 @@ Within_opens arcs x c c' l h = within_map Closed Open arcs x c c' (tapered_map C
 
 pub Within_closes : (arcs : List ArcShape) (x : Point) (c : ℕ) → Within Open arcs x c → Within Closed arcs x c
 Within_closes arcs x c h = within_map Open Closed arcs x c c (tapered_map Open Closed x c c (disc_closes x c) (under_closes x c)) h
+
+-- ---- of one capsule
+pub InCapsule_grows : (edge : Edge) (a b : ArcShape) (x : Point) (c c' : ℕ) → c ≤ c' → InCapsule edge a b x c → InCapsule edge a b x c'
+InCapsule_grows edge a b x c c' l h = capsule_map edge edge x c c' (tapered_map edge edge x c c' (disc_grows edge x c c' l) (under_grows edge x c c' l)) a b h
+
+pub InCapsule_closes : (a b : ArcShape) (x : Point) (c : ℕ) → InCapsule Open a b x c → InCapsule Closed a b x c
+InCapsule_closes a b x c h = capsule_map Open Closed x c c (tapered_map Open Closed x c c (disc_closes x c) (under_closes x c)) a b h

@@ -1,9 +1,8 @@
-pub mod SomeFacts
 pub mod Tests
 pub mod Grows
 pub mod Bounds
 pub mod Reach
-pub mod BoxFacts
+pub mod LeastBoxes
 pub mod ArcFacts
 pub mod BandSizes
 pub mod Conical
@@ -11,3 +10,5 @@ pub mod Listed
 pub mod Standings
 pub mod CloseFacts
 pub mod WithinFacts
+pub mod Rises
+pub mod Beside

@@ -5,14 +5,15 @@ use Rattle.grid_exact.specs.declared.point.Point.{Point}
 use Rattle.grid_exact.specs.Root.{AtMostRoot}
 use Rattle.grid_exact.specs.Excess.{is_at_most_root}
 use Rattle.grid_exact.proofs.TestFacts.{above_in, above_out, all_true, at_least_in, at_least_out, at_most_in, at_most_out, first_true, le_in, le_out, lt_in, lt_out, second_true, third_true}
+use Rattle.center_polygon.specs.Somes.{some_two}
+use Rattle.center_polygon.specs.Triangles.{in_some_triangle}
+use Rattle.center_polygon.proofs.Deciding.{InSomeTriangle-test}
 use Rattle.horizontal_hull.specs.declared.edge.Edge.{Edge}
 use Rattle.horizontal_hull.specs.declared.edge.Edge.TheVariants.{Closed, Open}
-use Rattle.horizontal_hull.specs.Arcs.{ArcShape}
-use Rattle.horizontal_hull.specs.Pairs.{some_two, some_three}
+use Rattle.horizontal_hull.specs.Arcs.{ArcShape, centers_of}
 use Rattle.horizontal_hull.specs.Capsules.{InBand, InCapsule, InDisc, InTapered, ReachesRoot, ahead, aside, away, flare, in_band, in_capsule, in_disc, in_tapered, reaches_root, span, tangent, tangent_reach}
-use Rattle.horizontal_hull.specs.Triangles.{InTriangle, IsInside, in_triangle, is_inside, turn, turn_at}
 use Rattle.horizontal_hull.specs.Within.{Within, is_within}
-use Rattle.horizontal_hull.proofs.SomeFacts.{SomeThree-test, SomeTwo-test, and_test, or_test}
+use Rattle.center_polygon.proofs.SomeFacts.{SomeTwo-test, and_test, or_test}
 
 -- ---- comparisons of numbers
 nat_le_test : (a b : ℕ) → IsTrue (nat_le a b) ↔ a ≤ b
@@ -20,12 +21,6 @@ nat_le_test a b = grind arith
 
 nat_lt_test : (a b : ℕ) → IsTrue (nat_lt a b) ↔ a < b
 nat_lt_test a b = grind arith
-
-pub int_le_test : (a b : ℤ) → IsTrue (int_le a b) ↔ a ≤ℤ b
-int_le_test a b = (le_in a b, le_out a b)
-
-int_lt_test : (a b : ℤ) → IsTrue (int_lt a b) ↔ a <ℤ b
-int_lt_test a b = (lt_in a b, lt_out a b)
 
 at_most_test : (a b : ℤ) (n : ℕ) → IsTrue (is_at_most_root a b n) ↔ AtMostRoot a b n
 at_most_test a b n = (at_most_in a b n, at_most_out a b n)
@@ -61,30 +56,15 @@ InTapered-test edge a b x c =
     (and_test (nat_lt (flare a b * flare a b) (span a b)) (in_disc edge a x c || in_band edge a b x c) (nat_lt_test (flare a b * flare a b) (span a b))
     (or_test (in_disc edge a x c) (in_band edge a b x c) (InDisc-test edge a x c) (InBand-test edge a b x c)))
 
-InCapsule-test : (edge : Edge) (a b : ArcShape) (x : Point) (c : ℕ) → IsTrue (in_capsule edge a b x c) ↔ InCapsule edge a b x c
+pub InCapsule-test : (edge : Edge) (a b : ArcShape) (x : Point) (c : ℕ) → IsTrue (in_capsule edge a b x c) ↔ InCapsule edge a b x c
 unfolding in_capsule
 InCapsule-test edge a b x c =
     if_test (nat_le a.radius b.radius) (in_tapered edge a b x c) (in_tapered edge b a x c) (InTapered-test edge a b x c) (InTapered-test edge b a x c)
-
--- ---- triangles
-IsInside-test : (a b d : ArcShape) (x : Point) → IsTrue (is_inside a b d x) ↔ IsInside a b d x
-IsInside-test a b d x =
-    let h =
-    and_test (int_lt (pos 0) (turn a b d) && int_le (pos 0) (turn_at x a b)) (int_le (pos 0) (turn_at x b d) && int_le (pos 0) (turn_at x d a))
-    (and_test (int_lt (pos 0) (turn a b d)) (int_le (pos 0) (turn_at x a b)) (int_lt_test (pos 0) (turn a b d)) (int_le_test (pos 0) (turn_at x a b)))
-    (and_test (int_le (pos 0) (turn_at x b d)) (int_le (pos 0) (turn_at x d a)) (int_le_test (pos 0) (turn_at x b d)) (int_le_test (pos 0) (turn_at x d a))) in (
-      λ t. let k = h.0 t in record { proper = k.0.0; first = k.0.1; second = k.1.0; third = k.1.1 },
-      λ k. h.1 ((k.proper, k.first), (k.second, k.third)),
-    )
-
-InTriangle-test : (a b d : ArcShape) (x : Point) → IsTrue (in_triangle a b d x) ↔ InTriangle a b d x
-unfolding in_triangle
-InTriangle-test a b d x = or_test (is_inside a b d x) (is_inside a d b x) (IsInside-test a b d x) (IsInside-test a d b x)
 
 -- ---- all together
 pub Within-test : (edge : Edge) (arcs : List ArcShape) (x : Point) (c : ℕ) → IsTrue (is_within edge arcs x c) ↔ Within edge arcs x c
 unfolding is_within Within
 Within-test edge arcs x c =
-    or_test (some_two (λ a b. in_capsule edge a b x c) arcs) (some_three (λ a b d. in_triangle a b d x) arcs)
+    or_test (some_two (λ a b. in_capsule edge a b x c) arcs) (in_some_triangle (centers_of arcs) x)
     (SomeTwo-test (λ a b. InCapsule edge a b x c) (λ a b. in_capsule edge a b x c) (λ a b. InCapsule-test edge a b x c) arcs)
-    (SomeThree-test (λ a b d. InTriangle a b d x) (λ a b d. in_triangle a b d x) (λ a b d. InTriangle-test a b d x) arcs)
+    (InSomeTriangle-test (centers_of arcs) x)

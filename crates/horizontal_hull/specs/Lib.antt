@@ -1,9 +1,8 @@
 pub mod Arcs
-pub mod Pairs
 pub mod Capsules
-pub mod Triangles
 pub mod Within
 pub mod Standings
-pub mod Reaches
+pub mod Areas
 pub mod Close
 pub mod Bands
+pub mod Rises

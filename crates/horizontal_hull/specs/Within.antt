@@ -4,18 +4,18 @@ use Rattle.grid_exact.specs.declared.point.Point.{Point}
 use Rattle.grid_exact.specs.declared.cap.Cap.{Cap}
 use Rattle.grid_exact.specs.declared.cap.Cap.TheVariants.{Level, Beyond}
 use Rattle.grid_exact.specs.Excess.{Surface, flat_surface, flat_excess_of, excess_of, most_excess, greatest_up_to}
+use Rattle.center_polygon.specs.Somes.{SomeTwo, some_two}
+use Rattle.center_polygon.specs.Triangles.{InSomeTriangle, in_some_triangle}
 use Rattle.horizontal_hull.specs.declared.edge.Edge.{Edge}
 use Rattle.horizontal_hull.specs.declared.edge.Edge.TheVariants.{Closed, Open}
-use Rattle.horizontal_hull.specs.Arcs.{ArcShape, Dome}
-use Rattle.horizontal_hull.specs.Pairs.{SomeTwo, SomeThree, some_two, some_three}
+use Rattle.horizontal_hull.specs.Arcs.{ArcShape, Dome, centers_of}
 use Rattle.horizontal_hull.specs.Capsules.{InCapsule, in_capsule}
-use Rattle.horizontal_hull.specs.Triangles.{InTriangle, in_triangle}
 use Rattle.horizontal_hull.specs.declared.sizes.TheConstants.{CONICAL_RISE, CONICAL_RUN, CONICAL_SLOPE}
 
 -- a point is at most c beyond the arcs joined by their tangents: it lies in the tapered capsule of some two arcs with radii raised by
--- c, or in the triangle of some three centers. Each runway has two centers, so that every disc lies in a capsule
+-- c, or in the closed triangle of some three of their centers. Each runway has two centers, so that every disc lies in a capsule
 unfoldable pub Within : Edge → List ArcShape → Point → ℕ → Type 0
-Within edge arcs x c = SomeTwo (λ a b. InCapsule edge a b x c) arcs ⊎ SomeThree (λ a b d. InTriangle a b d x) arcs
+Within edge arcs x c = SomeTwo (λ a b. InCapsule edge a b x c) arcs ⊎ InSomeTriangle (centers_of arcs) x
 
 -- ---- the horizontal surface covers what the arcs and their tangents hold, at its one level
 abbrev pub horizontal : Dome → Point → Surface
@@ -58,7 +58,7 @@ IsCap d x Beyond = ¬ Within Closed d.arcs x CONICAL_RUN
 -- ---- the same as tests that compute
 
 unfoldable pub is_within : Edge → List ArcShape → Point → ℕ → Bool
-is_within edge arcs x c = some_two (λ a b. in_capsule edge a b x c) arcs || some_three (λ a b d. in_triangle a b d x) arcs
+is_within edge arcs x c = some_two (λ a b. in_capsule edge a b x c) arcs || in_some_triangle (centers_of arcs) x
 
 unfoldable pub horizontal_excess : Dome → Point → ℤ → Option ℕ
 horizontal_excess d x top = flat_excess_of (is_within Closed d.arcs x 0) d.level top

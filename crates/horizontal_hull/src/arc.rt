@@ -2,18 +2,19 @@
 
 ghost use Rattle.std.specs.Prelude.{◌≡◌, ◌≤◌, ◌-ℤ◌};
 ghost use Rattle.airfields.specs.Runways.{IsProper};
-ghost use Rattle.horizontal_hull.specs.Arcs.{arc as arc_of};
+ghost use Rattle.horizontal_hull.specs.Arcs.{arc as arc_of, spot_of};
 
 use crate::sizes::ARC_MOST;
 use airfields::Runway;
-use grid_exact::{Point, Start, Vector};
+use center_polygon::Center;
+use grid_exact::{Point, Vector};
 use runway_lines::{End, center, class};
 use std::marker::Model;
 
 /// An arc of a radius about the center at an end of a runway's primary surface, 77.19(a).
 #[derive(Drop)]
 pub(crate) struct Arc {
-    center: Start,
+    center: Center,
     radius: u32,
 }
 
@@ -33,15 +34,14 @@ impl Arc {
         ensures radius { result.radius ≤ ARC_MOST }
     {
         Arc {
-            center: center(runway, end),
+            center: Center::at(&center(runway, end)),
             radius: class(runway).radius as u32,
         }
     }
 
     /// Its center.
-    pub(crate) fn center(&self) -> Start
-        ensures x { result.x ≡ self.now.x }
-        ensures y { result.y ≡ self.now.y }
+    pub(crate) fn center(&self) -> Center
+        ensures { result ≡ spot_of self.now }
     {
         self.center
     }
@@ -66,14 +66,6 @@ impl Arc {
         ensures x { result.x ≡ other.now.x -ℤ self.now.x }
         ensures y { result.y ≡ other.now.y -ℤ self.now.y }
     {
-        self.center.to_start(&other.center)
-    }
-
-    /// The way to its center from a point.
-    pub(crate) fn from_point(&self, x: &Point) -> Vector
-        ensures x { result.x ≡ self.now.x -ℤ x.now.x }
-        ensures y { result.y ≡ self.now.y -ℤ x.now.y }
-    {
-        Start::at(x).to_start(&self.center)
+        self.center.to_center(&other.center)
     }
 }

@@ -1,14 +1,14 @@
 //! The tapered capsule of two arcs.
 
-ghost use Rattle.std.specs.Prelude.{◌≡◌, ◌↔◌, ◌*◌, ◌<◌, ◌≤◌, ◌⊎◌, IsTrue};
+ghost use Rattle.std.specs.Prelude.{◌≡◌, ◌↔◌, ◌*◌, ◌<◌, ◌≤◌, ◌<ℤ◌, ◌⊎◌, IsTrue, neg_ℤ, pos};
 ghost use Rattle.horizontal_hull.specs.Capsules.{InBand, InDisc, InTapered, flare, in_capsule, span};
-ghost use Rattle.horizontal_hull.specs.Close.{IsNearBoth};
+ghost use Rattle.horizontal_hull.specs.Close.{IsBeside, IsNearBoth};
 
 use crate::arc::Arc;
 use crate::band::Band;
 use crate::edge::Edge;
 use crate::sizes::{ARC_MOST, CONICAL_RUN};
-use grid_exact::Point;
+use grid_exact::{Point, Vector};
 
 /// Whether a point is at most `c` beyond the arc about its center.
 fn is_in_disc(edge: Edge, a: &Arc, x: &Point, c: u32) -> bool
@@ -51,12 +51,60 @@ fn is_in_tapered(edge: Edge, a: &Arc, b: &Arc, x: &Point, c: u32) -> bool
     is_in_disc(edge, b, x, c) || is_in_smaller_part(edge, a, b, x, c)
 }
 
+/// Whether a disc that reaches so far lies west of a point that is seen so from its center.
+fn is_west(seen: &Vector, reach: u32) -> bool
+    ensures { IsTrue result ↔ (pos reach <ℤ seen.now.x) }
+{
+    i64::from(reach) < seen.x
+}
+
+/// Whether it lies east of it.
+fn is_east(seen: &Vector, reach: u32) -> bool
+    ensures { IsTrue result ↔ (seen.now.x <ℤ neg_ℤ (pos reach)) }
+{
+    seen.x < -i64::from(reach)
+}
+
+/// Whether it lies south of it.
+fn is_south(seen: &Vector, reach: u32) -> bool
+    ensures { IsTrue result ↔ (pos reach <ℤ seen.now.y) }
+{
+    i64::from(reach) < seen.y
+}
+
+/// Whether it lies north of it.
+fn is_north(seen: &Vector, reach: u32) -> bool
+    ensures { IsTrue result ↔ (seen.now.y <ℤ neg_ℤ (pos reach)) }
+{
+    seen.y < -i64::from(reach)
+}
+
+/// Whether both discs about the centers of two arcs, their radii raised by `c`, lie on one side of a point: then so does the capsule.
+fn is_beside(a: &Arc, b: &Arc, x: &Point, c: u32) -> bool
+    requires first_radius { a.now.radius ≤ ARC_MOST }
+    requires second_radius { b.now.radius ≤ ARC_MOST }
+    requires run { c ≤ CONICAL_RUN }
+    ensures { IsTrue result ↔ IsBeside a.now b.now x.now c }
+{
+    let from_a = a.to_point(x);
+    let from_b = b.to_point(x);
+    let first = a.radius() + c;
+    let second = b.radius() + c;
+    ((is_west(&from_a, first) && is_west(&from_b, second))
+        || (is_east(&from_a, first) && is_east(&from_b, second)))
+        || ((is_south(&from_a, first) && is_south(&from_b, second))
+            || (is_north(&from_a, first) && is_north(&from_b, second)))
+}
+
 /// Whether a point lies in the tapered capsule of two arcs with radii raised by `c`.
 pub(crate) fn is_in_capsule(edge: Edge, a: &Arc, b: &Arc, x: &Point, c: u32) -> bool
     requires near { IsNearBoth a.now b.now x.now }
     requires run { c ≤ CONICAL_RUN }
     ensures { result ≡ in_capsule edge a.now b.now x.now c }
 {
+    if is_beside(a, b, x, c) {
+        return false;
+    }
     if a.radius() <= b.radius() {
         is_in_tapered(edge, a, b, x, c)
     } else {

@@ -1,24 +1,31 @@
 //! The horizontal and conical surfaces of an airport, prepared for many points.
 
-ghost use Rattle.std.specs.Prelude.{◌≡◌, ◌↔◌, ◌*◌, ◌^◌, ◌≤◌, ℕ, IfOk, IfSome, IsTrue, unsigned_abs};
+ghost use Rattle.std.specs.Prelude.{◌≡◌, ◌↔◌, ◌*◌, ◌^◌, ◌≤◌, [], ℕ, IfOk, IfSome, IsTrue, unsigned_abs};
 ghost use Rattle.std.specs.List.{All, flat_map};
+ghost use Rattle.std.specs.Option.{MatchOption};
 ghost use Rattle.grid_exact.specs.declared.point.Point.{Point};
 ghost use Rattle.grid_exact.specs.Excess.{IsExcess};
 ghost use Rattle.grid_exact.specs.Level.{IsLevel};
 ghost use Rattle.airfields.specs.Airfields.{IsHeldAirport};
 ghost use Rattle.airfields.specs.Runways.{IsProper};
-ghost use Rattle.horizontal_hull.specs.Arcs.{arcs_of, arcs_of_runway, dome_of};
+ghost use Rattle.horizontal_hull.specs.declared.edge.Edge.{Edge};
+ghost use Rattle.horizontal_hull.specs.Arcs.{arcs_of, arcs_of_runway, centers_of, dome_of};
+ghost use Rattle.horizontal_hull.specs.Areas.{AreHullAreas, CoverHull};
+ghost use Rattle.horizontal_hull.specs.Close.{AreClose};
+ghost use Rattle.horizontal_hull.specs.Rises.{IsRise};
 ghost use Rattle.horizontal_hull.specs.Standings.{IsStanding};
 ghost use Rattle.horizontal_hull.specs.Within.{ConicalCovers, IsCap, IsLeastConical, Within, cap_of, conical, conical_excess, horizontal, horizontal_excess, is_within as is_within_of};
 
 use crate::arc::Arc;
+use crate::areas::{HullAreas, areas};
 use crate::edge::Edge;
-use crate::extent::extent;
+use crate::rise::least_rise;
 use crate::sizes::{CONICAL_RISE, CONICAL_RUN, CONICAL_SLOPE, HORIZONTAL_RISE};
-use crate::some::{is_in_some_capsule, is_in_some_triangle};
+use crate::some::is_in_some_capsule;
 use crate::standing::Standing;
 use airfields::{Airport, Runway};
-use grid_exact::{Area, Cap, NoMemory, Point, flat_excess};
+use center_polygon::{Center, CenterPolygon};
+use grid_exact::{Cap, NoMemory, Point, flat_excess};
 use runway_lines::End;
 use std::alloc::Global;
 use std::marker::Model;
@@ -30,7 +37,9 @@ use std::marker::Model;
 #[derive(Drop)]
 pub struct Hull {
     arcs: Vec<Arc>,
-    reach: Area,
+    /// The polygon of the arcs' centers.
+    polygon: CenterPolygon,
+    areas: Option<HullAreas>,
     level: i64,
 }
 
@@ -42,7 +51,7 @@ impl Model for Hull {
 
     ghost view = { λ h. record { arcs = h.arcs.items; level = h.level } };
 
-    ghost invariant = { λ h. IsHull h.arcs.items h.reach h.level };
+    ghost invariant = { λ h. IsHull h.arcs.items h.polygon h.areas h.level };
 }
 
 /// The arcs at both ends of each runway.
@@ -70,6 +79,17 @@ fn arcs(alloc: Global, a: &Airport) -> Result<Vec<Arc>, NoMemory>
     arcs_about(alloc, a.runways.as_slice())
 }
 
+/// The centers of arcs.
+fn centers(alloc: Global, arcs: &[Arc]) -> Result<Vec<Center>, NoMemory>
+    ensures centers { IfOk result (λ v. v.items ≡ centers_of arcs.now) }
+{
+    let mut centers = Vec::with_capacity(alloc, arcs.len())?;
+    for arc in arcs {
+        centers.push(arc.center())?;
+    }
+    Ok(centers)
+}
+
 impl Hull {
     /// The surfaces of an airport that keeps the limits of a register's airports; without arcs where its category has no civil surfaces.
     ///
@@ -81,12 +101,36 @@ impl Hull {
         ensures dome { IfOk result (λ h. h ≡ dome_of a.now) }
     {
         let arcs = arcs(alloc, a)?;
-        let reach = extent(arcs.as_slice(), &a.arp);
+        let polygon = CenterPolygon::of(alloc, centers(alloc, arcs.as_slice())?)?;
+        let areas = areas(arcs.as_slice());
         Ok(Hull {
             arcs,
-            reach,
+            polygon,
+            areas,
             level: a.elevation + HORIZONTAL_RISE,
         })
+    }
+
+    /// The least boxes of the horizontal and the conical surface: each holds the discs about the centers of all arcs, whose radii are as
+    /// much greater as the surface goes outward. `None` where the airport has no arcs, and so neither surface.
+    pub fn areas(&self) -> Option<HullAreas>
+        ensures exact { MatchOption result (self.now.arcs ≡ []) (AreHullAreas self.now.arcs) }
+        ensures covers { IfSome result (CoverHull self.now) }
+    {
+        self.areas
+    }
+
+    /// Whether a point lies in the box outside which nothing is within `c`.
+    fn reaches(&self, x: &Point, c: u32) -> bool
+        requires run { c ≤ CONICAL_RUN }
+        ensures close { IsTrue result → AreClose self.now.arcs x.now }
+        ensures all { (edge : Edge) → Within edge self.now.arcs x.now c → IsTrue result }
+    {
+        match &self.areas {
+            None => false,
+            Some(areas) if c == 0 => areas.horizontal.has(x),
+            Some(areas) => areas.conical.has(x),
+        }
     }
 
     /// Whether a point is at most `c` beyond the arcs joined by their tangents, or less than `c` without the edge.
@@ -94,11 +138,14 @@ impl Hull {
         requires run { c ≤ CONICAL_RUN }
         ensures { result ≡ is_within_of edge self.now.arcs x.now c }
     {
-        if !self.reach.has(x) {
+        if !self.reaches(x, c) {
             return false;
         }
-        let arcs = self.arcs.as_slice();
-        is_in_some_capsule(edge, arcs, x, c) || is_in_some_triangle(arcs, x)
+        // First the polygon, which is asked faster.
+        if self.polygon.has(x) {
+            return true;
+        }
+        is_in_some_capsule(edge, self.arcs.as_slice(), x, c)
     }
 
     /// Whether a point is at most `c` beyond the arcs joined by their tangents, 77.19(a) and (b). At 0 the horizontal surface covers it.
@@ -123,40 +170,35 @@ impl Hull {
         requires run { c ≤ CONICAL_RUN }
         ensures { IsTrue result ↔ Within edge self.now.arcs x.now c }
     {
-        if !self.reach.has(x) {
+        if !self.reaches(x, c) {
             return false;
         }
         is_in_some_capsule(edge, self.arcs.as_slice(), x, c)
     }
 
-    /// How much higher than the horizontal surface the least level at or above the conical one is, at a point that this covers: found by
-    /// halving, since what is within grows with the way outward.
-    fn rise(&self, x: &Point) -> u32
-        requires covers { ConicalCovers self.now x.now }
-        ensures reaches { Within Edge.Closed self.now.arcs x.now (CONICAL_SLOPE * result) }
-        ensures least { (k : ℕ) → Within Edge.Closed self.now.arcs x.now (CONICAL_SLOPE * k) → result ≤ k }
-        ensures most { result ≤ CONICAL_RISE }
+    /// How much higher than the horizontal surface the least level at or above the conical one is, at a point that the horizontal surface
+    /// does not cover; `None` where the conical one does not cover it either.
+    fn rise(&self, x: &Point) -> Option<u32>
+        requires beyond { ¬ Within Edge.Closed self.now.arcs x.now 0 }
+        ensures { MatchOption result (¬ Within Edge.Closed self.now.arcs x.now CONICAL_RUN) (IsRise self.now.arcs x.now) }
     {
-        let mut least = 0;
-        let mut reached = CONICAL_RISE;
-        while least < reached {
-            let middle = least + (reached - least) / 2;
-            if self.is_within_beyond(Edge::Closed, x, CONICAL_SLOPE * middle) {
-                reached = middle;
-            } else {
-                least = middle + 1;
-            }
+        if !self.reaches(x, CONICAL_RUN) {
+            return None;
         }
-        reached
+        let rise = least_rise(self.arcs.as_slice(), x);
+        if CONICAL_RISE < rise {
+            return None;
+        }
+        Some(rise)
     }
 
-    /// The least level at or above the conical surface, at a point that this covers.
-    fn least_level(&self, x: &Point) -> i64
-        requires covers { ConicalCovers self.now x.now }
+    /// The least level at or above the conical surface, so much higher than the horizontal one.
+    fn level_at(&self, x: &Point, rise: u32) -> i64
+        requires rise { IsRise self.now.arcs x.now rise }
         ensures least { IsLeastConical self.now x.now result }
         ensures size { unsigned_abs result ≤ 2 ^ 19 }
     {
-        self.level + self.rise(x) as i64
+        self.level + i64::from(rise)
     }
 
     /// Where a point stands under the horizontal and the conical surface, 77.19(a) and (b). All other answers at the point follow from it.
@@ -166,10 +208,10 @@ impl Hull {
         if self.within(x, 0) {
             return Standing::Horizontal;
         }
-        if !self.is_within_beyond(Edge::Closed, x, CONICAL_RUN) {
-            return Standing::Beyond;
+        match self.rise(x) {
+            None => Standing::Beyond,
+            Some(rise) => Standing::Conical(self.level_at(x, rise)),
         }
-        Standing::Conical(self.least_level(x))
     }
 
     /// The lowest whole level at or above the horizontal and the conical surface at a point that stands so, in tenths of a foot: 77.19(a)

@@ -3,9 +3,11 @@
 ghost use Rattle.std.specs.Prelude.{◌≤◌};
 ghost use Rattle.grid_exact.specs.Level.{IsLevel};
 
-use crate::{CONICAL_RUN, Hull, Standing, cap_is, conical_excess_is, horizontal_excess_is};
+use crate::{
+    CONICAL_RUN, Hull, HullAreas, Standing, cap_is, conical_excess_is, horizontal_excess_is,
+};
 use airfields::{Airport, Category, FieldId, Runway, RunwayEnd, RunwayName, Runways};
-use grid_exact::{Cap, Point};
+use grid_exact::{Area, Cap, Point};
 use runway_classes::ApproachKind;
 use std::alloc::Global;
 use std::test::Fail;
@@ -246,6 +248,56 @@ fn edges(rt: HostRuntime) -> Result<(), Fail> {
         slanted.standing(&Point::new(271_000, 0)?),
         Standing::Conical(3500)
     );
+    Ok(())
+}
+
+/// A runway whose prepared hard surface is 10,000 feet long: its centers lie 200 feet past its ends.
+fn paved(alloc: Global) -> Result<Hull, Fail> {
+    let mut runway = large(b"A", (-50_000, 0), (50_000, 0))?;
+    runway.hard = true;
+    hull(alloc, Category::PublicUse, &[runway])
+}
+
+#[test]
+fn boxes(rt: HostRuntime) -> Result<(), Fail> {
+    let slanted = slanted(rt.alloc(), Category::PublicUse)?;
+    let paved = paved(rt.alloc())?;
+    let bare = bare(rt.alloc())?;
+    assert_eq!(rt;
+        paved.areas(),
+        Some(HullAreas {
+            horizontal: Area {
+                x0: -152_000,
+                y0: -100_000,
+                x1: 152_000,
+                y1: 100_000
+            },
+            conical: Area {
+                x0: -192_000,
+                y0: -140_000,
+                x1: 192_000,
+                y1: 140_000
+            },
+        })
+    );
+    assert_eq!(rt;
+        slanted.areas(),
+        Some(HullAreas {
+            horizontal: Area {
+                x0: -50_000,
+                y0: -100_000,
+                x1: 231_000,
+                y1: 100_000
+            },
+            conical: Area {
+                x0: -90_000,
+                y0: -140_000,
+                x1: 271_000,
+                y1: 140_000
+            },
+        })
+    );
+    assert_eq!(rt; bare.areas(), None);
     Ok(())
 }
 

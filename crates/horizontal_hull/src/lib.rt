@@ -3,19 +3,21 @@
 #![tactic(auto)]
 
 mod arc;
+mod areas;
 mod band;
 mod capsule;
 mod edge;
-mod extent;
+mod guess;
 mod hull;
 #[cfg(test)]
 mod hull_tests;
 mod laws;
+mod rise;
 mod sizes;
 mod some;
 mod standing;
-mod triangle;
 
+pub use areas::HullAreas;
 pub use hull::Hull;
 pub use laws::{cap_is, conical_excess_is, horizontal_excess_is};
 pub use sizes::{CONICAL_RISE, CONICAL_RUN, CONICAL_SLOPE, HORIZONTAL_RISE};

@@ -31,8 +31,5 @@ pub(crate) const CENTERS_APART: u64 = 2 * CENTER_REACH;
 /// Neither surface reaches farther from the airport's reference point in one coordinate.
 pub(crate) const BOX_REACH: u64 = CENTER_REACH + OUTER_MOST as u64;
 
-/// The box that both surfaces reach into is no wider and no higher.
-pub(crate) const BOX_SIDE: u64 = 2 * BOX_REACH;
-
-/// No point of that box is farther from a center in one coordinate.
+/// No point of their box is farther from a center in one coordinate.
 pub(crate) const POINT_APART: u64 = CENTERS_APART + OUTER_MOST as u64;

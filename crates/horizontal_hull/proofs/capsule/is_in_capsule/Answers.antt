@@ -5,6 +5,7 @@ use Rattle.grid_exact.proofs.TestFacts.{same_test}
 use Rattle.horizontal_hull.specs.declared.edge.Edge.{Edge}
 use Rattle.horizontal_hull.specs.Arcs.{ArcShape}
 use Rattle.horizontal_hull.specs.Capsules.{InTapered, in_capsule, in_tapered}
+use Rattle.horizontal_hull.proofs.Beside.{not_in_capsule}
 use Rattle.horizontal_hull.proofs.Tests.{InTapered-test}
 use Rattle.horizontal_hull.proofs.capsule.is_in_capsule.Goals as goal
 
@@ -24,6 +25,9 @@ first edge a b x c r l h = rw (not_larger a.radius b.radius l) (tapered edge a b
 second : (edge : Edge) (a b : ArcShape) (x : Point) (c : ℕ) (r : Bool) → b.radius < a.radius → (IsTrue r ↔ InTapered edge b a x c) → r ≡ in_capsule edge a b x c
 unfolding in_capsule
 second edge a b x c r l h = rw (larger a.radius b.radius l) (tapered edge b a x c r h)
+
+pub returns-then-is_beside : goal.returns-then-is_beside
+returns-then-is_beside c = not_in_capsule c.args.edge c.args.a.now c.args.b.now c.args.x.now c.args.c (c.is_beside.ensures.0 c.if-is_beside.true)
 
 pub returns-then-radius : goal.returns-then-radius
 returns-then-radius c =

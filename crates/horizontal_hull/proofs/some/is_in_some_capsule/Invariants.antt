@@ -1,6 +1,6 @@
 use Rattle.std.proofs.Common.{◌≡◌, drop}
 use Rattle.horizontal_hull.specs.Capsules.{in_capsule}
-use Rattle.horizontal_hull.specs.Pairs.{some_two}
+use Rattle.center_polygon.specs.Somes.{some_two}
 use Rattle.horizontal_hull.proofs.some.is_in_some_capsule.Given as goal
 
 abbrev pub invariant-loop-i : goal.invariant-loop-i

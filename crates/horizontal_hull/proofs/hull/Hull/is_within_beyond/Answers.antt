@@ -1,18 +1,15 @@
-use Rattle.std.proofs.Common.{◌≡◌, ◌∙◌, List, ap, subst}
-use Rattle.std.specs.List.{All}
-use Rattle.grid_exact.proofs.Booleans.{not_from_false}
+use Rattle.std.proofs.Common.{◌≡◌, ◌∙◌, List, ap, subst, sym}
+use Rattle.center_polygon.specs.Somes.{some_two}
 use Rattle.horizontal_hull.specs.Arcs.{ArcShape}
 use Rattle.horizontal_hull.specs.Capsules.{in_capsule}
-use Rattle.horizontal_hull.specs.Pairs.{some_two}
-use Rattle.horizontal_hull.specs.Reaches.{IsReached}
-use Rattle.horizontal_hull.proofs.WithinFacts.{not_reached, within_beyond}
+use Rattle.horizontal_hull.specs.Close.{AreClose}
+use Rattle.horizontal_hull.proofs.WithinFacts.{within_beyond}
 use Rattle.horizontal_hull.proofs.hull.Hull.is_within_beyond.Goals as goal
 
-pub returns-then-not-has : goal.returns-then-not-has
-returns-then-not-has c =
-    let arcs = c.args.self.now.arcs in
-    let reached : All (IsReached c.self.inside.reach) arcs = subst (λ (xs : List ArcShape). All (IsReached c.self.inside.reach) xs) (ap (λ d. d.arcs) c.self.view_is) c.self.invariant.reached in
-    (λ t. absurd (cc), λ w. absurd (not_reached c.self.inside.reach c.args.edge arcs c.args.x.now c.args.c reached c.requires.run (not_from_false c.has.result c.has.ensures.inside.1 c.if-not-has.true) w))
+pub is_in_some_capsule-requires-clause-close : goal.is_in_some_capsule-requires-clause-close
+is_in_some_capsule-requires-clause-close c =
+    let same : c.as_slice.result.now ≡ c.args.self.now.arcs = c.as_slice.ensures.value ∙ ap (λ d. d.arcs) c.self.view_is in
+    subst (λ (xs : List ArcShape). AreClose xs c.args.x.now) (sym same) (c.reaches.ensures.close c.if-not-reaches.false)
 
 pub returns : goal.returns
 returns c =

@@ -1,21 +1,17 @@
-use Rattle.std.proofs.Common.{◌≡◌, ◌∙◌, refl, ℤ, ◌+ℤ◌, List, arith, sym, subst, FitsSigned, w64, to_z, of_z, to_z-of_z}
+use Rattle.std.proofs.Common.{◌≡◌, ◌∙◌, refl, ℤ, ◌+ℤ◌, [], List, arith, ap, sym, subst, FitsSigned, w64, to_z, of_z, to_z-of_z}
 use Rattle.std.specs.List.{All}
+use Rattle.std.specs.Option.{MatchOption}
 use Rattle.std.proofs.lemmas.Int.{ints}
 use Rattle.airfields.specs.Runways.{IsElevation}
-use Rattle.horizontal_hull.specs.Arcs.{ArcShape, Dome, arcs_of, dome_of}
+use Rattle.horizontal_hull.specs.Arcs.{ArcShape, Dome, arcs_of, centers_of, dome_of}
+use Rattle.horizontal_hull.specs.Areas.{AreHullAreas}
 use Rattle.horizontal_hull.specs.declared.sizes.TheConstants.{HORIZONTAL_RISE}
 use Rattle.horizontal_hull.specs.Close.{IsNearReference}
-use Rattle.horizontal_hull.specs.Reaches.{IsReached}
 use Rattle.horizontal_hull.proofs.ArcFacts.{arcs_near}
 use Rattle.horizontal_hull.proofs.hull.Hull.of.Goals as goal
 
 abbrev dome : List ArcShape → ℤ → Dome
 dome xs z = record { arcs = xs; level = z }
-
-pub extent-reach-requires : goal.extent-reach-requires
-extent-reach-requires c =
-    let arp = c.args.a.now.arp in
-    record { near = subst (λ (xs : List ArcShape). All (IsNearReference arp) xs) (sym (c.as_slice.ensures.value ∙ c.in_ok-arcs.ensures.arcs)) (arcs_near c.args.a.now c.requires.held.near) }
 
 -- the level as the code computes it
 raised : (z : ℤ) → IsElevation z → to_z w64 (of_z w64 (to_z w64 (of_z w64 z) +ℤ HORIZONTAL_RISE)) ≡ z +ℤ HORIZONTAL_RISE
@@ -27,10 +23,13 @@ raised z h =
 pub invariant_of-result : goal.invariant_of-result
 invariant_of-result c =
     let e = c.requires.held.elevation in
+    let arp = c.args.a.now.arp in
     rw (raised c.args.a.now.elevation e)
     (record {
-      reached = subst (λ (xs : List ArcShape). All (IsReached c.extent-reach.result) xs) c.as_slice.ensures.value c.extent-reach.ensures.reached;
-      small = c.extent-reach.ensures.small;
+      arp = arp;
+      near = subst (λ (xs : List ArcShape). All (IsNearReference arp) xs) (sym c.in_ok-arcs.ensures.arcs) (arcs_near c.args.a.now c.requires.held.near);
+      centers_are = c.in_ok-polygon.ensures.centers ∙ (c.in_ok-centers.ensures.centers ∙ ap centers_of c.as_slice.ensures.value);
+      areas_are = subst (λ (xs : List ArcShape). MatchOption c.areas-areas.result (xs ≡ []) (AreHullAreas xs)) c.as_slice-2.ensures.value c.areas-areas.ensures;
       level_size = omega (arith, ints, e.least, e.most);
     })
 

@@ -1,21 +1,27 @@
-use Rattle.std.proofs.Common.{inl, inr, ℕ, ◌+◌, ◌-◌, ◌*◌, ◌/◌, arith}
-use Rattle.std.proofs.lemmas.Bool.{cases_lt}
-use Rattle.grid_exact.proofs.Booleans.{not_from_false}
-use Rattle.horizontal_hull.specs.declared.edge.Edge.TheVariants.{Closed}
-use Rattle.horizontal_hull.specs.declared.sizes.TheConstants.{CONICAL_SLOPE}
-use Rattle.horizontal_hull.specs.Within.{Within}
-use Rattle.horizontal_hull.proofs.Grows.{Within_grows}
+use Rattle.std.proofs.Common.{◌≡◌, ◌∙◌, ◌+◌, ℕ, List, ap, subst, sym}
+use Rattle.grid_exact.specs.declared.point.Point.{Point}
+use Rattle.center_polygon.specs.Somes.{some_two}
+use Rattle.horizontal_hull.specs.Arcs.{ArcShape}
+use Rattle.horizontal_hull.specs.declared.sizes.TheConstants.{CONICAL_RISE}
+use Rattle.horizontal_hull.specs.Close.{AreClose}
+use Rattle.horizontal_hull.specs.Rises.{IsLeastRise, in_risen}
+use Rattle.horizontal_hull.proofs.Rises.{no_rise, rise_is}
 use Rattle.horizontal_hull.proofs.hull.Hull.rise.Goals as goal
 
-pub loop-least-preserved : goal.loop-least-preserved
-loop-least-preserved c =
-    let arcs = c.args.self.now.arcs in
-    let x = c.args.x.now in
-    let middle : ℕ = c.loop-least.least + (c.loop-least.reached - c.loop-least.least) / 2 in
-    let missed : Within Closed arcs x (CONICAL_SLOPE * middle) → ⊥ = not_from_false c.is_within_beyond.result c.is_within_beyond.ensures.1 c.if-is_within_beyond.false in
-    record {
-      order = omega arith;
-      most = c.loop-least.invariant.most;
-      reaches = c.loop-least.invariant.reaches;
-      missed = λ k w. elim (cases_lt middle k) [ inl l ↦ omega (arith, l) | inr l ↦ absurd (missed (Within_grows Closed arcs x (CONICAL_SLOPE * k) (CONICAL_SLOPE * middle) (omega (arith, l)) w)) ];
-    }
+pub least_rise-rise-requires : goal.least_rise-rise-requires
+least_rise-rise-requires c =
+    let same : c.as_slice.result.now ≡ c.args.self.now.arcs = c.as_slice.ensures.value ∙ ap (λ d. d.arcs) c.self.view_is in
+    record { close = subst (λ (xs : List ArcShape). AreClose xs c.args.x.now) (sym same) (c.reaches.ensures.close c.if-not-reaches.false) }
+
+least : (arcs asked : List ArcShape) (x : Point) (rise : ℕ) → asked ≡ arcs → IsLeastRise (λ k. some_two (in_risen x k) asked) (CONICAL_RISE + 1) rise → IsLeastRise (λ k. some_two (in_risen x k) arcs) (CONICAL_RISE + 1) rise
+least arcs asked x rise e h = subst (λ (xs : List ArcShape). IsLeastRise (λ k. some_two (in_risen x k) xs) (CONICAL_RISE + 1) rise) e h
+
+pub returns-then-rise-gt-CONICAL_RISE : goal.returns-then-rise-gt-CONICAL_RISE
+returns-then-rise-gt-CONICAL_RISE c =
+    let same : c.as_slice.result.now ≡ c.args.self.now.arcs = c.as_slice.ensures.value ∙ ap (λ d. d.arcs) c.self.view_is in
+    no_rise c.args.self.now.arcs c.args.x.now c.least_rise-rise.result c.requires.beyond (least c.args.self.now.arcs c.as_slice.result.now c.args.x.now c.least_rise-rise.result same c.least_rise-rise.ensures) c.if-rise-gt-CONICAL_RISE.true
+
+pub returns : goal.returns
+returns c =
+    let same : c.as_slice.result.now ≡ c.args.self.now.arcs = c.as_slice.ensures.value ∙ ap (λ d. d.arcs) c.self.view_is in
+    rise_is c.args.self.now.arcs c.args.x.now c.least_rise-rise.result c.requires.beyond (least c.args.self.now.arcs c.as_slice.result.now c.args.x.now c.least_rise-rise.result same c.least_rise-rise.ensures) c.if-rise-gt-CONICAL_RISE.false

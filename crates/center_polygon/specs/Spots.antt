@@ -1,0 +1,11 @@
+-- Where centers of arcs and points lie.
+use Rattle.std.specs.Prelude.{ℤ}
+use Rattle.grid_exact.specs.declared.point.Point.{Point}
+
+pub record Spot : Type 0 where
+  pub x : ℤ
+  pub y : ℤ
+
+-- where a point of the grid lies
+abbrev pub at : Point → Spot
+at p = record { x = p.x; y = p.y }
