@@ -8,3 +8,6 @@ pub mod Texts
 pub mod Limits
 pub mod Closing
 pub mod Making
+pub mod DateFacts
+pub mod OpenDays
+pub mod ComputedFacts

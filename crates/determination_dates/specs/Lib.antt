@@ -6,3 +6,5 @@ pub mod Effects
 pub mod Determinations
 pub mod Statuses
 pub mod Text
+pub mod Dates
+pub mod Computed
