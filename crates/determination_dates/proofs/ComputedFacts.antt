@@ -1,5 +1,5 @@
 -- What the date calls make is what the definitions compute.
-use Rattle.std.proofs.Common.{◌≡◌, refl, sym, ap, ◌∙◌, subst, arith, ℕ, Bool, true, false, if◌then◌else◌, List, Option, Some, None, IfSome, ℤ, pos, ◌+ℤ◌, Result, Ok, Err, IfOk, OnErr, MatchResult}
+use Rattle.std.proofs.Common.{◌≡◌, refl, sym, ap, ◌∙◌, subst, arith, ℕ, Bool, true, false, if◌then◌else◌, List, Option, Some, None, IfSome, ℤ, pos, ◌+ℤ◌, Result, Ok, Err, IfOk, OnErr}
 use Rattle.std.specs.Option.{option_map}
 use Rattle.std.proofs.lemmas.Option.{none-some, same_Some}
 use Rattle.jiff_core.specs.declared.civil.date.Date.{Date}
@@ -7,13 +7,18 @@ use Rattle.jiff_core.specs.Date.{epoch_day}
 use Rattle.jiff_core.proofs.SignedLemmas.{signed_arith}
 use Rattle.determination_dates.specs.declared.determination.Decision.{Decision}
 use Rattle.determination_dates.specs.declared.determination.Record.{Record}
-use Rattle.determination_dates.specs.Days.{IsDay, IsLimited}
+use Rattle.jiff_span.specs.Months.{add_months}
+use Rattle.determination_dates.specs.declared.timely.Timeliness.TheVariants.{Emergency}
+use Rattle.determination_dates.specs.declared.notice.TheConstants.{FORM_DAYS}
+use Rattle.determination_dates.specs.declared.effects.TheConstants.{EXTENSION_DAYS}
+use Rattle.determination_dates.specs.Notices.{by_days, days_late}
+use Rattle.determination_dates.specs.Days.{IsDay, IsLimited, IsExpiryDay}
 use Rattle.determination_dates.specs.Deadlines.{IsDeadline}
-use Rattle.determination_dates.specs.Effects.{expiry_day, IsKept, IsInRange, IsWithinRange}
-use Rattle.determination_dates.specs.Determinations.{fresh, ordinary_day, HasDeadline, IsIssued, affirmed_on}
-use Rattle.determination_dates.specs.Dates.{is_day, limited_date}
-use Rattle.determination_dates.specs.Computed.{with_some, deadline_day, deadline_date, within_range, in_range, reviewable_record, issued_record}
-use Rattle.determination_dates.proofs.DateFacts.{day_true, true_day, limited_by, limited_none, limited_sound}
+use Rattle.determination_dates.specs.Effects.{expiry_day, last_day, IsKept, IsInRange, IsWithinRange}
+use Rattle.determination_dates.specs.Determinations.{fresh, ordinary_day, HasDeadline, IsIssued, affirmed_on, extended_to}
+use Rattle.determination_dates.specs.Dates.{is_day, date_on, limited_date}
+use Rattle.determination_dates.specs.Computed.{Computes, affirmed_record, extended_record, expiry_date, last_date, timeliness_of, with_some, deadline_day, deadline_date, within_range, in_range, reviewable_record, issued_record}
+use Rattle.determination_dates.proofs.DateFacts.{date_again, day_true, true_day, limited_by, limited_none, limited_sound}
 use Rattle.determination_dates.proofs.EffectFacts.{effective_limited}
 use Rattle.determination_dates.proofs.Issues.{deadline_same, one_record}
 use Rattle.determination_dates.proofs.OpenDays.{deadline_is}
@@ -112,6 +117,51 @@ none_unless (Some r) h = absurd (h r refl)
 
 pub issue_computes : {E : Type 0} (issued : Date) (decision : Decision) (t : Bool) (closed : List Date) (result : Result Record E) → IsLimited issued → IfOk result (IsIssued issued decision t closed) → IfOk result IsWithinRange
     → OnErr result ((r : Record) → IsIssued issued decision t closed r → ¬ IsWithinRange r)
-    → MatchResult result (λ r. issued_record issued decision t closed ≡ Some r) (λ _. issued_record issued decision t closed ≡ None)
+    → Computes result (issued_record issued decision t closed)
 issue_computes issued decision t closed (Ok r) i h w b = issued_made issued decision t closed r h w
 issue_computes issued decision t closed (Err x) i h w b = none_unless _ (λ r e. let s = issued_sound issued decision t closed r i e in b r s.0 s.1)
+
+-- ---- an affirmation and an extension
+
+affirmed_kept : (day : Date) (r : Record) → IsLimited day → IsKept r → IsKept (affirmed_on day r)
+affirmed_kept day r l k = record { issued = k.issued; deadline = k.deadline; ordinary = k.ordinary; affirmed = l; set_expiry = k.set_expiry }
+
+pub affirmed_made : (day : Date) (r : Record) → IsInRange (affirmed_on day r) → affirmed_record day r ≡ Some (affirmed_on day r)
+affirmed_made day r h = in_range_is (expiry_day (affirmed_on day r)) (affirmed_on day r) h.expiry
+
+pub affirmed_none : (day : Date) (r : Record) → IsLimited day → IsKept r → ¬ IsInRange (affirmed_on day r) → affirmed_record day r ≡ None
+affirmed_none day r l k n =
+    within_none (expiry_day (affirmed_on day r)) (affirmed_on day r)
+    (λ x. n (record { effective = effective_limited (affirmed_on day r) (affirmed_kept day r l k); expiry = x }))
+
+pub extended_made : (months : ℕ) (r : Record) (e x : Date) → Some e ≡ expiry_date r → epoch_day x ≡ add_months e (pos months) → IsLimited x → extended_record months r ≡ Some (extended_to x r)
+extended_made months r e x h g l =
+    ap (λ o. with_some o (λ e. option_map (λ x. extended_to x r) (limited_date (add_months e (pos months))))) (sym h)
+    ∙ ap (option_map (λ x. extended_to x r)) (limited_by _ x l (sym g))
+
+pub extended_none : (months : ℕ) (r : Record) (e : Date) → Some e ≡ expiry_date r → ¬ IsDay (add_months e (pos months)) → extended_record months r ≡ None
+extended_none months r e h n =
+    ap (λ o. with_some o (λ e. option_map (λ x. extended_to x r) (limited_date (add_months e (pos months))))) (sym h)
+    ∙ ap (option_map (λ x. extended_to x r)) (limited_none _ n)
+
+-- ---- the expiry and the last day for an extension
+
+pub expiry_is : (r : Record) (o : Option Date) → IfSome o (λ d. IsExpiryDay (epoch_day d)) → option_map epoch_day o ≡ expiry_day r → o ≡ expiry_date r
+expiry_is r None l e = ap (λ x. with_some x date_on) e
+expiry_is r (Some d) l e = sym (date_again d (omega (arith, signed_arith, l)) (omega (arith, signed_arith, l))) ∙ ap (λ x. with_some x date_on) e
+
+pub last_is : (r : Record) (o : Option Date) → IfSome o (λ d. IsExpiryDay (epoch_day d +ℤ EXTENSION_DAYS)) → option_map epoch_day o ≡ last_day r → o ≡ last_date r
+last_is r None l e = ap (λ x. with_some x date_on) e
+last_is r (Some d) l e = sym (date_again d (omega (arith, signed_arith, l)) (omega (arith, signed_arith, l))) ∙ ap (λ x. with_some x date_on) e
+
+-- ---- a notice
+
+pub urgent_made : (received start : Date) (permit : Option Date) (emergency : Bool) (due : Date) → emergency ≡ true → epoch_day due ≡ epoch_day received +ℤ FORM_DAYS → IsLimited due
+    → timeliness_of received start permit emergency ≡ Some (Emergency due)
+urgent_made received start permit emergency due t e l = rw t (ap (option_map Emergency) (limited_by _ due l (sym e)))
+
+pub urgent_none : (received start : Date) (permit : Option Date) (emergency : Bool) → emergency ≡ true → ¬ IsDay (epoch_day received +ℤ FORM_DAYS) → timeliness_of received start permit emergency ≡ None
+urgent_none received start permit emergency t n = rw t (ap (option_map Emergency) (limited_none _ n))
+
+pub planned_made : (received start : Date) (permit : Option Date) (emergency : Bool) → emergency ≡ false → timeliness_of received start permit emergency ≡ Some (by_days (days_late received start permit))
+planned_made received start permit emergency t = rw t refl

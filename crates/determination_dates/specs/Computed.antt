@@ -1,5 +1,5 @@
 -- The dates of Deadlines, Notices, Effects and Determinations once more, as functions that compute. None is a date outside the limit.
-use Rattle.std.specs.Prelude.{◌+◌, ◌*◌, ℕ, zero, suc, ℤ, pos, ◌+ℤ◌, ◌&&◌, not, nat_lt, Bool, true, false, Option, Some, None, if◌then◌else◌, List, length}
+use Rattle.std.specs.Prelude.{◌≡◌, Result, MatchResult, ◌+◌, ◌*◌, ℕ, zero, suc, ℤ, pos, ◌+ℤ◌, ◌&&◌, not, nat_lt, Bool, true, false, Option, Some, None, if◌then◌else◌, List, length}
 use Rattle.std.specs.Option.{option_map}
 use Rattle.jiff_core.specs.declared.civil.date.Date.{Date}
 use Rattle.jiff_core.specs.Date.{epoch_day}
@@ -16,6 +16,10 @@ use Rattle.determination_dates.specs.Notices.{days_late, by_days}
 use Rattle.determination_dates.specs.Effects.{expiry_day, last_day}
 use Rattle.determination_dates.specs.Determinations.{fresh, ordinary_day, affirmed_on, extended_to}
 use Rattle.determination_dates.specs.Dates.{date_on, is_day, limited_date}
+
+-- a call answers what was computed: the value, or an error exactly where there is none
+abbrev pub Computes : {T E : Type 0} → Result T E → Option T → Type 0
+Computes result o = MatchResult result (λ x. o ≡ Some x) (λ _. o ≡ None)
 
 -- what follows from a value, where there is one
 abbrev pub with_some : {T U : Type 0} → Option T → (T → Option U) → Option U

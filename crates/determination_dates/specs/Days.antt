@@ -17,3 +17,7 @@ IsLimited d = IsDay (epoch_day d)
 -- the day is within a thousand years of the limit, where some days or months can be added
 abbrev pub IsNear : ℤ → Type 0
 IsNear z = (neg_ℤ (pos 400_000) ≤ℤ z) × (z ≤ℤ pos 800_000)
+
+-- the day of an expiry before it is compared with the limit: at most some years past it
+abbrev pub IsExpiryDay : ℤ → Type 0
+IsExpiryDay z = (FIRST_DAY ≤ℤ z) × (z ≤ℤ pos 450_000)

@@ -4,6 +4,7 @@ ghost use Rattle.std.specs.Prelude.{ℤ, IfOk, OnErr};
 ghost use Rattle.jiff_core.specs.Date.{epoch_day};
 ghost use Rattle.determination_dates.specs.Days.{IsDay, IsLimited};
 ghost use Rattle.determination_dates.specs.Deadlines.{IsDeadline};
+ghost use Rattle.determination_dates.specs.Computed.{Computes, deadline_date};
 
 use crate::closed::ClosedDays;
 use crate::days::days_later;
@@ -24,6 +25,7 @@ pub fn petition_deadline(issued: Date, closed: &ClosedDays) -> Result<Date, Date
     ensures found { IfOk result (λ d. IsDeadline closed.now (epoch_day issued) (epoch_day d)) }
     ensures within { IfOk result IsLimited }
     ensures beyond { OnErr result ((z : ℤ) → IsDeadline closed.now (epoch_day issued) z → ¬ IsDay z) }
+    ensures computed { Computes result (deadline_date closed.now issued) }
 {
     let mut day = days_later(issued, PETITION_DAYS);
     while is_limited(day) {

@@ -1,11 +1,12 @@
 //! Determinations: how one is issued (77.31), affirmed after a petition (77.37) and extended (77.35).
 
-ghost use Rattle.std.specs.Prelude.{◌≡◌, ◌≤◌, IsSome, IfOk, OnOk, OnErr, List, true, false, Some};
+ghost use Rattle.std.specs.Prelude.{◌≡◌, ◌≤◌, IsSome, IfOk, OnOk, OnErr, List, true, false, Some, None, MatchResult};
 ghost use Rattle.jiff_core.specs.Date.{epoch_day};
 ghost use Rattle.jiff_core.specs.declared.civil.date.Date.{Date as Plain};
 ghost use Rattle.determination_dates.specs.declared.determination.Record.{Record as Seen};
 ghost use Rattle.determination_dates.specs.Days.{IsLimited};
 ghost use Rattle.determination_dates.specs.Effects.{expiry_day, IsKept, IsInRange, IsWithinRange};
+ghost use Rattle.determination_dates.specs.Computed.{Computes, issued_record, affirmed_record, extended_record};
 ghost use Rattle.determination_dates.specs.Determinations.{ordinary_day, fresh, IsIssued, affirmed_on, extended_to, IsExtension};
 
 use crate::closed::ClosedDays;
@@ -138,6 +139,7 @@ impl Record {
         ensures made { IfOk result (IsIssued issued decision reviewable closed.now) }
         ensures range { IfOk result IsWithinRange }
         ensures beyond { OnErr result ((r : Seen) → IsIssued issued decision reviewable closed.now r → ¬ IsWithinRange r) }
+        ensures computed { Computes result (issued_record issued decision reviewable closed.now) }
     {
         if reviewable {
             Record::issue_reviewable(issued, decision, closed)
@@ -151,6 +153,7 @@ impl Record {
     /// # Errors
     ///
     /// `DateRange` exactly where the effective day or the expiry that follows is outside the limit; the record is as it was.
+    #[tactic(auto, using(crate::proofs::ComputedFacts::affirmed_made, crate::proofs::ComputedFacts::affirmed_none))]
     pub fn affirm(&mut self, day: Date) -> Result<(), DateRange>
         requires kept { IsKept self.old }
         requires day { IsLimited day }
@@ -158,6 +161,7 @@ impl Record {
         ensures range { OnOk result (IsWithinRange self.new) }
         ensures same { OnErr result (self.new ≡ self.old) }
         ensures beyond { OnErr result (¬ IsInRange (affirmed_on day self.old)) }
+        ensures computed { MatchResult result (λ _. affirmed_record day self.old ≡ Some self.new) (λ _. affirmed_record day self.old ≡ None) }
     {
         let affirmed = Record {
             pending: false,
@@ -184,6 +188,7 @@ impl Record {
         ensures range { OnOk result (IsKept self.new) }
         ensures same { OnErr result (self.new ≡ self.old) }
         ensures beyond { OnErr result ((x : Plain) → IsExtension self.old months x → ¬ IsLimited x) }
+        ensures computed { MatchResult result (λ _. extended_record months self.old ≡ Some self.new) (λ _. extended_record months self.old ≡ None) }
     {
         let Some(end) = expiry(self) else {
             unreachable!()

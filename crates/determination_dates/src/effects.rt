@@ -2,7 +2,8 @@
 
 ghost use Rattle.std.specs.Prelude.{◌≡◌, ◌↔◌, IsTrue, IfSome, option_map};
 ghost use Rattle.jiff_core.specs.Date.{epoch_day};
-ghost use Rattle.determination_dates.specs.Days.{IsNear};
+ghost use Rattle.determination_dates.specs.Days.{IsExpiryDay};
+ghost use Rattle.determination_dates.specs.Computed.{expiry_date, last_date};
 ghost use Rattle.determination_dates.specs.Effects.{later_of, effective_date, expiry_day, last_day, IsKept, IsInRange};
 
 use crate::days::{days_later, months_later};
@@ -39,11 +40,12 @@ pub fn effective(r: &Record) -> Option<Date>
 
 /// The expiry: none of a determination of hazard (77.33(c)); the day that was set by an extension or by what the FCC did (77.35(b),
 /// (c)), else 18 months after the effective day (77.33(b)), and none while there is none.
-#[tactic(auto, using(crate::proofs::EffectFacts::effective_near))]
+#[tactic(auto, using(crate::proofs::EffectFacts::effective_near, crate::proofs::ComputedFacts::expiry_is))]
 pub fn expiry(r: &Record) -> Option<Date>
     requires { IsKept r.now }
     ensures value { option_map epoch_day result ≡ expiry_day r.now }
-    ensures bound { IfSome result (λ d. IsNear (epoch_day d)) }
+    ensures date { result ≡ expiry_date r.now }
+    ensures bound { IfSome result (λ d. IsExpiryDay (epoch_day d)) }
 {
     match r.decision {
         Decision::Hazard => None,
@@ -60,9 +62,11 @@ pub fn expiry(r: &Record) -> Option<Date>
 }
 
 /// The last day for a petition for an extension, 15 days before the expiry (77.35(a)(2)). It may be before 1900-01-01.
+#[tactic(auto, using(crate::proofs::ComputedFacts::last_is))]
 pub fn last_extension_day(r: &Record) -> Option<Date>
     requires { IsKept r.now }
-    ensures { option_map epoch_day result ≡ last_day r.now }
+    ensures value { option_map epoch_day result ≡ last_day r.now }
+    ensures date { result ≡ last_date r.now }
 {
     match expiry(r) {
         Some(day) => Some(days_later(day, -EXTENSION_DAYS)),

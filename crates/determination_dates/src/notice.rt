@@ -3,6 +3,7 @@
 ghost use Rattle.std.specs.Prelude.{◌≡◌, true, ◌+ℤ◌, ◌-ℤ◌, IfOk, IfSome, OnErr};
 ghost use Rattle.jiff_core.specs.Date.{epoch_day};
 ghost use Rattle.determination_dates.specs.Days.{IsDay, IsLimited};
+ghost use Rattle.determination_dates.specs.Computed.{Computes, timeliness_of};
 ghost use Rattle.determination_dates.specs.Notices.{days_over, days_late, by_days, earlier_of, HasLimitedDue, IsTimeliness};
 
 use crate::days::{days_later, number};
@@ -64,7 +65,7 @@ fn days_late(received: Date, start: Date, permit: Option<Date>) -> u32
 /// # Errors
 ///
 /// `DateRange` exactly where the day on which an emergency's form is due is outside the limit.
-#[tactic(auto, using(crate::proofs::Notices::urgent, crate::proofs::Notices::planned, crate::proofs::Notices::due_by_days))]
+#[tactic(auto, using(crate::proofs::Notices::urgent, crate::proofs::Notices::planned, crate::proofs::Notices::due_by_days, crate::proofs::ComputedFacts::urgent_made, crate::proofs::ComputedFacts::urgent_none, crate::proofs::ComputedFacts::planned_made))]
 pub fn timeliness(
     received: Date,
     start: Date,
@@ -77,6 +78,7 @@ pub fn timeliness(
     ensures value { IfOk result (IsTimeliness received start permit emergency) }
     ensures within { IfOk result HasLimitedDue }
     ensures beyond { OnErr result ((emergency ≡ true) × (¬ IsDay (epoch_day received +ℤ FORM_DAYS))) }
+    ensures computed { Computes result (timeliness_of received start permit emergency) }
 {
     if emergency {
         return match within(days_later(received, FORM_DAYS)) {
