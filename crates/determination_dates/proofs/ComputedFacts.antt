@@ -17,7 +17,7 @@ use Rattle.determination_dates.specs.Deadlines.{IsDeadline}
 use Rattle.determination_dates.specs.Effects.{expiry_day, last_day, IsKept, IsInRange, IsWithinRange}
 use Rattle.determination_dates.specs.Determinations.{fresh, ordinary_day, HasDeadline, IsIssued, affirmed_on, extended_to}
 use Rattle.determination_dates.specs.Dates.{is_day, date_on, limited_date}
-use Rattle.determination_dates.specs.Computed.{Computes, affirmed_record, extended_record, expiry_date, last_date, timeliness_of, with_some, deadline_day, deadline_date, within_range, in_range, reviewable_record, issued_record}
+use Rattle.determination_dates.specs.Computed.{Computes, affirmed_record, extended_record, expiry_date, last_date, timeliness_of, with_some, deadline_date, within_range, in_range, reviewable_record, issued_record}
 use Rattle.determination_dates.proofs.DateFacts.{date_again, day_true, true_day, limited_by, limited_none, limited_sound}
 use Rattle.determination_dates.proofs.EffectFacts.{effective_limited}
 use Rattle.determination_dates.proofs.Issues.{deadline_same, one_record}

@@ -1,12 +1,11 @@
 -- The date of a day number is the one that has it.
-use Rattle.std.proofs.Common.{◌≡◌, refl, sym, ap, ◌∙◌, subst, arith, ℕ, zero, suc, ◌+◌, ◌-◌, ◌*◌, ◌<◌, ◌≤◌, nat_lt, nat_le, Bool, true, false, ◌&&◌, if◌then◌else◌, Option, Some, None, ℤ, pos, negsuc, neg_ℤ, ◌+ℤ◌, ◌≤ℤ◌, ◌<ℤ◌, int_lt, int_le}
+use Rattle.std.proofs.Common.{◌≡◌, refl, sym, ap, ◌∙◌, arith, ℕ, zero, suc, ◌+◌, ◌-◌, ◌*◌, ◌<◌, ◌≤◌, nat_lt, Bool, true, false, if◌then◌else◌, Option, Some, None, ℤ, pos, negsuc, neg_ℤ, ◌+ℤ◌, ◌≤ℤ◌, int_lt, int_le}
 use Rattle.std.proofs.lemmas.Int.{ints}
 use Rattle.std.proofs.lemmas.Bool.{le-leb, and_parts}
-use borrow.Author.Differences.{up, down}
 use Rattle.jiff.proofs.Family.{same_date}
 use Rattle.jiff_core.specs.declared.civil.date.Date.{Date}
 use Rattle.jiff_core.specs.Date.{epoch_day}
-use Rattle.jiff_core.specs.Calendar.{days_in_year, days_in_month, days_from_civil, day_count, days_of_years, days_of_months, IsCivilDate}
+use Rattle.jiff_core.specs.Calendar.{days_in_year, days_in_month, day_count, days_of_years, days_of_months, IsCivilDate}
 use Rattle.jiff_core.proofs.SignedLemmas.{signed_arith}
 use Rattle.jiff_core.proofs.CalendarLemmas.{days_from_civil-day_count, days_in_year_bounds, day_count-next_year, day_count-next_month, day_count-last_of_year, day_count-day}
 use Rattle.std.proofs.lemmas.Option.{none-some, same_Some}
@@ -14,7 +13,7 @@ use Rattle.grid_exact.proofs.TestFacts.{le_in, le_out}
 use Rattle.determination_dates.specs.declared.limit.TheConstants.{FIRST_DAY, LAST_DAY}
 use Rattle.determination_dates.specs.Days.{IsDay, IsLimited}
 use Rattle.determination_dates.specs.Notices.{days_over}
-use Rattle.determination_dates.specs.Dates.{year_from, month_from, is_civil, where_true, civil, date_in, date_by, days_after_1899, date_on, is_day, limited_date}
+use Rattle.determination_dates.specs.Dates.{year_from, month_from, is_civil, where_true, date_in, date_by, days_after_1899, date_on, is_day, limited_date}
 
 -- ---- years
 

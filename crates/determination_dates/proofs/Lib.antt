@@ -6,7 +6,6 @@ pub mod Walk
 pub mod Issues
 pub mod Texts
 pub mod Limits
-pub mod Closing
 pub mod Making
 pub mod DateFacts
 pub mod OpenDays

@@ -17,7 +17,8 @@ use Rattle.determination_dates.specs.Days.{IsDay, IsLimited}
 use Rattle.determination_dates.specs.Closed.{is_closed}
 use Rattle.determination_dates.specs.Deadlines.{IsDeadline}
 use Rattle.determination_dates.specs.Determinations.{fresh, ordinary_day, IsIssued}
-use Rattle.determination_dates.proofs.Closing.{deadline}
+use Rattle.determination_dates.specs.Computed.{deadline_day}
+use Rattle.determination_dates.proofs.OpenDays.{deadline_is}
 
 -- every date but the last has a next one
 next_date : (d : Date) → epoch_day d <ℤ pos 2_932_896 → (e : Date) × (epoch_day e ≡ epoch_day d +ℤ pos 1)
@@ -91,16 +92,17 @@ pub record_made : (issued : Date) (d : Decision) (t : Bool) (closed : List Date)
 record_made issued d false closed i h =
     (fresh issued d None issued, record { on = refl; as_decided = refl; deadline = tt; ordinary = refl; pending = refl; affirmed = refl; set_expiry = refl; extensions = refl })
 record_made issued d true closed i h =
-    let l = deadline closed (epoch_day issued) in
-    let s = soon closed (epoch_day issued) l.0 h i l.1 in
-    let a = date_at issued l.0 (omega (arith, signed_arith, l.1.later)) (omega (arith, signed_arith, s)) in
-    let b = ordinary_bounds (epoch_day issued) l.0 l.1.later s i in
-    let o = date_at issued (ordinary_day (epoch_day issued) (Some l.0)) b.0 (omega (arith, signed_arith, b.1)) in (
+    let last = deadline_day closed (epoch_day issued) in
+    let l = deadline_is closed (epoch_day issued) in
+    let s = soon closed (epoch_day issued) last h i l in
+    let a = date_at issued last (omega (arith, signed_arith, l.later)) (omega (arith, signed_arith, s)) in
+    let b = ordinary_bounds (epoch_day issued) last l.later s i in
+    let o = date_at issued (ordinary_day (epoch_day issued) (Some last)) b.0 (omega (arith, signed_arith, b.1)) in (
       fresh issued d (Some a.0) o.0,
       record {
         on = refl;
         as_decided = refl;
-        deadline = rw a.1 l.1;
+        deadline = rw a.1 l;
         ordinary = rw a.1 o.1;
         pending = refl;
         affirmed = refl;

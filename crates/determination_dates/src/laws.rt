@@ -7,6 +7,7 @@ ghost use Rattle.jiff_core.specs.Date.{epoch_day};
 ghost use Rattle.jiff_core.specs.declared.civil.date.Date.{Date as Plain};
 ghost use Rattle.determination_dates.specs.Days.{IsLimited};
 ghost use Rattle.determination_dates.specs.Closed.{is_closed, with_day};
+ghost use Rattle.determination_dates.specs.Computed.{deadline_day};
 ghost use Rattle.determination_dates.specs.Deadlines.{IsDeadline};
 ghost use Rattle.determination_dates.specs.Determinations.{IsIssued};
 ghost use Rattle.determination_dates.specs.Text.{date_text};
@@ -26,9 +27,9 @@ pub fn closed_with()
         is_closed (with_day d closed) z ≡ (int_eq z (epoch_day d) || is_closed closed z) }
 {}
 
-/// Whatever days are closed, there is one deadline.
+/// Whatever days are closed, there is one deadline, and it is the day that the definition computes.
 pub fn one_deadline()
-    ensures some { (closed : List Plain) (issued : ℤ) → (z : ℤ) × IsDeadline closed issued z }
+    ensures found { (closed : List Plain) (issued : ℤ) → IsDeadline closed issued (deadline_day closed issued) }
     ensures one { (closed : List Plain) (issued z w : ℤ) → IsDeadline closed issued z → IsDeadline closed issued w → z ≡ w }
 {}
 

@@ -1,4 +1,4 @@
-use Rattle.std.proofs.Common.{arith, sym, Some, IfSome, option_map, ◌≡◌}
+use Rattle.std.proofs.Common.{arith, sym, Some, option_map, ◌≡◌}
 use Rattle.jiff_core.proofs.SignedLemmas.{signed_arith}
 use Rattle.determination_dates.proofs.EffectFacts.{effective_near}
 use Rattle.std.proofs.lemmas.Grind.{common_steps}
