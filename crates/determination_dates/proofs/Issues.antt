@@ -1,6 +1,7 @@
 -- What is made at issuance is determined by what it is made of.
-use Rattle.std.proofs.Common.{◌≡◌, refl, sym, subst, ap, ◌∙◌, arith, Bool, true, false, Option, Some, None, List, ℤ}
+use Rattle.std.proofs.Common.{◌≡◌, refl, sym, subst, ap, ◌∙◌, arith, Bool, true, false, Option, Some, None, List, ℤ, ◌<ℤ◌}
 use Rattle.std.specs.Option.{option_map}
+use Rattle.std.proofs.lemmas.Int.{ints}
 use Rattle.jiff_core.specs.declared.civil.date.Date.{Date}
 use Rattle.jiff_core.specs.Date.{epoch_day}
 use Rattle.jiff_core.proofs.SignedLemmas.{signed_arith}
@@ -66,3 +67,7 @@ some_same y z e = ap (λ o. value_or o z) e
 -- an extension goes to one day
 pub extension_same : (r : Record) (k : ℤ) (e e' : Date) → expiry_day r ≡ Some (epoch_day e) → expiry_day r ≡ Some (epoch_day e') → add_months e k ≡ add_months e' k
 extension_same r k e e' h g = months_same e e' k (some_same _ _ (sym h ∙ g))
+
+-- the ordinary effective day is after the deadline
+pub effective_after : (issued deadline : ℤ) → deadline <ℤ ordinary_day issued (Some deadline)
+effective_after issued deadline = grind (arith, ints, signed_arith)

@@ -1,6 +1,6 @@
 //! Laws that say what the definitions of this crate amount to.
 
-ghost use Rattle.std.specs.Prelude.{◌≡◌, ◌↔◌, ◌||◌, Bool, List, ℤ, pos, ◌≤ℤ◌};
+ghost use Rattle.std.specs.Prelude.{◌≡◌, ◌↔◌, ◌||◌, Bool, List, Some, ℤ, pos, ◌≤ℤ◌, ◌<ℤ◌};
 ghost use Rattle.std.specs.List.{All};
 ghost use Rattle.std.specs.Ordering.{int_eq};
 ghost use Rattle.jiff_core.specs.Date.{epoch_day};
@@ -9,7 +9,7 @@ ghost use Rattle.determination_dates.specs.Days.{IsLimited};
 ghost use Rattle.determination_dates.specs.Closed.{is_closed, with_day};
 ghost use Rattle.determination_dates.specs.Computed.{deadline_day};
 ghost use Rattle.determination_dates.specs.Deadlines.{IsDeadline};
-ghost use Rattle.determination_dates.specs.Determinations.{IsIssued};
+ghost use Rattle.determination_dates.specs.Determinations.{IsIssued, ordinary_day};
 ghost use Rattle.determination_dates.specs.Text.{date_text};
 ghost use Rattle.determination_dates.specs.declared.determination.Decision.{Decision};
 ghost use Rattle.determination_dates.specs.declared.determination.Record.{Record};
@@ -31,6 +31,12 @@ pub fn closed_with()
 pub fn one_deadline()
     ensures found { (closed : List Plain) (issued : ℤ) → IsDeadline closed issued (deadline_day closed issued) }
     ensures one { (closed : List Plain) (issued z w : ℤ) → IsDeadline closed issued z → IsDeadline closed issued w → z ≡ w }
+{}
+
+/// A determination that may be petitioned becomes effective after the last day for a petition, so none is effective while one may
+/// still come.
+pub fn effective_after_deadline()
+    ensures { (issued deadline : ℤ) → deadline <ℤ ordinary_day issued (Some deadline) }
 {}
 
 /// Dates within the limit that have the same text are the same.

@@ -25,8 +25,8 @@ pub use determination::{Decision, EFFECTIVE_DAYS, EXTENSION_MONTHS, MOST_EXTENSI
 pub use effects::{EXTENSION_DAYS, PERIOD_MONTHS, effective, expiry, last_extension_day};
 pub use evidence::{EVIDENCE_MONTHS, is_filed_in_time};
 pub use laws::{
-    closed_with, limit_by_years, one_date, one_deadline, one_record, some_limited_record,
-    some_record,
+    closed_with, effective_after_deadline, limit_by_years, one_date, one_deadline, one_record,
+    some_limited_record, some_record,
 };
 pub use life::{End, Life, Status};
 pub use limit::{DateRange, FIRST_DAY, LAST_DAY, is_limited};

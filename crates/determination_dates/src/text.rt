@@ -1,8 +1,6 @@
 //! Dates as text, `YYYY-MM-DD`.
 
-ghost use Rattle.std.specs.Prelude.{◌≡◌, ◌≢◌, ◌<◌, ◌≤◌, ◌+◌, ◌/◌, ◌%◌, ℕ, ℤ, length, IfSome, IfNone, pos};
-ghost use Rattle.jiff_core.specs.Calendar.{IsDate};
-ghost use Rattle.jiff_core.specs.Date.{IsYmd};
+ghost use Rattle.std.specs.Prelude.{◌≡◌, ◌≢◌, ◌<◌, ◌/◌, ℕ, IfSome, IfNone, pos};
 ghost use Rattle.jiff_core.specs.declared.civil.date.Date.{Date as Plain};
 ghost use Rattle.determination_dates.specs.Days.{IsLimited};
 ghost use Rattle.determination_dates.specs.Text.{date_text, last_digit, year_of, ymd_text};
