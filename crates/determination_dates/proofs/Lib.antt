@@ -1,0 +1,12 @@
+pub mod ClosedFacts
+pub mod Years
+pub mod Notices
+pub mod EffectFacts
+pub mod Walk
+pub mod Issues
+pub mod Texts
+pub mod Limits
+pub mod Making
+pub mod DateFacts
+pub mod OpenDays
+pub mod ComputedFacts

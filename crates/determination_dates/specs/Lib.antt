@@ -1,0 +1,10 @@
+pub mod Days
+pub mod Closed
+pub mod Deadlines
+pub mod Notices
+pub mod Effects
+pub mod Determinations
+pub mod Statuses
+pub mod Text
+pub mod Dates
+pub mod Computed

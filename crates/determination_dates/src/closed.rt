@@ -1,0 +1,85 @@
+//! Days on which the Federal government is closed.
+
+ghost use Rattle.std.specs.Prelude.{◌≡◌, ◌↔◌, [], OnOk, OnErr, IsTrue};
+ghost use Rattle.std.specs.List.{All};
+ghost use Rattle.std.specs.List.Sorted.{IsStrictlySortedBy};
+ghost use Rattle.jiff_core.specs.Date.{epoch_day};
+ghost use Rattle.determination_dates.specs.Days.{IsLimited};
+ghost use Rattle.determination_dates.specs.Closed.{date_cmp, is_closed, with_day, IsOpen};
+
+use grid_exact::NoMemory;
+use jiff::civil::Date;
+use std::alloc::Global;
+use std::collections::BTreeSet;
+use std::marker::Model;
+
+/// The days, beside Saturdays and Sundays, on which the government is closed (77.39(c)): a set of dates, seen as their list in
+/// rising order.
+#[derive(Drop)]
+pub struct ClosedDays {
+    days: BTreeSet<Date>,
+}
+
+impl Model for ClosedDays {
+    ghost use Rattle.std.specs.Prelude.{List};
+    ghost use Rattle.jiff_core.specs.declared.civil.date.Date.{Date as Plain};
+    ghost use Rattle.determination_dates.specs.Closed.{AreClosedDays};
+
+    ghost Value = { List Plain };
+
+    ghost view = { λ c. c.days.keys };
+
+    ghost invariant = { λ c. AreClosedDays c.days.keys };
+}
+
+impl ClosedDays {
+    /// No dates. It takes no memory.
+    pub fn empty(alloc: Global) -> ClosedDays
+        ensures { result ≡ [] }
+    {
+        ClosedDays {
+            days: BTreeSet::new(alloc),
+        }
+    }
+
+    /// Whether the date is one of these.
+    pub fn has(&self, d: Date) -> bool
+        ensures { result ≡ is_closed self.now (epoch_day d) }
+    {
+        self.days.contains(&d)
+    }
+
+    /// Adds the date; where it is there, nothing changes.
+    ///
+    /// # Errors
+    ///
+    /// `NoMemory` where memory was refused; the set is as it was.
+    pub fn with(&mut self, d: Date) -> Result<(), NoMemory>
+        requires { IsLimited d }
+        ensures added { OnOk result (self.new ≡ with_day d self.old) }
+        ensures same { OnErr result (self.new ≡ self.old) }
+    {
+        match self.days.insert(d) {
+            Ok(_) => Ok(()),
+            Err(_) => Err(NoMemory),
+        }
+    }
+
+    /// Shows to a proof that the dates stand in rising order and are within the limit.
+    pub fn order(&self)
+        ensures rising { IsStrictlySortedBy date_cmp self.now }
+        ensures limited { All IsLimited self.now }
+    {
+        let _ = &self.days;
+    }
+
+    /// Whether the government is open on that day: it is no Saturday, no Sunday and none of these.
+    pub(crate) fn is_open(&self, d: Date) -> bool
+        ensures { IsTrue result ↔ IsOpen self.now (epoch_day d) }
+    {
+        if d.to_plain().weekday().index() >= 5 {
+            return false;
+        }
+        !self.has(d)
+    }
+}

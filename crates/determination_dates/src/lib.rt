@@ -1,0 +1,39 @@
+//! The date rules of 14 CFR Part 77: whether a notice is in time (77.7), the last day for a petition (77.39), the effective day and
+//! the expiry of a determination (77.33), its extensions (77.35), and the status of a case that follows from them.
+//!
+//! Dates are those of `jiff`, from 1900-01-01 to 2999-12-31. Contracts speak of a date by its day number, where 1970-01-01 is 0.
+#![tactic(auto)]
+
+mod closed;
+mod days;
+mod deadline;
+mod determination;
+mod effects;
+mod evidence;
+mod laws;
+mod life;
+mod limit;
+mod notice;
+mod standing;
+mod text;
+mod timely;
+
+pub use closed::ClosedDays;
+pub use days::months_later;
+pub use deadline::{PETITION_DAYS, petition_deadline};
+pub use determination::{Decision, EFFECTIVE_DAYS, EXTENSION_MONTHS, MOST_EXTENSIONS, Record};
+pub use effects::{EXTENSION_DAYS, PERIOD_MONTHS, effective, expiry, last_extension_day};
+pub use evidence::{EVIDENCE_MONTHS, is_filed_in_time};
+pub use laws::{
+    closed_with, effective_after_deadline, limit_by_years, one_date, one_deadline, one_record,
+    some_limited_record, some_record,
+};
+pub use life::{End, Life, Status};
+pub use limit::{DateRange, FIRST_DAY, LAST_DAY, is_limited};
+pub use notice::{FORM_DAYS, NOTICE_DAYS, fcc_late, timeliness};
+pub use standing::status;
+pub use text::{date_bytes, read_date};
+pub use timely::Timeliness;
+
+#[cfg(test)]
+mod tests;
