@@ -1,0 +1,10 @@
+pub mod Sides
+pub mod Picks
+pub mod Boxes
+pub mod Visits
+pub mod Edits
+pub mod Holdings
+pub mod Owned
+pub mod Order
+pub mod Wholes
+pub mod Even

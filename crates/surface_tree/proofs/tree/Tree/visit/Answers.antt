@@ -1,0 +1,59 @@
+use Rattle.std.proofs.Common.{◌+◌, ◌≤◌, ◌++◌, arith, subst, List, count_by}
+use Rattle.std.specs.List.{filter}
+use Rattle.std.specs.List.Sorted.{IsPermutation}
+use Rattle.grid_exact.specs.Area.{has_point}
+use Rattle.surface_tree.specs.Squares.{IsIn}
+use Rattle.surface_tree.specs.Index.{listed}
+use Rattle.surface_tree.specs.Visits.{all_hits, close_area, near_area}
+use Rattle.surface_tree.specs.Parts.{Holds}
+use Rattle.surface_tree.proofs.Wholes.{order_whole, seen_whole, looks_whole, close_count, whole_in}
+use Rattle.surface_tree.proofs.tree.Tree.visit.Goals as goal
+
+pub returns-clause-order : goal.returns-clause-order
+returns-clause-order g c =
+    λ u xs s.
+    let x = c.args.x.now in
+    let w = c.whole.result in
+    let e = c.whole.ensures in
+    let v = listed c.self.inside.by_key in
+    let i : IsIn w.level w.west w.south x = rw (e.level, e.west, e.south) (whole_in x) in
+    let h : Holds g.T.Placed.area_of v w.level w.west w.south c.self.inside.root = rw (e.level, e.west, e.south) c.self.invariant.holds in
+    let P : List g.row.T.Denot → Type 0 = λ zs. g.W.Visitor.seen u c.visit_part.new.visitor (xs ++ all_hits g.T.Placed.area_of x zs) in
+    subst P c.self.view_is (order_whole g.T.Placed.area_of x (g.W.Visitor.seen u c.visit_part.new.visitor) w.level v xs e.level (c.visit_part.ensures.seen v i h u xs s))
+
+pub returns-clause-seen : goal.returns-clause-seen
+returns-clause-seen g c =
+    λ u xs s.
+    let x = c.args.x.now in
+    let w = c.whole.result in
+    let e = c.whole.ensures in
+    let v = listed c.self.inside.by_key in
+    let i : IsIn w.level w.west w.south x = rw (e.level, e.west, e.south) (whole_in x) in
+    let h : Holds g.T.Placed.area_of v w.level w.west w.south c.self.inside.root = rw (e.level, e.west, e.south) c.self.invariant.holds in
+    let P : List g.row.T.Denot → Type 0 = λ zs. (ys : List g.row.T.Denot) × IsPermutation (filter (λ i. has_point (g.T.Placed.area_of i) x) zs) ys × g.W.Visitor.seen u c.visit_part.new.visitor (xs ++ ys) in
+    subst P c.self.view_is (seen_whole g.T.Placed.area_of x (g.W.Visitor.seen u c.visit_part.new.visitor) w.level v xs e.level (c.visit_part.ensures.seen v i h u xs s))
+
+pub returns-clause-close : goal.returns-clause-close
+returns-clause-close g c =
+    let x = c.args.x.now in
+    let w = c.whole.result in
+    let e = c.whole.ensures in
+    let v = listed c.self.inside.by_key in
+    let i : IsIn w.level w.west w.south x = rw (e.level, e.west, e.south) (whole_in x) in
+    let h : Holds g.T.Placed.area_of v w.level w.west w.south c.self.inside.root = rw (e.level, e.west, e.south) c.self.invariant.holds in
+    let a = c.visit_part.ensures.cost v i h in
+    let b = looks_whole g.T.Placed.area_of x w.level v e.level in
+    subst (λ zs. c.visit_part.new.steps ≤ c.args.steps.now + 15 + count_by (λ i. close_area x (g.T.Placed.area_of i)) zs) c.self.view_is (omega (arith, a, b, e.level))
+
+pub returns-clause-cost : goal.returns-clause-cost
+returns-clause-cost g c =
+    let x = c.args.x.now in
+    let w = c.whole.result in
+    let e = c.whole.ensures in
+    let v = listed c.self.inside.by_key in
+    let i : IsIn w.level w.west w.south x = rw (e.level, e.west, e.south) (whole_in x) in
+    let h : Holds g.T.Placed.area_of v w.level w.west w.south c.self.inside.root = rw (e.level, e.west, e.south) c.self.invariant.holds in
+    let a = c.visit_part.ensures.cost v i h in
+    let b = looks_whole g.T.Placed.area_of x w.level v e.level in
+    let n = close_count g.T.Placed.area_of x v c.self.invariant.placed in
+    subst (λ zs. c.visit_part.new.steps ≤ c.args.steps.now + 15 + count_by (λ i. near_area x (g.T.Placed.area_of i)) zs) c.self.view_is (omega (arith, a, b, n, e.level))

@@ -1,0 +1,7 @@
+pub mod Levels
+pub mod Squares
+pub mod Visits
+pub mod Parts
+pub mod Changes
+pub mod Index
+pub mod Trees

@@ -1,0 +1,38 @@
+-- The squares that quarter the plane.
+use Rattle.std.specs.Prelude.{◌≡◌, ℕ, ◌+◌, ◌≤◌, ℤ, pos, neg_ℤ, ◌+ℤ◌, ◌≤ℤ◌, ◌<ℤ◌, int_le, int_lt, nat_eq, nat_lt, Bool, ◌&&◌}
+use Rattle.grid_exact.specs.declared.area.Area.{Area}
+use Rattle.grid_exact.specs.declared.point.Point.{Point}
+use Rattle.surface_tree.specs.declared.square.TheConstants.{PLANE_LIMIT, TOP_LEVEL}
+use Rattle.surface_tree.specs.Levels.{side_of, cell_level}
+
+-- a square of the tree: its south-west corner, its side and its level
+pub record IsSquare (west south side : ℤ) (level : ℕ) : Type 0 where
+  pub not_deep : level ≤ TOP_LEVEL
+  pub side_is : side ≡ pos (side_of level)
+  pub west_in : neg_ℤ PLANE_LIMIT ≤ℤ west
+  pub south_in : neg_ℤ PLANE_LIMIT ≤ℤ south
+  pub east_in : (west +ℤ side) ≤ℤ PLANE_LIMIT
+  pub north_in : (south +ℤ side) ≤ℤ PLANE_LIMIT
+
+-- the closed interval from one end to the other meets the side from low on, which has its low end and not its high one
+abbrev pub meets : ℤ → ℕ → ℤ → ℤ → Bool
+meets low side from to = int_lt from (low +ℤ pos side) && int_le low to
+
+-- the box meets the square of this level with this south-west corner
+abbrev pub overlaps : ℕ → ℤ → ℤ → Area → Bool
+overlaps level west south area = meets west (side_of level) area.x0 area.x1 && meets south (side_of level) area.y0 area.y1
+
+-- the square holds the box itself
+abbrev pub in_cell : ℕ → ℤ → ℤ → Area → Bool
+in_cell level west south area = nat_eq (cell_level area) level && overlaps level west south area
+
+-- the square or a part of it holds the box
+abbrev pub in_reach : ℕ → ℤ → ℤ → Area → Bool
+in_reach level west south area = nat_lt (cell_level area) (level + 1) && overlaps level west south area
+
+-- the point lies in the square
+pub record IsIn (level : ℕ) (west south : ℤ) (point : Point) : Type 0 where
+  pub not_west : west ≤ℤ point.x
+  pub not_east : point.x <ℤ (west +ℤ pos (side_of level))
+  pub not_south : south ≤ℤ point.y
+  pub not_north : point.y <ℤ (south +ℤ pos (side_of level))

@@ -1,0 +1,54 @@
+-- Which items a visit of a point gives, and how many it looks at.
+use Rattle.std.specs.Prelude.{ℕ, zero, suc, ◌+◌, ℤ, pos, ◌+ℤ◌, int_le, int_lt, nat_eq, nat_lt, Bool, ◌&&◌, List, ◌++◌, count_by}
+use Rattle.std.specs.List.{filter}
+use Rattle.grid_exact.specs.Area.{has_point}
+use Rattle.grid_exact.specs.declared.area.Area.{Area}
+use Rattle.grid_exact.specs.declared.point.Point.{Point}
+use Rattle.surface_tree.specs.declared.square.Square.{Square}
+use Rattle.surface_tree.specs.declared.square.TheConstants.{TOP_LEVEL}
+use Rattle.surface_tree.specs.Levels.{side_of, level_of, cell_level}
+use Rattle.surface_tree.specs.Squares.{IsIn}
+
+-- the point lies in a square that the code has
+abbrev pub HasPoint : Square → Point → Type 0
+HasPoint square p = IsIn square.level square.west square.south p
+
+-- the visitor has seen these items more, after all that it had seen since any start
+abbrev pub SeesMore : {V T : Type 0} → (V → V → List T → Type 0) → V → V → List T → Type 0
+SeesMore {V} {T} seen old new ys = (start : V) (xs : List T) → seen start old xs → seen start new (xs ++ ys)
+
+-- the middle of an interval lies within one and a half sides of a coordinate
+abbrev pub near_middle : ℕ → ℤ → ℤ → ℤ → Bool
+near_middle side from to x =
+    int_le (from +ℤ to) (x +ℤ x +ℤ pos side +ℤ pos side +ℤ pos side) && int_le (x +ℤ x) (from +ℤ to +ℤ pos side +ℤ pos side +ℤ pos side)
+
+-- the box's center lies within one and a half times the side of its size of the point, in each coordinate; that side is the least
+-- power of two from 2^12 to 2^26 that is at least the box's larger extent
+abbrev pub near_area : Point → Area → Bool
+near_area p a = near_middle (side_of (level_of a)) a.x0 a.x1 p.x && near_middle (side_of (level_of a)) a.y0 a.y1 p.y
+
+-- the coordinate lies in the interval, or less than a side from it
+abbrev pub close_side : ℕ → ℤ → ℤ → ℤ → Bool
+close_side side from to x = int_lt from (x +ℤ pos side) && int_lt x (to +ℤ pos side)
+
+-- in each coordinate the point lies in the box, or less than the side of the squares that hold it from it
+abbrev pub close_area : Point → Area → Bool
+close_area p a = close_side (side_of (cell_level a)) a.x0 a.x1 p.x && close_side (side_of (cell_level a)) a.y0 a.y1 p.y
+
+-- the box has the point, and squares of this level hold it
+abbrev pub hit_at : Point → ℕ → Area → Bool
+hit_at p level a = nat_eq (cell_level a) level && has_point a p
+
+-- the items that squares of this level or smaller ones hold and whose boxes have the point: those of the largest squares first, and
+-- those of one size of squares in the order of the items
+abbrev pub hits : {T : Type 0} → (T → Area) → Point → ℕ → List T → List T
+hits area p zero items = filter (λ i. hit_at p zero (area i)) items
+hits area p (suc level) items = filter (λ i. hit_at p (suc level) (area i)) items ++ hits area p level items
+
+-- the items whose boxes have the point, in the order of a visit
+unfoldable pub all_hits : {T : Type 0} → (T → Area) → Point → List T → List T
+all_hits area p items = hits area p TOP_LEVEL items
+
+-- how many items squares of this level or smaller ones hold, and are close to the point
+abbrev pub looks : {T : Type 0} → (T → Area) → Point → ℕ → List T → ℕ
+looks area p level items = count_by (λ i. nat_lt (cell_level (area i)) (level + 1) && close_area p (area i)) items

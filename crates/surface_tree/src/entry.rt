@@ -1,0 +1,84 @@
+//! An item as a square holds it.
+
+ghost use Rattle.std.specs.Prelude.{◌≡◌, IfOk, OnOk, length, map};
+ghost use Rattle.std.specs.List.Sorted.{IsBinarySearchResult, IsSearchInRange};
+ghost use Rattle.ordered_list.specs.Ordered.{Rises, put_by, removed_by};
+ghost use Rattle.surface_tree.specs.Parts.{content_of, item_of};
+
+use crate::bounds::Bounds;
+use crate::placed::Placed;
+use grid_exact::NoMemory;
+use std::alloc::Global;
+use std::sync::Arc;
+
+/// An item beside its area, so that a visit need not go to the item to see whether it is hit.
+#[derive(Drop)]
+pub(crate) struct Entry<T: Drop> {
+    pub(crate) bounds: Bounds,
+    pub(crate) item: Arc<T>,
+}
+
+/// The same entry, shared.
+fn shared_entry<T: Drop>(entry: &Entry<T>) -> Result<Entry<T>, NoMemory>
+    ensures { IfOk result (λ e. content_of e ≡ content_of entry.now) }
+{
+    let item = Arc::try_clone(&entry.item)?;
+    Ok(Entry {
+        bounds: entry.bounds,
+        item,
+    })
+}
+
+/// The same entries, shared, with room for so many. Room that is asked for at once saves a third of the time.
+pub(crate) fn shared_entries<T: Drop>(
+    alloc: Global,
+    entries: &[Entry<T>],
+    room: usize,
+) -> Result<Vec<Entry<T>>, NoMemory>
+    ensures { IfOk result (λ v. map content_of v.items ≡ map content_of entries.now) }
+{
+    let mut all = Vec::with_capacity(alloc, room)?;
+    for entry in entries {
+        all.push(shared_entry(entry)?)?;
+    }
+    Ok(all)
+}
+
+/// Where the entry under this key stands, or where it would stand.
+fn place<T: Placed + Drop>(entries: &[Entry<T>], key: T::Key) -> Result<usize, usize>
+    ensures within { IsSearchInRange result (length entries.now) }
+    ensures found { IsBinarySearchResult (λ e. T.Key.cmp (T.key_of (item_of e)) key) entries.now result }
+{
+    entries.binary_search_by_key(&key, |entry| entry.item.key())
+}
+
+/// Puts the entry in its place, instead of the one under its key.
+pub(crate) fn put_entry<T: Placed + Drop>(
+    entries: &mut Vec<Entry<T>>,
+    entry: Entry<T>,
+) -> Result<(), NoMemory>
+    ensures { OnOk result (Rises T.Key.cmp (λ e. T.key_of (item_of e)) entries.old.items → entries.new.items ≡ put_by T.Key.cmp (λ e. T.key_of (item_of e)) entry entries.old.items) }
+{
+    match place(entries, entry.item.key()) {
+        Ok(i) => {
+            entries[i] = entry;
+            Ok(())
+        }
+        Err(i) => {
+            entries.insert(i, entry)?;
+            Ok(())
+        }
+    }
+}
+
+/// Takes the entry under the key out.
+pub(crate) fn take_entry<T: Placed + Drop>(entries: &mut Vec<Entry<T>>, key: T::Key)
+    ensures { Rises T.Key.cmp (λ e. T.key_of (item_of e)) entries.old.items → entries.new.items ≡ removed_by T.Key.cmp (λ e. T.key_of (item_of e)) key entries.old.items }
+{
+    match place(entries, key) {
+        Ok(i) => {
+            entries.remove(i);
+        }
+        Err(_) => {}
+    }
+}

@@ -1,0 +1,191 @@
+//! The tree as its callers see it.
+
+ghost use Rattle.std.specs.Prelude.{◌≡◌, ◌+◌, ◌≤◌, ◌↔◌, ◌++◌, [], List, count_by, IfOk, IsTrue, option_map, option_copied, Some};
+ghost use Rattle.std.specs.Arc.{arc_value};
+ghost use Rattle.std.specs.List.{filter};
+ghost use Rattle.std.specs.List.Sorted.{IsPermutation};
+ghost use Rattle.grid_exact.specs.Area.{has_point};
+ghost use Rattle.ordered_list.specs.Ordered.{put_by, removed_by};
+ghost use Rattle.surface_tree.specs.Levels.{IsPlaced};
+ghost use Rattle.surface_tree.specs.Changes.{Follows, IsFound};
+ghost use Rattle.surface_tree.specs.Parts.{RootHolds};
+ghost use Rattle.surface_tree.specs.Visits.{all_hits, close_area, near_area};
+ghost use Rattle.surface_tree.specs.declared.square.TheConstants.{TOP_LEVEL};
+
+use crate::change::changed_part;
+use crate::edit::Edit;
+use crate::index::{Branch, find, insert, remove, shared_branch};
+use crate::part::{Part, shared_part};
+use crate::placed::Placed;
+use crate::square::Square;
+use crate::visit::visit_part;
+use crate::visitor::Visitor;
+use grid_exact::{Area, NoMemory, Point, Steps};
+use std::alloc::Global;
+use std::marker::Model;
+use std::sync::Arc;
+use std::sync::ledger::Ledger;
+
+/// Items under their keys, which are found by the points of their areas. Seen as the list of the items, in rising order of their keys.
+#[derive(Drop)]
+pub struct Tree<T: Placed + Drop> {
+    root: Part<T>,
+    by_key: Branch<T>,
+}
+
+impl<T: Placed + Drop> Model for Tree<T> {
+    ghost use Rattle.std.specs.Prelude.{List};
+    ghost use Rattle.surface_tree.specs.Index.{listed};
+    ghost use Rattle.surface_tree.specs.Trees.{IsTree};
+
+    ghost Value = { List T };
+
+    ghost view = { λ t. listed t.by_key };
+
+    ghost invariant = { λ t. IsTree T.Key.cmp T.key_of T.area_of t.root (listed t.by_key) };
+}
+
+/// All squares after a change.
+fn changed_root<T: Placed + Drop>(
+    alloc: Global,
+    root: &Part<T>,
+    edit: &Edit<T>,
+) -> Result<Part<T>, NoMemory>
+    ensures { IfOk result (λ q. Follows T.Key.cmp T.key_of T.area_of edit.now.key edit.now.area (option_map arc_value edit.now.item) (λ xs. RootHolds T.area_of xs root.now) (λ xs. RootHolds T.area_of xs q)) }
+{
+    changed_part(alloc, root, &Square::whole(), edit)
+}
+
+/// The squares without the item that was found under a key.
+fn cleared_root<T: Placed + Drop>(
+    alloc: Global,
+    root: &Part<T>,
+    key: T::Key,
+    old: Option<&Arc<T>>,
+) -> Result<Part<T>, NoMemory>
+    requires placed { (i : T) → option_map arc_value (option_copied old) ≡ Some i → IsPlaced (T.area_of i) }
+    ensures { IfOk result (λ q. (items : List T) → IsFound T.Key.cmp T.key_of key (option_map arc_value (option_copied old.entry)) items → RootHolds T.area_of items root.now → RootHolds T.area_of (removed_by T.Key.cmp T.key_of key items) q) }
+{
+    match old {
+        None => shared_part(root),
+        Some(old) => changed_root(alloc, root, &Edit::take(key, old)),
+    }
+}
+
+/// Whether the item has this area.
+fn has_area<T: Placed>(item: &T, area: &Area) -> bool
+    ensures { IsTrue result ↔ (T.area_of item.now ≡ area.now) }
+{
+    item.area() == *area
+}
+
+/// Whether no item was found under a key, or one with this area.
+fn stays_there<T: Placed + Drop>(old: Option<&Arc<T>>, area: &Area) -> bool
+    ensures { IsTrue result ↔ ((i : T) → option_map arc_value (option_copied old.entry) ≡ Some i → T.area_of i ≡ area.now) }
+{
+    match old {
+        None => true,
+        Some(old) => has_area::<T>(old, area),
+    }
+}
+
+/// The squares with the item instead of the one that was found under its key. Where that one has the same area, each square that
+/// holds it is copied once; else the squares are cleared of it first.
+fn replaced_root<T: Placed + Drop>(
+    alloc: Global,
+    root: &Part<T>,
+    old: Option<&Arc<T>>,
+    item: Arc<T>,
+) -> Result<Part<T>, NoMemory>
+    requires found { (i : T) → option_map arc_value (option_copied old) ≡ Some i → IsPlaced (T.area_of i) }
+    requires placed { IsPlaced (T.area_of (arc_value item)) }
+    ensures { IfOk result (λ q. (items : List T) → IsFound T.Key.cmp T.key_of (T.key_of (arc_value item)) (option_map arc_value (option_copied old.entry)) items → RootHolds T.area_of items root.now → RootHolds T.area_of (put_by T.Key.cmp T.key_of (arc_value item) items) q) }
+{
+    let edit = Edit::put(item);
+    if stays_there(old, &edit.area) {
+        return changed_root(alloc, root, &edit);
+    }
+    let root = cleared_root(alloc, root, edit.key, old)?;
+    changed_root(alloc, &root, &edit)
+}
+
+impl<T: Placed + Drop> Tree<T> {
+    /// No items. It takes no memory.
+    pub fn empty(_alloc: Global) -> Tree<T>
+        ensures { result ≡ [] }
+    {
+        Tree {
+            root: Part::Bare,
+            by_key: Branch::Leaf,
+        }
+    }
+
+    /// The tree with the item in its place, instead of the one under its key. This tree stays as it is.
+    ///
+    /// The area of the item has its ends in order, and coordinates from `-PLANE_LIMIT` to below `PLANE_LIMIT`.
+    ///
+    /// # Errors
+    ///
+    /// `NoMemory` where memory was refused.
+    pub fn with(&self, alloc: Global, item: Arc<T>) -> Result<Tree<T>, NoMemory>
+        requires { IsPlaced (T.area_of (arc_value item)) }
+        ensures { IfOk result (λ t. t ≡ put_by T.Key.cmp T.key_of (arc_value item) self.now) }
+    {
+        let by_key = insert(alloc, &self.by_key, Arc::try_clone(&item)?)?;
+        let old = find(&self.by_key, item.key());
+        let root = replaced_root(alloc, &self.root, old, item)?;
+        Ok(Tree { root, by_key })
+    }
+
+    /// The tree without the item under the key. This tree stays as it is.
+    ///
+    /// # Errors
+    ///
+    /// `NoMemory` where memory was refused.
+    pub fn without_key(&self, alloc: Global, key: T::Key) -> Result<Tree<T>, NoMemory>
+        ensures { IfOk result (λ t. t ≡ removed_by T.Key.cmp T.key_of key self.now) }
+    {
+        let root = cleared_root(alloc, &self.root, key, find(&self.by_key, key))?;
+        let by_key = remove(alloc, &self.by_key, key)?;
+        Ok(Tree { root, by_key })
+    }
+
+    /// The tree without the item under the key of this one. This tree stays as it is.
+    ///
+    /// # Errors
+    ///
+    /// `NoMemory` where memory was refused.
+    pub fn without(&self, alloc: Global, item: &T) -> Result<Tree<T>, NoMemory>
+        ensures { IfOk result (λ t. t ≡ removed_by T.Key.cmp T.key_of (T.key_of item.now) self.now) }
+    {
+        self.without_key(alloc, item.key())
+    }
+
+    /// An equal tree, which shares its nodes with this one.
+    ///
+    /// # Errors
+    ///
+    /// `NoMemory` where memory was refused.
+    pub fn share(&self) -> Result<Tree<T>, NoMemory>
+        ensures { IfOk result (λ t. t ≡ self.now) }
+    {
+        let root = shared_part(&self.root)?;
+        let by_key = shared_branch(&self.by_key)?;
+        Ok(Tree { root, by_key })
+    }
+
+    /// Gives the visitor each item whose area has the point, once, and no other. It takes no memory.
+    ///
+    /// The items come in the order of their keys where squares of one size hold them all, as they do areas with an extent above
+    /// 65,536 and none above 2,097,152 tenths of a foot. Otherwise those of larger squares come first.
+    ///
+    /// A step is counted for each square, of which there is at most one of each level, and for each item that is looked at.
+    pub fn visit<L: Ledger, W: Visitor<T>>(&self, x: &Point, visitor: &mut W, steps: &mut Steps<L>)
+        ensures order { (start : W) (xs : List T) → W.seen start visitor.old xs → W.seen start visitor.new (xs ++ all_hits T.area_of x.now self.now) }
+        ensures seen { (start : W) (xs : List T) → W.seen start visitor.old xs → (ys : List T) × IsPermutation (filter (λ i. has_point (T.area_of i) x.now) self.now) ys × W.seen start visitor.new (xs ++ ys) }
+        ensures close { steps.new ≤ steps.old + (TOP_LEVEL + 1) + count_by (λ i. close_area x.now (T.area_of i)) self.now }
+        ensures cost { steps.new ≤ steps.old + (TOP_LEVEL + 1) + count_by (λ i. near_area x.now (T.area_of i)) self.now }
+    {
+        visit_part(&self.root, &Square::whole(), x, visitor, steps);
+    }
+}

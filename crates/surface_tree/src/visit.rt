@@ -1,0 +1,143 @@
+//! A visit of the squares over a point.
+
+ghost use Rattle.std.specs.Prelude.{◌≡◌, ◌+◌, ◌≤◌, ◌++◌, ◌<◌, List, length, map, take, slice_index_or};
+ghost use Rattle.std.specs.List.{filter, All};
+ghost use Rattle.grid_exact.specs.Area.{has_point};
+ghost use Rattle.surface_tree.specs.declared.entry.Entry.{Entry};
+ghost use Rattle.surface_tree.specs.declared.visit.TheConstants.{BLOCK};
+ghost use Rattle.surface_tree.specs.Parts.{CellHolds, PartHolds, box_of, item_of};
+ghost use Rattle.surface_tree.specs.Visits.{HasPoint, SeesMore, hits, looks};
+
+use crate::entry::Entry;
+use crate::part::{Cell, Part};
+use crate::placed::Placed;
+use crate::square::Square;
+use crate::visitor::Visitor;
+use grid_exact::{Point, Steps};
+use std::sync::ledger::Ledger;
+
+/// How many entries are looked at before items are given; their places fit into bytes.
+pub(crate) const BLOCK: usize = 256;
+
+/// Writes the places of the entries whose areas have the point into `picks`, and tells how many there are.
+///
+/// It takes no branch: each place is written, and the count moves on past those that are hits. About a third of the entries are, so
+/// that a branch would often be guessed wrong, and a visit took twice as long with one.
+fn pick<T: Drop, L: Ledger>(
+    entries: &[Entry<T>],
+    x: &Point,
+    picks: &mut [u8; BLOCK],
+    steps: &mut Steps<L>,
+) -> usize
+    requires short { length entries.now ≤ BLOCK }
+    ensures few { result ≤ length entries.now }
+    ensures within { All (λ i. i < length entries.now) (take result picks.new) }
+    ensures picked { (d : Entry T) → map (λ i. slice_index_or entries.now i d) (take result picks.new) ≡ filter (λ e. has_point (box_of e.bounds) x.now) entries.now }
+    ensures cost { steps.new ≡ steps.old + length entries.now }
+{
+    let mut count = 0;
+    for i in 0..entries.len() {
+        steps.tick();
+        picks[count] = i as u8;
+        count += usize::from(entries[i].bounds.has(x));
+    }
+    count
+}
+
+/// Gives the visitor the items at these places.
+fn hand_out<T: Placed + Drop, W: Visitor<T>>(entries: &[Entry<T>], picks: &[u8], visitor: &mut W)
+    requires within { All (λ i. i < length entries.now) picks.now }
+    ensures seen { (d : Entry T) → SeesMore W.seen visitor.old visitor.new (map (λ i. item_of (slice_index_or entries.now i d)) picks.now) }
+{
+    for pick in picks {
+        visitor.item(&entries[*pick as usize].item);
+    }
+}
+
+/// Gives the visitor those of a few items whose areas have the point.
+fn visit_block<T: Placed + Drop, L: Ledger, W: Visitor<T>>(
+    entries: &[Entry<T>],
+    x: &Point,
+    visitor: &mut W,
+    steps: &mut Steps<L>,
+)
+    requires short { length entries.now ≤ BLOCK }
+    requires some { 0 < length entries.now }
+    ensures seen { SeesMore W.seen visitor.old visitor.new (map item_of (filter (λ e. has_point (box_of e.bounds) x.now) entries.now)) }
+    ensures cost { steps.new ≡ steps.old + length entries.now }
+{
+    let mut picks = [0; BLOCK];
+    let count = pick(entries, x, &mut picks, steps);
+    hand_out(entries, &picks[..count], visitor);
+}
+
+/// Gives the visitor those of the items whose areas have the point.
+#[cycle(entries)]
+fn visit_entries<T: Placed + Drop, L: Ledger, W: Visitor<T>>(
+    entries: &[Entry<T>],
+    x: &Point,
+    visitor: &mut W,
+    steps: &mut Steps<L>,
+)
+    ensures seen { SeesMore W.seen visitor.old visitor.new (map item_of (filter (λ e. has_point (box_of e.bounds) x.now) entries.now)) }
+    ensures cost { steps.new ≡ steps.old + length entries.now }
+{
+    if entries.is_empty() {
+        return;
+    }
+    if entries.len() <= BLOCK {
+        visit_block(entries, x, visitor, steps);
+        return;
+    }
+    let (first, rest) = entries.split_at(BLOCK);
+    visit_block(first, x, visitor, steps);
+    visit_entries(rest, x, visitor, steps);
+}
+
+/// Gives the visitor those items of the square and its parts whose areas have the point: those of the square first, then those of the
+/// quarter over the point.
+#[cycle(visit)]
+pub(crate) fn visit_part<T: Placed + Drop, L: Ledger, W: Visitor<T>>(
+    part: &Part<T>,
+    square: &Square,
+    x: &Point,
+    visitor: &mut W,
+    steps: &mut Steps<L>,
+)
+    ensures seen { (items : List T) → HasPoint square.now x.now → PartHolds T.area_of items square.now part.now → SeesMore W.seen visitor.old visitor.new (hits T.area_of x.now square.now.level items) }
+    ensures cost { (items : List T) → HasPoint square.now x.now → PartHolds T.area_of items square.now part.now → steps.new ≤ steps.old + (square.now.level + 1) + looks T.area_of x.now square.now.level items }
+{
+    match part {
+        Part::Bare => {}
+        Part::Cell(cell) => visit_cell(cell, square, x, visitor, steps),
+    }
+}
+
+#[cycle(visit)]
+fn visit_cell<T: Placed + Drop, L: Ledger, W: Visitor<T>>(
+    cell: &Cell<T>,
+    square: &Square,
+    x: &Point,
+    visitor: &mut W,
+    steps: &mut Steps<L>,
+)
+    ensures seen { (items : List T) → HasPoint square.now x.now → CellHolds T.area_of items square.now cell.now → SeesMore W.seen visitor.old visitor.new (hits T.area_of x.now square.now.level items) }
+    ensures cost { (items : List T) → HasPoint square.now x.now → CellHolds T.area_of items square.now cell.now → steps.new ≤ steps.old + (square.now.level + 1) + looks T.area_of x.now square.now.level items }
+{
+    steps.tick();
+    visit_entries(&cell.entries, x, visitor, steps);
+    if square.level == 0 {
+        return;
+    }
+    if square.is_north(x) {
+        if square.is_east(x) {
+            visit_part(&cell.north_east, &square.north_east(), x, visitor, steps);
+        } else {
+            visit_part(&cell.north_west, &square.north_west(), x, visitor, steps);
+        }
+    } else if square.is_east(x) {
+        visit_part(&cell.south_east, &square.south_east(), x, visitor, steps);
+    } else {
+        visit_part(&cell.south_west, &square.south_west(), x, visitor, steps);
+    }
+}
