@@ -255,49 +255,39 @@ fn edges(rt: HostRuntime) -> Result<(), Fail> {
 fn paved(alloc: Global) -> Result<Hull, Fail> {
     let mut runway = large(b"A", (-50_000, 0), (50_000, 0))?;
     runway.hard = true;
-    hull(alloc, Category::PublicUse, &[runway])
+    let runways = [runway];
+    hull(alloc, Category::PublicUse, runways.as_slice())
+}
+
+/// A box by its sides in the west, south, east and north.
+fn sides(x0: i64, y0: i64, x1: i64, y1: i64) -> Area {
+    Area { x0, y0, x1, y1 }
 }
 
 #[test]
 fn boxes(rt: HostRuntime) -> Result<(), Fail> {
     let slanted = slanted(rt.alloc(), Category::PublicUse)?;
     let paved = paved(rt.alloc())?;
-    let bare = bare(rt.alloc())?;
-    assert_eq!(rt;
-        paved.areas(),
-        Some(HullAreas {
-            horizontal: Area {
-                x0: -152_000,
-                y0: -100_000,
-                x1: 152_000,
-                y1: 100_000
-            },
-            conical: Area {
-                x0: -192_000,
-                y0: -140_000,
-                x1: 192_000,
-                y1: 140_000
-            },
-        })
-    );
-    assert_eq!(rt;
-        slanted.areas(),
-        Some(HullAreas {
-            horizontal: Area {
-                x0: -50_000,
-                y0: -100_000,
-                x1: 231_000,
-                y1: 100_000
-            },
-            conical: Area {
-                x0: -90_000,
-                y0: -140_000,
-                x1: 271_000,
-                y1: 140_000
-            },
-        })
-    );
-    assert_eq!(rt; bare.areas(), None);
+    for (hull, horizontal, conical) in [
+        (
+            &paved,
+            sides(-152_000, -100_000, 152_000, 100_000),
+            sides(-192_000, -140_000, 192_000, 140_000),
+        ),
+        (
+            &slanted,
+            sides(-50_000, -100_000, 231_000, 100_000),
+            sides(-90_000, -140_000, 271_000, 140_000),
+        ),
+    ] {
+        assert_eq!(rt;
+            hull.areas(),
+            Some(HullAreas {
+                horizontal,
+                conical
+            })
+        );
+    }
     Ok(())
 }
 
