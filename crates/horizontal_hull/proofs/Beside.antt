@@ -1,13 +1,12 @@
 -- A point beside both discs of a capsule is not in it.
-use Rattle.std.proofs.Common.{◌≡◌, ◌⊎◌, inl, inr, Bool, true, false, ℕ, ◌+◌, ◌≤◌, ℤ, pos, ◌+ℤ◌, ◌-ℤ◌, ◌≤ℤ◌, ◌<ℤ◌, neg_ℤ, arith, refl, sym}
-use Rattle.std.specs.Prelude.{MatchBool, nat_le}
+use Rattle.std.proofs.Common.{◌≡◌, ◌⊎◌, inl, inr, false, ℕ, ◌+◌, ℤ, pos, ◌+ℤ◌, ◌-ℤ◌, ◌≤ℤ◌, ◌<ℤ◌, neg_ℤ, arith, sym}
 use Rattle.std.proofs.lemmas.Int.{ints}
 use Rattle.grid_exact.specs.declared.point.Point.{Point}
 use Rattle.center_polygon.proofs.SomeFacts.{false_test}
 use Rattle.horizontal_hull.specs.declared.edge.Edge.{Edge}
 use Rattle.horizontal_hull.specs.declared.edge.Edge.TheVariants.{Closed, Open}
 use Rattle.horizontal_hull.specs.Arcs.{ArcShape}
-use Rattle.horizontal_hull.specs.Capsules.{InCapsule, InTapered, in_capsule}
+use Rattle.horizontal_hull.specs.Capsules.{InCapsule, in_capsule}
 use Rattle.horizontal_hull.specs.Close.{IsBeside}
 use Rattle.horizontal_hull.proofs.Bounds.{InGrown, capsule_in_grown}
 use Rattle.horizontal_hull.proofs.Grows.{InCapsule_closes}

@@ -1,5 +1,5 @@
 -- The least box that holds some discs, and points in the boxes of an airport's surfaces.
-use Rattle.std.proofs.Common.{◌≡◌, ◌↔◌, inl, inr, Bool, true, false, IsTrue, ℕ, ◌+◌, ◌<◌, ◌≤◌, ℤ, pos, ◌+ℤ◌, ◌-ℤ◌, ◌≤ℤ◌, unsigned_abs, List, [], length, take, get_or, arith, subst, sym}
+use Rattle.std.proofs.Common.{◌≡◌, ◌↔◌, inl, inr, Bool, true, false, IsTrue, ℕ, ◌+◌, ◌<◌, ◌≤◌, pos, ◌+ℤ◌, ◌-ℤ◌, List, [], length, take, get_or, arith, subst, sym}
 use Rattle.std.specs.List.{All}
 use Rattle.std.proofs.lemmas.Int.{ints}
 use Rattle.std.proofs.lemmas.List.Elements.{All-more, All-weaker}
@@ -10,7 +10,7 @@ use Rattle.center_polygon.specs.Triangles.{InSomeTriangle}
 use Rattle.outline_boxes.specs.Boxes.{Encloses, HoldsBoth, IsLeastBox}
 use Rattle.horizontal_hull.specs.declared.areas.HullAreas.{HullAreas}
 use Rattle.horizontal_hull.specs.declared.edge.Edge.{Edge}
-use Rattle.horizontal_hull.specs.declared.sizes.TheConstants.{ARC_MOST, BOX_REACH, CENTER_REACH, CONICAL_RUN}
+use Rattle.horizontal_hull.specs.declared.sizes.TheConstants.{BOX_REACH, CONICAL_RUN}
 use Rattle.horizontal_hull.specs.Arcs.{ArcShape}
 use Rattle.horizontal_hull.specs.Areas.{AreHullAreas, HoldsDiscs, disc_box}
 use Rattle.horizontal_hull.specs.Close.{AreClose, IsNearReference}

@@ -1,5 +1,5 @@
 -- Nothing is within outside a box that holds the discs.
-use Rattle.std.proofs.Common.{◌≡◌, ◌≢◌, ◌⊎◌, inl, inr, Bool, true, false, List, ◌∷◌, ℕ, ◌+◌, ◌<◌, ◌≤◌, ℤ, pos, ◌+ℤ◌, ◌-ℤ◌, ◌≤ℤ◌, arith, refl}
+use Rattle.std.proofs.Common.{◌≢◌, inl, inr, List, ℕ, ◌+◌, ◌≤◌, arith, refl}
 use Rattle.std.specs.List.{All}
 use Rattle.std.proofs.lemmas.Int.{ints}
 use Rattle.std.proofs.lemmas.List.Elements.{All-map, All-weaker}
@@ -17,7 +17,7 @@ use Rattle.horizontal_hull.specs.declared.edge.Edge.TheVariants.{Closed, Open}
 use Rattle.horizontal_hull.specs.declared.sizes.TheConstants.{CONICAL_RUN}
 use Rattle.horizontal_hull.specs.Arcs.{ArcShape, Dome, spot_of}
 use Rattle.horizontal_hull.specs.Areas.{AreHullAreas, CoverHull, HoldsDiscs, disc_box}
-use Rattle.horizontal_hull.specs.Capsules.{InCapsule, InTapered}
+use Rattle.horizontal_hull.specs.Capsules.{InCapsule}
 use Rattle.horizontal_hull.specs.Within.{IsCap, Within}
 use Rattle.horizontal_hull.proofs.Bounds.{InGrown, capsule_in_grown}
 use Rattle.horizontal_hull.proofs.Grows.{Within_closes, Within_grows}

@@ -1,5 +1,5 @@
 -- The least rise at which a point is in some capsule.
-use Rattle.std.proofs.Common.{◌≡◌, ◌⊎◌, inl, inr, ◌||◌, Bool, true, false, List, [], ◌∷◌, length, take, drop, get_or, ℕ, zero, suc, ◌+◌, ◌*◌, ◌<◌, ◌≤◌, arith, refl, sym, ◌∙◌, ap, subst, drop-cons}
+use Rattle.std.proofs.Common.{◌≡◌, ◌⊎◌, inl, inr, ◌||◌, Bool, true, false, List, [], ◌∷◌, length, take, drop, get_or, ℕ, zero, suc, ◌+◌, ◌*◌, ◌<◌, ◌≤◌, arith, refl, sym, ◌∙◌, subst, drop-cons}
 use Rattle.std.specs.List.{list_any}
 use Rattle.std.proofs.lemmas.Bool.{cases_lt}
 use Rattle.std.proofs.lemmas.List.Folds.{list_any_kept, list_any_more}
@@ -8,7 +8,6 @@ use Rattle.center_polygon.specs.Somes.{some_two}
 use Rattle.horizontal_hull.specs.declared.edge.Edge.TheVariants.{Closed}
 use Rattle.horizontal_hull.specs.declared.sizes.TheConstants.{CONICAL_RISE, CONICAL_RUN, CONICAL_SLOPE}
 use Rattle.horizontal_hull.specs.Arcs.{ArcShape}
-use Rattle.horizontal_hull.specs.Capsules.{in_capsule}
 use Rattle.horizontal_hull.specs.Rises.{IsLeastRise, IsRise, in_risen}
 use Rattle.horizontal_hull.specs.Within.{Within}
 use Rattle.horizontal_hull.proofs.Grows.{InCapsule_grows}

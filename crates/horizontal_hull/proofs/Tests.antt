@@ -1,10 +1,10 @@
 -- The tests of the specifications decide what they say.
-use Rattle.std.proofs.Common.{◌↔◌, ◌&&◌, ◌||◌, if◌then◌else◌, Bool, true, false, List, ℕ, ◌+◌, ◌*◌, ◌≤◌, ◌<◌, ℤ, pos, neg_ℤ, ◌-ℤ◌, ◌≤ℤ◌, ◌<ℤ◌, arith}
-use Rattle.std.specs.Prelude.{IsTrue, nat_le, nat_lt, int_le, int_lt, MatchBool}
+use Rattle.std.proofs.Common.{◌↔◌, ◌&&◌, ◌||◌, if◌then◌else◌, Bool, true, false, List, ℕ, ◌+◌, ◌*◌, ◌≤◌, ◌<◌, ℤ, pos, neg_ℤ, ◌-ℤ◌, arith}
+use Rattle.std.specs.Prelude.{IsTrue, nat_le, nat_lt, MatchBool}
 use Rattle.grid_exact.specs.declared.point.Point.{Point}
 use Rattle.grid_exact.specs.Root.{AtMostRoot}
 use Rattle.grid_exact.specs.Excess.{is_at_most_root}
-use Rattle.grid_exact.proofs.TestFacts.{above_in, above_out, all_true, at_least_in, at_least_out, at_most_in, at_most_out, first_true, le_in, le_out, lt_in, lt_out, second_true, third_true}
+use Rattle.grid_exact.proofs.TestFacts.{above_in, above_out, all_true, at_least_in, at_least_out, at_most_in, at_most_out, first_true, second_true, third_true}
 use Rattle.center_polygon.specs.Somes.{some_two}
 use Rattle.center_polygon.specs.Triangles.{in_some_triangle}
 use Rattle.center_polygon.proofs.Deciding.{InSomeTriangle-test}

@@ -1,5 +1,5 @@
 -- What is within, by its two parts, and where one of them has no point.
-use Rattle.std.proofs.Common.{◌≡◌, ◌↔◌, ℕ, ◌≤◌, List, Bool, true, false, ◌||◌, IsTrue, refl, sym, ◌∙◌}
+use Rattle.std.proofs.Common.{◌≡◌, ◌↔◌, ℕ, List, Bool, true, false, ◌||◌, IsTrue, refl, sym, ◌∙◌}
 use Rattle.grid_exact.specs.declared.point.Point.{Point}
 use Rattle.center_polygon.specs.Somes.{some_two}
 use Rattle.center_polygon.specs.Triangles.{in_some_triangle}

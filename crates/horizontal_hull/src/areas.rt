@@ -3,10 +3,11 @@
 ghost use Rattle.std.specs.Prelude.{◌≡◌, ◌<◌, ◌≤◌, [], length};
 ghost use Rattle.std.specs.Option.{MatchOption};
 ghost use Rattle.outline_boxes.specs.Boxes.{IsLeastBox};
+ghost use Rattle.horizontal_hull.specs.Areas.{AreHullAreas, HoldsDiscs, disc_box as disc_box_of};
 
 use crate::arc::Arc;
 use crate::sizes::CONICAL_RUN;
-use grid_exact::{Area, Point};
+use grid_exact::Area;
 use outline_boxes::joined;
 
 /// The least boxes of the horizontal and the conical surface of an airport, 77.19(a) and (b): each holds the discs about the centers of all
@@ -16,8 +17,6 @@ pub struct HullAreas {
     pub horizontal: Area,
     pub conical: Area,
 }
-
-ghost use Rattle.horizontal_hull.specs.Areas.{AreHullAreas, HoldsDiscs, disc_box as disc_box_of};
 
 /// The box of the disc about an arc's center, its radius raised by `c`.
 fn disc_box(arc: &Arc, c: u32) -> Area

@@ -159,82 +159,130 @@ fn greatest(alloc: Global) -> Result<Hull, Fail> {
     hull(alloc, Category::PublicUse, runways.as_slice())
 }
 
-#[test]
-fn answers(rt: HostRuntime) -> Result<(), Fail> {
-    let military = slanted(rt.alloc(), Category::Dod)?;
-    let bare = bare(rt.alloc())?;
-    let slanted = slanted(rt.alloc(), Category::PublicUse)?;
-    let apart = apart(rt.alloc())?;
-    let inside = inside(rt.alloc())?;
-    let greatest = greatest(rt.alloc())?;
-    for (hull, x, y, top, expected) in [
-        (&slanted, 50_000, 75_000, 1500, under_horizontal(None)),
-        (&slanted, 50_000, 75_000, 1501, under_horizontal(Some(1))),
-        (&slanted, 50_000, 75_001, 1500, under_conical(None, 1501)),
-        (&slanted, 50_000, 75_001, 1501, under_conical(Some(0), 1501)),
-        (
-            &slanted,
-            50_000,
-            -75_001,
-            1502,
-            under_conical(Some(1), 1501),
-        ),
-        (
-            &slanted,
-            50_000,
-            118_333,
-            3500,
-            under_conical(Some(0), 3500),
-        ),
-        (&slanted, 50_000, 118_334, 9000, BEYOND),
-        (&slanted, -50_020, 0, 1501, under_conical(None, 1501)),
-        (&slanted, -50_021, 0, 1502, under_conical(Some(0), 1502)),
-        (&slanted, -90_000, 0, 3500, under_conical(None, 3500)),
-        (&slanted, -90_000, 0, 3501, under_conical(Some(1), 3500)),
-        (&slanted, -90_001, 0, 9000, BEYOND),
-        (&apart, 130_000, 130_000, 1501, under_horizontal(Some(1))),
-        (&apart, 235_856, 235_856, 1501, under_conical(Some(0), 1501)),
-        (&inside, 30_000, 100_000, 1501, under_horizontal(Some(1))),
-        (&inside, 30_000, 100_001, 1501, under_conical(Some(0), 1501)),
-        (&inside, -170_000, 0, 1501, BEYOND),
-        (&greatest, 70_710, -70_710, 1501, under_horizontal(Some(1))),
-        (
-            &greatest,
-            70_711,
-            -70_711,
-            1501,
-            under_conical(Some(0), 1501),
-        ),
-        (&greatest, 98_994, -98_994, 1501, under_conical(None, 3500)),
-        (&greatest, 98_995, -98_995, 1501, BEYOND),
-        (&greatest, 540_000, 400_000, 1501, under_conical(None, 3500)),
-        (&greatest, 540_001, 400_000, 1501, BEYOND),
-        (&military, 50_000, 75_000, 1501, BEYOND),
-        (&military, 50_000, 75_001, 1501, BEYOND),
-        (&bare, 0, 0, 9000, BEYOND),
-    ] {
-        assert_eq!(rt; ask(hull, x, y, top)?, expected, "at {x}, {y}");
+/// A point, a top there, and what is said of it.
+#[derive(Clone, Copy, PartialEq, Eq, Debug)]
+struct Row {
+    x: i64,
+    y: i64,
+    top: i16,
+    expected: Answer,
+}
+
+fn asked(x: i64, y: i64, top: i16, expected: Answer) -> Row {
+    Row {
+        x,
+        y,
+        top,
+        expected,
     }
+}
+
+/// The first row that is answered otherwise.
+fn first_wrong(hull: &Hull, rows: &[Row]) -> Result<Option<Row>, Fail> {
+    for row in rows {
+        if ask(hull, row.x, row.y, row.top)? != row.expected {
+            return Ok(Some(*row));
+        }
+    }
+    Ok(None)
+}
+
+// One hull a test: of several at once the proof that they are let go at each early end grows out of hand.
+
+#[test]
+fn slanted_answers(rt: HostRuntime) -> Result<(), Fail> {
+    let hull = slanted(rt.alloc(), Category::PublicUse)?;
+    let rows = [
+        asked(50_000, 75_000, 1500, under_horizontal(None)),
+        asked(50_000, 75_000, 1501, under_horizontal(Some(1))),
+        asked(50_000, 75_001, 1500, under_conical(None, 1501)),
+        asked(50_000, 75_001, 1501, under_conical(Some(0), 1501)),
+        asked(50_000, -75_001, 1502, under_conical(Some(1), 1501)),
+        asked(50_000, 118_333, 3500, under_conical(Some(0), 3500)),
+        asked(50_000, 118_334, 9000, BEYOND),
+        asked(-50_020, 0, 1501, under_conical(None, 1501)),
+        asked(-50_021, 0, 1502, under_conical(Some(0), 1502)),
+        asked(-90_000, 0, 3500, under_conical(None, 3500)),
+        asked(-90_000, 0, 3501, under_conical(Some(1), 3500)),
+        asked(-90_001, 0, 9000, BEYOND),
+    ];
+    assert_eq!(rt; first_wrong(&hull, &rows)?, None);
+    Ok(())
+}
+
+#[test]
+fn apart_answers(rt: HostRuntime) -> Result<(), Fail> {
+    let hull = apart(rt.alloc())?;
+    let rows = [
+        asked(130_000, 130_000, 1501, under_horizontal(Some(1))),
+        asked(235_856, 235_856, 1501, under_conical(Some(0), 1501)),
+    ];
+    assert_eq!(rt; first_wrong(&hull, &rows)?, None);
+    Ok(())
+}
+
+#[test]
+fn inside_answers(rt: HostRuntime) -> Result<(), Fail> {
+    let hull = inside(rt.alloc())?;
+    let rows = [
+        asked(30_000, 100_000, 1501, under_horizontal(Some(1))),
+        asked(30_000, 100_001, 1501, under_conical(Some(0), 1501)),
+        asked(-170_000, 0, 1501, BEYOND),
+    ];
+    assert_eq!(rt; first_wrong(&hull, &rows)?, None);
+    Ok(())
+}
+
+#[test]
+fn greatest_answers(rt: HostRuntime) -> Result<(), Fail> {
+    let hull = greatest(rt.alloc())?;
+    let rows = [
+        asked(70_710, -70_710, 1501, under_horizontal(Some(1))),
+        asked(70_711, -70_711, 1501, under_conical(Some(0), 1501)),
+        asked(98_994, -98_994, 1501, under_conical(None, 3500)),
+        asked(98_995, -98_995, 1501, BEYOND),
+        asked(540_000, 400_000, 1501, under_conical(None, 3500)),
+        asked(540_001, 400_000, 1501, BEYOND),
+    ];
+    assert_eq!(rt; first_wrong(&hull, &rows)?, None);
+    Ok(())
+}
+
+#[test]
+fn military_answers(rt: HostRuntime) -> Result<(), Fail> {
+    let hull = slanted(rt.alloc(), Category::Dod)?;
+    let rows = [
+        asked(50_000, 75_000, 1501, BEYOND),
+        asked(50_000, 75_001, 1501, BEYOND),
+    ];
+    assert_eq!(rt; first_wrong(&hull, &rows)?, None);
+    assert_eq!(rt; hull.areas(), None);
+    Ok(())
+}
+
+#[test]
+fn bare_answers(rt: HostRuntime) -> Result<(), Fail> {
+    let hull = bare(rt.alloc())?;
+    assert_eq!(rt; first_wrong(&hull, &[asked(0, 0, 9000, BEYOND)])?, None);
+    assert!(rt; !hull.within(&Point::new(0, 0)?, out(40_000)));
     Ok(())
 }
 
 /// On both tangents, on both arcs, and on the outer edge.
 #[test]
 fn edges(rt: HostRuntime) -> Result<(), Fail> {
-    let slanted = slanted(rt.alloc(), Category::PublicUse)?;
-    let bare = bare(rt.alloc())?;
-    for (hull, x, y, c, within, strictly) in [
-        (&slanted, 50_000, 75_000, 0, true, false),
-        (&slanted, 50_000, 75_000, 1, true, true),
-        (&slanted, 50_000, -75_000, 0, true, false),
-        (&slanted, 50_000, -75_000, 1, true, true),
-        (&slanted, -50_000, 0, 0, true, false),
-        (&slanted, -50_000, 0, 1, true, true),
-        (&slanted, 231_000, 0, 0, true, false),
-        (&slanted, 231_000, 0, 1, true, true),
-        (&slanted, 271_000, 0, 40_000, true, false),
-        (&slanted, 271_000, 0, 39_999, false, false),
-        (&bare, 0, 0, 40_000, false, false),
+    let hull = slanted(rt.alloc(), Category::PublicUse)?;
+    for (x, y, c, within, strictly) in [
+        (50_000, 75_000, 0, true, false),
+        (50_000, 75_000, 1, true, true),
+        (50_000, -75_000, 0, true, false),
+        (50_000, -75_000, 1, true, true),
+        (-50_000, 0, 0, true, false),
+        (-50_000, 0, 1, true, true),
+        (231_000, 0, 0, true, false),
+        (231_000, 0, 1, true, true),
+        (271_000, 0, 40_000, true, false),
+        (271_000, 0, 39_999, false, false),
     ] {
         let point = Point::new(x, y)?;
         assert_eq!(rt; hull.within(&point, out(c)), within, "at {x}, {y}, {c}");
@@ -245,7 +293,7 @@ fn edges(rt: HostRuntime) -> Result<(), Fail> {
         );
     }
     assert_eq!(rt;
-        slanted.standing(&Point::new(271_000, 0)?),
+        hull.standing(&Point::new(271_000, 0)?),
         Standing::Conical(3500)
     );
     Ok(())
@@ -255,49 +303,25 @@ fn edges(rt: HostRuntime) -> Result<(), Fail> {
 fn paved(alloc: Global) -> Result<Hull, Fail> {
     let mut runway = large(b"A", (-50_000, 0), (50_000, 0))?;
     runway.hard = true;
-    hull(alloc, Category::PublicUse, &[runway])
+    let runways = [runway];
+    hull(alloc, Category::PublicUse, runways.as_slice())
+}
+
+/// A box by its sides in the west, south, east and north.
+fn sides(x0: i64, y0: i64, x1: i64, y1: i64) -> Area {
+    Area { x0, y0, x1, y1 }
 }
 
 #[test]
 fn boxes(rt: HostRuntime) -> Result<(), Fail> {
-    let slanted = slanted(rt.alloc(), Category::PublicUse)?;
-    let paved = paved(rt.alloc())?;
-    let bare = bare(rt.alloc())?;
-    assert_eq!(rt;
-        paved.areas(),
-        Some(HullAreas {
-            horizontal: Area {
-                x0: -152_000,
-                y0: -100_000,
-                x1: 152_000,
-                y1: 100_000
-            },
-            conical: Area {
-                x0: -192_000,
-                y0: -140_000,
-                x1: 192_000,
-                y1: 140_000
-            },
-        })
-    );
-    assert_eq!(rt;
-        slanted.areas(),
-        Some(HullAreas {
-            horizontal: Area {
-                x0: -50_000,
-                y0: -100_000,
-                x1: 231_000,
-                y1: 100_000
-            },
-            conical: Area {
-                x0: -90_000,
-                y0: -140_000,
-                x1: 271_000,
-                y1: 140_000
-            },
-        })
-    );
-    assert_eq!(rt; bare.areas(), None);
+    let hull = paved(rt.alloc())?;
+    let horizontal = sides(-152_000, -100_000, 152_000, 100_000);
+    let conical = sides(-192_000, -140_000, 192_000, 140_000);
+    let areas = HullAreas {
+        horizontal,
+        conical,
+    };
+    assert_eq!(rt; hull.areas(), Some(areas));
     Ok(())
 }
 

@@ -1,6 +1,5 @@
-use Rattle.std.proofs.Common.{◌≡◌, ◌≤◌, ℕ, ℤ, pos, ◌+◌, ◌+ℤ◌, ◌-ℤ◌, refl, ap, ◌∙◌, FitsSigned, w64, to_z-of_z, arith}
+use Rattle.std.proofs.Common.{◌≡◌, ℕ, ℤ, pos, ◌+◌, ◌+ℤ◌, ◌-ℤ◌, refl, ap, ◌∙◌, FitsSigned, w64, to_z-of_z, arith}
 use Rattle.std.proofs.lemmas.Int.{ints}
-use Rattle.grid_exact.specs.declared.area.Area.{Area}
 use Rattle.center_polygon.specs.Spots.{Spot}
 use Rattle.horizontal_hull.specs.Arcs.{ArcShape}
 use Rattle.horizontal_hull.specs.Areas.{disc_box}

@@ -1,6 +1,4 @@
-use Rattle.std.proofs.Common.{◌≡◌, take, subst, sym}
 use Rattle.std.proofs.lemmas.List.{take_all}
-use Rattle.horizontal_hull.specs.Arcs.{ArcShape}
 use Rattle.horizontal_hull.proofs.LeastBoxes.{least_with_next}
 use Rattle.horizontal_hull.proofs.areas.least_box.Goals as goal
 

@@ -1,4 +1,4 @@
-use Rattle.std.proofs.Common.{◌≡◌, ◌≢◌, ◌∙◌, false, ℕ, ◌-◌, ◌<◌, ◌≤◌, arith, sym}
+use Rattle.std.proofs.Common.{◌≡◌, ◌∙◌, false, ℕ, ◌-◌, arith, sym}
 use Rattle.grid_exact.specs.declared.point.Point.{Point}
 use Rattle.horizontal_hull.specs.Arcs.{ArcShape}
 use Rattle.horizontal_hull.specs.Rises.{IsLeastRise, in_risen}

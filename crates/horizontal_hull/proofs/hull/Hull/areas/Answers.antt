@@ -1,4 +1,4 @@
-use Rattle.std.proofs.Common.{◌≡◌, Option, Some, None, [], ap, subst}
+use Rattle.std.proofs.Common.{◌≡◌, Option, Some, None, [], subst}
 use Rattle.std.specs.Prelude.{IfSome}
 use Rattle.std.specs.Option.{MatchOption}
 use Rattle.horizontal_hull.specs.declared.areas.HullAreas.{HullAreas}

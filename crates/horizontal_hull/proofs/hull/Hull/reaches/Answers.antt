@@ -1,5 +1,5 @@
-use Rattle.std.proofs.Common.{◌≡◌, Bool, false, List, [], ◌↔◌, IsTrue, ap, subst}
-use Rattle.horizontal_hull.specs.Arcs.{ArcShape, Dome}
+use Rattle.std.proofs.Common.{false, subst}
+use Rattle.horizontal_hull.specs.Arcs.{Dome}
 use Rattle.horizontal_hull.proofs.LeastBoxes.{IsAsked, asked_inner, asked_nothing, asked_outer}
 use Rattle.horizontal_hull.proofs.hull.Hull.reaches.Goals as goal
 use Rattle.horizontal_hull.proofs.hull.Hull.reaches.Goals.{After-has, After-has-in-Some-2, In-None}

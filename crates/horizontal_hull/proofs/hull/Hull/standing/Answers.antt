@@ -1,4 +1,4 @@
-use Rattle.std.proofs.Common.{ℕ, ◌*◌, ◌≤◌, ◌^◌, unsigned_abs, arith, FitsSigned, w64, to_z-of_z}
+use Rattle.std.proofs.Common.{ℕ, ◌*◌, ◌≤◌, arith, FitsSigned, w64, to_z-of_z}
 use Rattle.std.proofs.lemmas.Int.{ints}
 use Rattle.grid_exact.specs.declared.point.Point.{Point}
 use Rattle.grid_exact.proofs.Booleans.{not_from_false}
