@@ -1,3 +1,2 @@
 pub mod HeightFacts
 pub mod NearFacts
-pub mod AreaFacts

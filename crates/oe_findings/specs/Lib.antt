@@ -1,2 +1,4 @@
 pub mod List
-pub mod Screenings
+pub mod Verdicts
+pub mod PreparedAirports
+pub mod Prepared

@@ -7,4 +7,3 @@ pub mod Slopes
 pub mod Surfaces
 pub mod Notices
 pub mod Areas
-pub mod NoticeAreas

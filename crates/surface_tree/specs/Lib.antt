@@ -3,4 +3,5 @@ pub mod Squares
 pub mod Visits
 pub mod Parts
 pub mod Changes
+pub mod Index
 pub mod Trees

@@ -1,6 +1,0 @@
-pub mod Entries
-pub mod Verdicts
-pub mod Reaches
-pub mod PreparedAirports
-pub mod Surfaces
-pub mod Prepared
