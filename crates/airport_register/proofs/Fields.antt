@@ -1,6 +1,5 @@
 -- Registers after an airfield is put or taken out, and the airfields that are found in one.
-use Rattle.std.proofs.Common.{◌≡◌, ℕ, ◌<◌, ◌≤◌, List, [], ◌∷◌, Some, None, length, zero, suc, arith}
-use Rattle.std.specs.List.{All, slice_get}
+use Rattle.std.proofs.Common.{◌≡◌, ℕ, ◌<◌, ◌≤◌, List, Option, Some, None, length, arith, sym, option_copied, IfSome, Bor}
 use Rattle.std.proofs.lemmas.Cmp.{nat_list_cmp_total}
 use Rattle.ordered_list.specs.Ordered.{put_by, removed_by}
 use Rattle.ordered_list.proofs.Rising.{Rises-put, All-put, Rises-removed, All-removed, found_holds, length-put_room, length-removed}
@@ -29,11 +28,10 @@ register_removed k xs ys r e =
       held = All-removed name_cmp nat_list_cmp_total id_of IsHeld k xs r.held;
     })
 
--- an airfield that is found, or stands at a place, is as the register holds it
+-- an airfield that is found is as the register holds it
 pub found_held : (k : List ℕ) (v : Airfield) (xs : List Airfield) → IsRegister xs → airfield_at xs k ≡ Some v → IsHeld v
 found_held k v xs r e = found_holds name_cmp nat_list_cmp_total id_of IsHeld k v xs r.held e
 
-pub nth_held : (xs : List Airfield) (i : ℕ) (v : Airfield) → All IsHeld xs → slice_get xs i ≡ Some v → IsHeld v
-nth_held [] i v h e = absurd cc
-nth_held (x ∷ xs) zero v h e = let s : x ≡ v = cc in rw s at (h 0 x (omega arith))
-nth_held (x ∷ xs) (suc i) v h e = nth_held xs i v (λ j d l. h (suc j) d (omega arith)) e
+pub found_held_in : (k : List ℕ) (xs : List Airfield) (found : Option (Bor Airfield)) → IsRegister xs → option_copied found ≡ airfield_at xs k → IfSome found (λ v. IsHeld v.now)
+found_held_in k xs None r e = tt
+found_held_in k xs (Some v) r e = found_held k v.now xs r (sym e)

@@ -111,7 +111,7 @@ impl Register {
         }
         match self.amended(alloc, a)? {
             Some(field) => Ok(self.put(alloc, field)?),
-            None => Ok(self.remove(a.id())),
+            None => Ok(self.remove(alloc, a.id())?),
         }
     }
 }

@@ -12,7 +12,7 @@ ghost use Rattle.airport_register.specs.Changes.{IsChange};
 use crate::amendment::Changed;
 use airfields::{Airfield, FieldId};
 use grid_exact::NoMemory;
-use ordered_list::OrderedList;
+use ordered_tree::{OrderedTree, OwnKey};
 use std::alloc::Global;
 use std::marker::Model;
 use std::sync::Arc;
@@ -23,20 +23,19 @@ pub const MOST_AIRFIELDS: usize = 4_096;
 /// The register, seen as the list of its airfields in rising order of name.
 #[derive(Drop)]
 pub struct Register {
-    items: OrderedList<Arc<Airfield>>,
+    items: OrderedTree<Airfield, OwnKey>,
 }
 
 impl Model for Register {
-    ghost use Rattle.std.specs.Prelude.{List, map};
-    ghost use Rattle.std.specs.Arc.{arc_value};
+    ghost use Rattle.std.specs.Prelude.{List};
     ghost use Rattle.airport_register.specs.Registers.{IsRegister};
     ghost use Rattle.airfields.specs.declared.airfield.Airfield.{Airfield};
 
     ghost Value = { List Airfield };
 
-    ghost view = { λ r. map arc_value r.items };
+    ghost view = { λ r. r.items };
 
-    ghost invariant = { λ r. IsRegister (map arc_value r.items) };
+    ghost invariant = { λ r. IsRegister r.items };
 }
 
 impl Register {
@@ -45,7 +44,7 @@ impl Register {
         ensures { result ≡ [] }
     {
         Register {
-            items: OrderedList::empty(alloc),
+            items: OrderedTree::empty(alloc),
         }
     }
 
@@ -61,7 +60,7 @@ impl Register {
         ensures found { option_copied result ≡ airfield_at self.now id.now }
         ensures held { IfSome result (λ f. IsHeld f.now) }
     {
-        Some(self.items.find(id)?)
+        self.items.find(id)
     }
 
     /// The airfield at place `i` in order of name, counted from 0.
@@ -69,19 +68,19 @@ impl Register {
         ensures place { option_copied result ≡ slice_get self.now i }
         ensures held { IfSome result (λ f. IsHeld f.now) }
     {
-        Some(self.items.get(i)?)
+        self.items.get(i)
     }
 
-    /// An equal register, which shares the airfields with this one.
+    /// An equal register, which shares all that it has with this one.
     ///
     /// # Errors
     ///
     /// `NoMemory` where memory was refused.
-    pub fn share(&self, alloc: Global) -> Result<Register, NoMemory>
+    pub fn share(&self, _alloc: Global) -> Result<Register, NoMemory>
         ensures equal { IfOk result (λ r. r ≡ self.now) }
     {
         Ok(Register {
-            items: self.items.share(alloc)?,
+            items: self.items.share()?,
         })
     }
 
@@ -90,6 +89,19 @@ impl Register {
         ensures { IsRegister self.now }
     {
         let _ = &self.items; // a proof knows the invariant of a value where it reads a field
+    }
+
+    /// The airfield of this name, shared.
+    fn shared(&self, id: &FieldId) -> Result<Option<Arc<Airfield>>, NoMemory>
+        ensures { IfOk result (λ o. option_map arc_value o ≡ airfield_at self.now id.now) }
+    {
+        match self.items.find_shared(id) {
+            None => Ok(None),
+            Some(field) => {
+                let field = Arc::try_clone(field)?;
+                Ok(Some(field))
+            }
+        }
     }
 
     /// Puts the airfield in its place, instead of the one of its name.
@@ -108,7 +120,8 @@ impl Register {
         let id = *field.id();
         let field = Arc::new(alloc, field)?;
         let after = Arc::try_clone(&field)?;
-        let before = self.items.put(field)?;
+        let before = self.shared(&id)?;
+        self.items = self.items.with(alloc, field)?;
         Ok(Changed {
             id,
             before,
@@ -117,15 +130,22 @@ impl Register {
     }
 
     /// Takes the airfield of this name out.
-    pub(crate) fn remove(&mut self, id: &FieldId) -> Changed
-        ensures removed { self.new ≡ removed_by name_cmp id_of id.now self.old }
-        ensures change { IsChange self.old self.new id.now result }
-        ensures after { option_map arc_value result.after ≡ None }
+    ///
+    /// # Errors
+    ///
+    /// `NoMemory` where memory was refused. The register then stays as it was.
+    pub(crate) fn remove(&mut self, alloc: Global, id: &FieldId) -> Result<Changed, NoMemory>
+        ensures removed { IfOk result (λ _. self.new ≡ removed_by name_cmp id_of id.now self.old) }
+        ensures change { IfOk result (λ c. IsChange self.old self.new id.now c) }
+        ensures after { IfOk result (λ c. option_map arc_value c.after ≡ None) }
+        ensures same { OnErr result (self.new ≡ self.old) }
     {
-        Changed {
+        let before = self.shared(id)?;
+        self.items = self.items.without(alloc, id)?;
+        Ok(Changed {
             id: *id,
-            before: self.items.remove(id),
+            before,
             after: None,
-        }
+        })
     }
 }

@@ -1,2 +1,3 @@
 pub mod HeightFacts
 pub mod NearFacts
+pub mod AreaFacts

@@ -20,7 +20,7 @@ use Rattle.height_rules.specs.Limits.{IsAtLimit, IsAboveLimit, inner_limit, is_i
 use Rattle.height_rules.specs.declared.limit.TheConstants.{INNER_RADIUS, NAUTICAL_MILE, RISE_PER_MILE}
 use Rattle.height_rules.specs.declared.near_airport.TheConstants.{OUTER_HUNDREDTHS}
 use Rattle.height_rules.proofs.HeightFacts.{IsTop, standards_is_top}
-use Rattle.height_rules.specs.Laws.{above_reaches}
+use Rattle.height_rules.specs.Laws.{above_reaches, limit_rises}
 use Rattle.height_rules.specs.NearAirport.{IsNear, near_surface, near_excess, is_near, is_at_limit, is_above_limit, square_distance, base_of}
 
 -- beyond three nautical miles no level less than 200 feet over the base is at the limit
@@ -45,6 +45,10 @@ floor_of d2 base z =
 -- a top that is not above the base is not above the limit
 pub low_top : (d2 : ℕ) (base z : ℤ) → z ≤ℤ base → IsAboveLimit d2 base z → ⊥
 low_top d2 base z low h = let k = floor_of d2 base z (above_reaches d2 base z h) in omega (arith, ints, k, low)
+
+-- where a level is not at the limit, none up to it is
+pub none_under : (d2 : ℕ) (base g z : ℤ) → (IsAtLimit d2 base (g -ℤ pos 2) → ⊥) → IsAtLimit d2 base z → (g -ℤ pos 1) ≤ℤ z
+none_under d2 base g z missed h = by_lt_z (g -ℤ pos 2) z (λ l. omega (arith, ints, l)) (λ l. absurd (missed (limit_rises d2 base z (g -ℤ pos 2) l h)))
 
 max_left : (x y : ℤ) → x ≤ℤ int_max x y
 max_left x y = elim (cases_Bool (int_lt y x)) [ inl t ↦ rw t (omega (arith, ints)) | inr t ↦ rw t (grind (arith, ints)) ]
@@ -85,7 +89,7 @@ near_out : (a : Airport) (s : Site) → IsNear a s → is_near a s ≡ true
 unfolding is_near
 near_out a s h = all_true (is_within a s) (is_described a.category) (list_any is_long a.runways) (at_least_out _ _ _ h.within) h.described h.long
 
-near_in : (a : Airport) (s : Site) → is_near a s ≡ true → IsNear a s
+pub near_in : (a : Airport) (s : Site) → is_near a s ≡ true → IsNear a s
 unfolding is_near
 near_in a s h = record {
   within = at_least_in _ _ _ (first_true (is_within a s) (is_described a.category) (list_any is_long a.runways) h);

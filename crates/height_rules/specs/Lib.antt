@@ -3,3 +3,4 @@ pub mod AboveGround
 pub mod Limits
 pub mod Laws
 pub mod NearAirport
+pub mod NearAreas

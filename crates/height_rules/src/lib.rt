@@ -3,12 +3,15 @@
 #![tactic(auto)]
 
 mod above_ground;
+mod area;
 mod heights;
 mod laws;
 mod limit;
 mod near_airport;
+mod search;
 
 pub use above_ground::{NOTICE_HEIGHT, OBSTRUCTION_HEIGHT, excess_200, excess_499};
+pub use area::{OUTER_REACH, near_area};
 pub use heights::{
     INTERSTATE_RAISED, PRIVATE_RAISED, RAIL_RAISED, ROAD_RAISED, TOP_MOST, allowance,
     top_for_notice, top_for_standards,

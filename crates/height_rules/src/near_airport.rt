@@ -11,7 +11,7 @@ ghost use Rattle.height_rules.specs.Limits.{IsLow};
 use crate::heights::{TOP_MOST, top_for_standards};
 use crate::limit::{NAUTICAL_MILE, NearLimit};
 use airfields::{Airport, Filing};
-use grid_exact::{Vector, excess, is_at_least_root};
+use grid_exact::{Vector, is_at_least_root};
 
 /// The limit goes out to 5.99 nautical miles, 77.17(a)(2): so many hundredths of one.
 pub const OUTER_HUNDREDTHS: i64 = 599;
@@ -56,8 +56,8 @@ fn limit(airport: &Airport, filing: &Filing) -> NearLimit
     NearLimit::new(base(airport, filing), square_distance(airport, filing))
 }
 
-/// How far the structure is above the limit, by a search of its level. An airport as high as the top has its limit above the top;
-/// it is left out first, since nothing else here bounds its elevation.
+/// How far the structure is above the limit. An airport as high as the top has its limit above the top; it is left out first, since
+/// nothing else here bounds its elevation. A top under the lowest level of the limit is left out before any product is made.
 fn excess_over_limit(airport: &Airport, filing: &Filing) -> Option<u32>
     ensures exact { IsExcess (near_surface airport.now filing.now) (standards_top filing.now) result }
     ensures size { IfSome result (λ e. e ≤ 2 ^ 26) }
@@ -66,11 +66,14 @@ fn excess_over_limit(airport: &Airport, filing: &Filing) -> Option<u32>
     if airport.elevation >= top {
         return None;
     }
+    let limit = limit(airport, filing);
+    if top < limit.lowest() {
+        return None;
+    }
     if !is_near(airport, filing) {
         return None;
     }
-    let limit = limit(airport, filing);
-    excess(&limit, limit.lowest(), top)
+    limit.excess(top)
 }
 
 /// How far the structure is above the limit of 77.17(a)(2) of this airport, in tenths of a foot: 200 feet over the higher of

@@ -1,11 +1,11 @@
 //! Worked values, by exact fractions.
 
-use crate::{allowance, excess_200, excess_499, excess_near_airport};
+use crate::{allowance, excess_200, excess_499, excess_near_airport, near_area};
 use airfields::{
     Airport, Category, FieldId, Filing, Flags, Runway, RunwayEnd, RunwayName, Runways,
     StructureKind,
 };
-use grid_exact::Point;
+use grid_exact::{Area, Point};
 use runway_classes::ApproachKind;
 use std::alloc::Global;
 use std::test::Fail;
@@ -44,13 +44,13 @@ fn end(x: i64) -> Result<RunwayEnd, Fail> {
     })
 }
 
-/// An airport of this category at the origin, with a long runway.
-fn airport(alloc: Global, category: Category) -> Result<Airport, Fail> {
+/// An airport of this category at the origin, with a runway from there to 50,000 in the east.
+fn airport_with(alloc: Global, category: Category, west: i64) -> Result<Airport, Fail> {
     let runway = Runway {
         name: RunwayName::new(b"09/27")?,
         utility: false,
         hard: true,
-        end1: end(-50_000)?,
+        end1: end(west)?,
         end2: end(50_000)?,
     };
     Ok(Airport {
@@ -60,6 +60,11 @@ fn airport(alloc: Global, category: Category) -> Result<Airport, Fail> {
         elevation: 1000,
         runways: Runways::empty(alloc).with(alloc, &runway)?,
     })
+}
+
+/// One with a long runway.
+fn airport(alloc: Global, category: Category) -> Result<Airport, Fail> {
+    airport_with(alloc, category, -50_000)
 }
 
 #[test]
@@ -178,6 +183,27 @@ fn categories_of_airports(rt: HostRuntime) -> Result<(), Fail> {
             excess,
             "{category:?}"
         );
+    }
+    Ok(())
+}
+
+#[test]
+fn areas_of_airports(rt: HostRuntime) -> Result<(), Fail> {
+    let area = Area {
+        x0: -363_958,
+        y0: -363_958,
+        x1: 363_958,
+        y1: 363_958,
+    };
+    for (category, west, expected) in [
+        (Category::PublicUse, -50_000, Some(area)),
+        (Category::PublicUse, 17_999, Some(area)),
+        (Category::PublicUse, 18_000, None),
+        (Category::Dod, -50_000, Some(area)),
+        (Category::OtherPrivate, -50_000, None),
+    ] {
+        let airport = airport_with(rt.alloc(), category, west)?;
+        assert_eq!(rt; near_area(&airport), expected, "{category:?}, {west}");
     }
     Ok(())
 }

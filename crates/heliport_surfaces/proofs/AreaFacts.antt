@@ -1,5 +1,5 @@
 -- The outlines of the surfaces of a heliport, and what they cover.
-use Rattle.std.proofs.Common.{◌≡◌, ◌+◌, ◌*◌, ◌<◌, ◌≤◌, ℕ, ℤ, pos, ◌+ℤ◌, ◌-ℤ◌, ◌*ℤ◌, ◌≤ℤ◌, ◌<ℤ◌, neg_ℤ, unsigned_abs, arith, ap, refl, subst, Bool, true, false, ◌&&◌, int_le, int_lt, Option, Some, None}
+use Rattle.std.proofs.Common.{◌≡◌, ◌+◌, ◌*◌, ◌<◌, ℕ, ℤ, pos, ◌+ℤ◌, ◌-ℤ◌, ◌*ℤ◌, ◌≤ℤ◌, neg_ℤ, unsigned_abs, arith, refl, subst, Bool, true, false, ◌&&◌, int_le, int_lt, Option, Some, None}
 use Rattle.std.proofs.lemmas.Int.{ints}
 use Rattle.grid_exact.specs.Area.{Has}
 use Rattle.grid_exact.specs.Excess.{IsExcess, Surface, is_at_most_root}
@@ -11,7 +11,6 @@ use Rattle.grid_exact.specs.declared.area.Area.{Area}
 use Rattle.grid_exact.proofs.IntLaws.{abs_neg, mul-sub}
 use Rattle.grid_exact.proofs.TestFacts.{at_most_in, le_in, lt_in}
 use Rattle.outline_boxes.specs.Rectangles.{HasRectangleWithin, OnRectangle}
-use Rattle.outline_boxes.specs.Sizes.{HasTrapezoidSizes}
 use Rattle.outline_boxes.specs.Trapezoids.{OnTrapezoid}
 use Rattle.outline_boxes.specs.Boxes.{shrunk}
 use Rattle.outline_boxes.proofs.Corners.{far_bounds, start_bounds}
@@ -22,12 +21,12 @@ use Rattle.heliport_surfaces.specs.declared.areas.PadAreas.{PadAreas}
 use Rattle.heliport_surfaces.specs.declared.parts.PadEnd.TheVariants.{One, Two}
 use Rattle.heliport_surfaces.specs.declared.parts.Beside.TheVariants.{Primary, ApproachOne, ApproachTwo}
 use Rattle.heliport_surfaces.specs.Areas.{CoverPad, SkipPad, approach_outline, approach_side_outline, landing_outline, landing_side_outline}
-use Rattle.heliport_surfaces.specs.Approaches.{Approach, approach_place, outside}
+use Rattle.heliport_surfaces.specs.Approaches.{Approach, approach_place}
 use Rattle.heliport_surfaces.specs.Landings.{Landing, primary_place}
 use Rattle.heliport_surfaces.specs.Notices.{IsWithin, gap}
 use Rattle.heliport_surfaces.proofs.NoticeReach.{gap_reach, nearest}
 use Rattle.heliport_surfaces.specs.Places.{IsCovered, IsCoveredBeside}
-use Rattle.heliport_surfaces.specs.Pads.{pad_primary, pad_approach, pad_transition, pad_notice, pad_primary_excess, pad_approach_excess, pad_transition_excess, pad_notice_excess}
+use Rattle.heliport_surfaces.specs.Pads.{pad_primary, pad_approach, pad_transition, pad_notice}
 use Rattle.heliport_surfaces.proofs.PadFacts.{pad_primary-IsExcess, pad_approach-IsExcess, pad_transition-IsExcess, pad_notice-IsExcess}
 
 -- both of two tests

@@ -1,5 +1,5 @@
 -- The areas of the surfaces of a heliport: the least whole boxes that hold their corners.
-use Rattle.std.specs.Prelude.{ℤ, pos, ◌*ℤ◌, ◌≡◌, Option, None, List, [], ◌∷◌}
+use Rattle.std.specs.Prelude.{ℤ, pos, ◌*ℤ◌, ◌≡◌, None, List, [], ◌∷◌}
 use Rattle.grid_exact.specs.Area.{Has}
 use Rattle.grid_exact.specs.declared.area.Area.{Area}
 use Rattle.grid_exact.specs.declared.point.Point.{Point}

@@ -1,6 +1,5 @@
 -- The outlines of the surfaces of a runway, and what they cover.
-use Rattle.std.proofs.Common.{◌≡◌, ◌≢◌, ℕ, ℤ, pos, negsuc, ◌+ℤ◌, ◌-ℤ◌, ◌*ℤ◌, ◌≤ℤ◌, ◌<ℤ◌, arith, ap, refl, Bool, true, false, Option, Some, None}
-use Rattle.std.proofs.Math.IntN.{*ℤ_comm}
+use Rattle.std.proofs.Common.{◌≡◌, ℕ, ℤ, pos, ◌+ℤ◌, ◌-ℤ◌, ◌*ℤ◌, ◌≤ℤ◌, ◌<ℤ◌, arith, refl, true, false, Option, Some, None}
 use Rattle.std.proofs.lemmas.Int.{ints}
 use Rattle.grid_exact.specs.Area.{Has}
 use Rattle.grid_exact.specs.Excess.{IsExcess, Surface}
@@ -21,14 +20,13 @@ use Rattle.runway_classes.specs.Class.{HasSizes, IsFlared}
 use Rattle.runway_classes.specs.declared.class.EndClass.{EndClass}
 use Rattle.airfields.specs.declared.runway.Runway.{Runway}
 use Rattle.airfields.specs.Runways.{IsProper}
-use Rattle.runway_lines.specs.declared.end.End.{End}
 use Rattle.runway_lines.specs.declared.end.End.TheVariants.{One, Two}
 use Rattle.imaginary_surfaces.specs.declared.areas.StripAreas.{StripAreas}
 use Rattle.imaginary_surfaces.specs.Areas.{CoverStrip, HoldsBeside, HullHas, SkipStrip, approach_outline, primary_outline}
 use Rattle.imaginary_surfaces.specs.Approaches.{Approach, ApproachCovers, IsApproach, outside}
 use Rattle.imaginary_surfaces.specs.Primaries.{Primary, PrimaryCovers}
 use Rattle.imaginary_surfaces.specs.Strips.{primary_surface, approach_surface, primary_transition_surface, approach_transition_surface}
-use Rattle.imaginary_surfaces.specs.Transitions.{GoesBeyond, TransitionCovers, beside_approach, beside_primary}
+use Rattle.imaginary_surfaces.specs.Transitions.{beside_approach, beside_primary}
 use Rattle.imaginary_surfaces.proofs.ExcessLaws.{primary_excess-is, approach_excess-is, primary_transition_excess-is, approach_transition_excess-is}
 
 -- ---- how an approach surface widens

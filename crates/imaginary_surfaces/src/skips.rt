@@ -10,19 +10,6 @@ use crate::strip::Strip;
 use grid_exact::{Area, Cap, Offset, Point};
 use runway_lines::End;
 
-/// How far a top is above a surface, and above the transitional surface beside it.
-#[derive(Clone, Copy)]
-struct Pair {
-    over: Option<u32>,
-    beside: Option<u32>,
-}
-
-/// Above neither.
-const NEITHER: Pair = Pair {
-    over: None,
-    beside: None,
-};
-
 impl Strip {
     ghost use Rattle.imaginary_surfaces.specs.Areas.{SkipsIn};
     ghost use Rattle.imaginary_surfaces.specs.Strips.{IsStripExcesses, primary_of, approach_of, primary_excess, approach_excess, primary_transition_excess, approach_transition_excess};
@@ -94,66 +81,22 @@ impl Strip {
         self.beside_approach(end, at, x, top, cap)
     }
 
-    /// Both along the primary surface. Where the point lies by its line is worked out only where an area has it.
-    fn along_primary(&self, over: &Area, beside: &Area, x: &Point, top: i64, cap: &Cap) -> Pair
-        requires top { IsLevel top }
-        requires skip_over { ¬ Has over.now x.now → primary_excess self.now x.now top ≡ None }
-        requires skip_beside { ¬ Has beside.now x.now → primary_transition_excess self.now x.now cap.now top ≡ None }
-        ensures over { result.over ≡ primary_excess self.now x.now top }
-        ensures beside { result.beside ≡ primary_transition_excess self.now x.now cap.now top }
-    {
-        if !over.has(x) && !beside.has(x) {
-            return NEITHER;
-        }
-        let at = self.by_primary(x);
-        Pair {
-            over: self.primary_in(over, &at, x, top),
-            beside: self.beside_primary_in(beside, &at, x, top, cap),
-        }
-    }
-
-    /// Both along the approach surface of an end.
-    fn along_approach(
-        &self,
-        end: End,
-        over: &Area,
-        beside: &Area,
-        x: &Point,
-        top: i64,
-        cap: &Cap,
-    ) -> Pair
-        requires top { IsLevel top }
-        requires skip_over { ¬ Has over.now x.now → approach_excess self.now end x.now top ≡ None }
-        requires skip_beside { ¬ Has beside.now x.now → approach_transition_excess self.now end x.now cap.now top ≡ None }
-        ensures over { result.over ≡ approach_excess self.now end x.now top }
-        ensures beside { result.beside ≡ approach_transition_excess self.now end x.now cap.now top }
-    {
-        if !over.has(x) && !beside.has(x) {
-            return NEITHER;
-        }
-        let at = self.by_approach(end, x);
-        Pair {
-            over: self.approach_in(end, over, &at, x, top),
-            beside: self.beside_approach_in(end, beside, &at, x, top, cap),
-        }
-    }
-
     /// As `excesses`, with the areas of the surfaces: one whose area has not the point is not asked, and is not exceeded.
     pub fn excesses_in(&self, areas: &[Area; 6], x: &Point, top: i64, cap: &Cap) -> StripExcesses
         requires top { IsLevel top }
         requires areas { SkipsIn self.now x.now top cap.now areas.now }
         ensures value { IsStripExcesses self.now x.now top cap.now result }
     {
-        let primary = self.along_primary(&areas[0], &areas[3], x, top, cap);
-        let approach1 = self.along_approach(End::One, &areas[1], &areas[4], x, top, cap);
-        let approach2 = self.along_approach(End::Two, &areas[2], &areas[5], x, top, cap);
+        let at = self.by_primary(x);
+        let at1 = self.by_approach(End::One, x);
+        let at2 = self.by_approach(End::Two, x);
         StripExcesses {
-            primary: primary.over,
-            approach1: approach1.over,
-            approach2: approach2.over,
-            beside_primary: primary.beside,
-            beside_approach1: approach1.beside,
-            beside_approach2: approach2.beside,
+            primary: self.primary_in(&areas[0], &at, x, top),
+            approach1: self.approach_in(End::One, &areas[1], &at1, x, top),
+            approach2: self.approach_in(End::Two, &areas[2], &at2, x, top),
+            beside_primary: self.beside_primary_in(&areas[3], &at, x, top, cap),
+            beside_approach1: self.beside_approach_in(End::One, &areas[4], &at1, x, top, cap),
+            beside_approach2: self.beside_approach_in(End::Two, &areas[5], &at2, x, top, cap),
         }
     }
 }

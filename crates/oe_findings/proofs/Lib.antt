@@ -1,6 +1,3 @@
-pub mod SameFindings
-pub mod ListFacts
-pub mod EntryFacts
-pub mod SlopeFacts
 pub mod FieldFacts
+pub mod Sights
 pub mod Counts

@@ -1,4 +1,2 @@
 pub mod List
-pub mod Verdicts
-pub mod PreparedAirports
-pub mod Prepared
+pub mod Screenings

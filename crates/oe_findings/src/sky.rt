@@ -1,15 +1,15 @@
 //! The register with the surfaces over it.
 
-ghost use Rattle.std.specs.Prelude.{◌≡◌, ◌≢◌, ◌≤◌, ◌+◌, ◌*◌, [], None, Some, IfOk, IfErr, OnOk, length};
+ghost use Rattle.std.specs.Prelude.{◌≡◌, ◌≢◌, ◌≤◌, ◌+◌, [], None, Some, IfOk, IfErr, OnOk, OnErr, length};
 ghost use Rattle.airport_register.specs.Amendments.{amended_id, first_broken, after_amendment};
 ghost use Rattle.airport_register.specs.Changes.{IsChange};
+ghost use Rattle.surface_tree.specs.declared.square.TheConstants.{TOP_LEVEL};
 ghost use Rattle.oe_findings.specs.List.{findings_of};
-ghost use Rattle.oe_findings.specs.Verdicts.{verdict_of};
+ghost use Rattle.airfield_findings.specs.Verdicts.{verdict_of};
 
-use crate::fields::PreparedFields;
-use crate::findings::Findings;
-use crate::list::put_findings;
-use crate::verdict::Verdict;
+use crate::screening::Screening;
+use crate::surroundings::Surroundings;
+use airfield_findings::{Collector, Findings, Verdict};
 use airfields::Filing;
 use airport_register::{AmendRefusal, Amendment, Changed, Register};
 use grid_exact::{NoMemory, Steps};
@@ -21,7 +21,7 @@ use std::sync::ledger::Ledger;
 #[derive(Drop)]
 pub struct Sky {
     register: Register,
-    fields: PreparedFields,
+    surroundings: Surroundings,
 }
 
 impl Model for Sky {
@@ -32,7 +32,7 @@ impl Model for Sky {
 
     ghost view = { λ s. s.register };
 
-    ghost invariant = { λ s. s.fields ≡ s.register };
+    ghost invariant = { λ s. s.surroundings ≡ s.register };
 }
 
 impl Sky {
@@ -42,7 +42,7 @@ impl Sky {
     {
         Sky {
             register: Register::empty(alloc),
-            fields: PreparedFields::empty(alloc),
+            surroundings: Surroundings::empty(alloc),
         }
     }
 
@@ -56,7 +56,7 @@ impl Sky {
     {
         Ok(Sky {
             register: register.share(alloc)?,
-            fields: PreparedFields::of(alloc, register)?,
+            surroundings: Surroundings::of(alloc, register)?,
         })
     }
 
@@ -81,28 +81,63 @@ impl Sky {
         let mut register = self.register.share(alloc)?;
         let changed = register.amend(alloc, a)?;
         register.limits();
-        let fields = self.fields.replaced(alloc, &changed)?;
-        Ok((Sky { register, fields }, changed))
+        let surroundings = self.surroundings.replaced(alloc, &changed)?;
+        Ok((
+            Sky {
+                register,
+                surroundings,
+            },
+            changed,
+        ))
+    }
+
+    /// The findings of a structure over all airfields, which two collectors that have taken nothing gather: the standards, and the notice
+    /// rules behind them.
+    ///
+    /// # Errors
+    ///
+    /// `NoMemory` where memory was refused.
+    fn gathered<C: Collector + Drop, L: Ledger>(
+        &self,
+        standards: C,
+        notices: C,
+        filing: &Filing,
+        steps: &mut Steps<L>,
+    ) -> Result<C, NoMemory>
+        requires standards { C.taken standards [] }
+        requires notices { C.taken notices [] }
+        ensures taken { IfOk result (λ c. C.taken c (findings_of self.now filing.now)) }
+        ensures fails { IfErr result (λ _. C.fails) }
+        ensures steps { steps.new ≤ steps.old + (TOP_LEVEL + 1) + length self.now }
+    {
+        let mut screening = Screening::begin(standards, notices, filing)?;
+        self.surroundings.visit(&mut screening, steps);
+        screening.finish(&self.register)
     }
 
     /// Makes `list` the findings of a structure over all airfields: each standard and notice rule that it exceeds, in order, with
     /// how far its top is above the surface or limit, in tenths of a foot, rounded down: 77.17(a)(1) and (2), the surfaces of 77.19 and
-    /// 77.23, and the notice rules of 77.9. A step is one airfield whose standards, or whose notice slope, are asked for.
+    /// 77.23, and the notice rules of 77.9. The room of the list is used. A step is one square of the search, or one airfield that is
+    /// looked at.
     ///
     /// # Errors
     ///
-    /// `NoMemory` where memory was refused; the list is then some list.
+    /// `NoMemory` where memory was refused; the list is then empty.
     pub fn find<L: Ledger>(
         &self,
+        alloc: Global,
         list: &mut Findings,
         filing: &Filing,
         steps: &mut Steps<L>,
     ) -> Result<(), NoMemory>
         ensures found { OnOk result (list.new ≡ findings_of self.now filing.now) }
-        ensures steps { steps.new ≤ steps.old + 2 * length self.now }
+        ensures empty { OnErr result (list.new ≡ []) }
+        ensures steps { steps.new ≤ steps.old + (TOP_LEVEL + 1) + length self.now }
     {
-        list.clear();
-        put_findings(list, &self.register, self.fields.as_slice(), filing, steps)
+        let room = std::mem::replace(list, Findings::new(alloc));
+        let (standards, notices) = room.emptied(alloc);
+        *list = self.gathered(standards, notices, filing, steps)?;
+        Ok(())
     }
 
     /// The same as a list of its own.
@@ -117,38 +152,19 @@ impl Sky {
         steps: &mut Steps<L>,
     ) -> Result<Findings, NoMemory>
         ensures found { IfOk result (λ list. list ≡ findings_of self.now filing.now) }
-        ensures steps { steps.new ≤ steps.old + 2 * length self.now }
+        ensures steps { steps.new ≤ steps.old + (TOP_LEVEL + 1) + length self.now }
     {
-        let mut list = Findings::new(alloc);
-        put_findings(
-            &mut list,
-            &self.register,
-            self.fields.as_slice(),
-            filing,
-            steps,
-        )?;
-        Ok(list)
+        self.gathered(Findings::new(alloc), Findings::new(alloc), filing, steps)
     }
 
     /// What that list comes to. It takes no memory.
     pub fn verdict<L: Ledger>(&self, filing: &Filing, steps: &mut Steps<L>) -> Verdict
         ensures found { result ≡ verdict_of (findings_of self.now filing.now) }
-        ensures steps { steps.new ≤ steps.old + 2 * length self.now }
+        ensures steps { steps.new ≤ steps.old + (TOP_LEVEL + 1) + length self.now }
     {
         self.register.limits();
-        let mut verdict = Verdict {
-            notice: false,
-            obstruction: false,
-            entries: 0,
-        };
-        match put_findings(
-            &mut verdict,
-            &self.register,
-            self.fields.as_slice(),
-            filing,
-            steps,
-        ) {
-            Ok(()) => verdict,
+        match self.gathered(Verdict::none(), Verdict::none(), filing, steps) {
+            Ok(verdict) => verdict,
             Err(NoMemory) => unreachable!(),
         }
     }

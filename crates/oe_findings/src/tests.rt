@@ -46,8 +46,8 @@ fn lists_of_findings(rt: HostRuntime) {
     assert_eq!(rt; list.as_slice().len(), 2);
     assert!(rt; list.equal(&list));
     assert!(rt; !list.equal(&one));
-    list.clear();
-    assert!(rt; list.equal(&Findings::new(alloc)));
+    let (emptied, _) = list.emptied(alloc);
+    assert!(rt; emptied.equal(&Findings::new(alloc)));
 }
 
 /// What the calls of a sky answer to one structure.
@@ -70,7 +70,7 @@ fn screen<L: Ledger>(
 {
     let mut steps = Steps::<L>::new(blank);
     let mut list = Findings::new(alloc);
-    sky.find(&mut list, filing, &mut steps)?;
+    sky.find(alloc, &mut list, filing, &mut steps)?;
     Ok(Screened {
         list,
         again: sky.findings(alloc, filing, &mut steps)?,

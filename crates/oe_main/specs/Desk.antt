@@ -5,7 +5,7 @@ use Rattle.airfields.specs.declared.airfield.Airfield.{Airfield}
 use Rattle.airport_register.specs.declared.amendment.Amendment.{Amendment}
 use Rattle.airport_register.specs.declared.amendment.AmendRefusal.{AmendRefusal}
 use Rattle.oe_findings.specs.List.{findings_of}
-use Rattle.oe_findings.specs.Verdicts.{verdict_of}
+use Rattle.airfield_findings.specs.Verdicts.{verdict_of}
 use Rattle.wire_requests.specs.Requests.{IsRecord, IsMalformed}
 use Rattle.wire_requests.specs.Spellings.{plain_of}
 use Rattle.wire_replies.specs.Refusals.{refused_amendment}

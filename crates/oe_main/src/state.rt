@@ -27,6 +27,7 @@ pub struct DeskState {
 
 /// Appends the reply with the findings of a structure. The list is some list, whose room is used.
 fn append_findings<L: Ledger>(
+    alloc: Global,
     state: &DeskState,
     list: &mut Findings,
     steps: &mut Steps<L>,
@@ -36,7 +37,7 @@ fn append_findings<L: Ledger>(
     ensures ok { OnOk result (Tells state.now (requests.Query (queries.Screen filing.now)) (string_bytes text.old) (string_bytes text.new) state.now) }
     ensures part { OnErr result (Extends (string_bytes text.old) (string_bytes text.new)) }
 {
-    if state.sky.find(list, filing, steps).is_err() {
+    if state.sky.find(alloc, list, filing, steps).is_err() {
         return append_reply(text, &Reply::Refused(Refusal::NoMemory));
     }
     append_found(text, state.accepted, list.as_slice())
@@ -117,7 +118,9 @@ pub(crate) fn fulfil<L: Ledger>(
     ensures count { state.new.accepted ≤ state.old.accepted + 1 }
 {
     match request {
-        Request::Query(Query::Screen(filing)) => append_findings(state, list, steps, filing, text),
+        Request::Query(Query::Screen(filing)) => append_findings(
+            alloc, state, list, steps, filing, text,
+        ),
         Request::Query(Query::Verdict(filing)) => append_verdict(state, steps, filing, text),
         Request::Query(Query::Airfield(id)) => append_named(state, id, text),
         Request::Change(change) => make_change(alloc, state, change, text),

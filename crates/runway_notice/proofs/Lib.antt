@@ -7,3 +7,5 @@ pub mod FarFacts
 pub mod SlopeFacts
 pub mod NoticeFacts
 pub mod FarAirports
+pub mod PastRange
+pub mod AreaFacts

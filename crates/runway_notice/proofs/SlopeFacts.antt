@@ -51,7 +51,7 @@ range_out : (a : Airport) (r : Runway) (x : Point) → IsInRange a r x → is_in
 unfolding is_in_range
 range_out a r x h = and_from _ _ h.described (at_least_out (distance_of x r) (range_of (sub_of a.runways)) h.within)
 
-range_in : (a : Airport) (r : Runway) (x : Point) → is_in_range a r x ≡ true → IsInRange a r x
+pub range_in : (a : Airport) (r : Runway) (x : Point) → is_in_range a r x ≡ true → IsInRange a r x
 unfolding is_in_range
 range_in a r x h =
     let p = and_parts (is_described a.category) (is_at_least_root_of (distance_of x r) (range_of (sub_of a.runways))) h in

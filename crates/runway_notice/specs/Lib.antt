@@ -7,3 +7,4 @@ pub mod Slopes
 pub mod Surfaces
 pub mod Notices
 pub mod Areas
+pub mod NoticeAreas

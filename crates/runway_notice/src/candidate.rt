@@ -8,7 +8,7 @@ ghost use Rattle.runway_notice.specs.Nearest.{elevation_of, nearness_cmp};
 
 use crate::square_distance::SquareDistance;
 use airfields::Runway;
-use grid_exact::{Offset, Point};
+use grid_exact::{Offset, Point, Vector};
 use runway_lines::Centerline;
 use std::cmp::Ordering;
 
@@ -18,6 +18,17 @@ pub(crate) struct Candidate<'a> {
     pub(crate) runway: &'a Runway,
     pub(crate) line: Centerline,
     pub(crate) at: Offset,
+}
+
+/// About the length of a vector: two steps of Newton's method from a sum that is near to it.
+fn about_length(vector: &Vector) -> u32 {
+    let x = vector.x.unsigned_abs();
+    let y = vector.y.unsigned_abs();
+    let square = x * x + y * y;
+    let near = x.max(y) + x.min(y) * 3 / 8 + 1;
+    let nearer = (near + square / near) / 2 + 1;
+    let nearest = (nearer + square / nearer) / 2;
+    nearest.min(u64::from(u32::MAX)) as u32
 }
 
 impl<'a> Candidate<'a> {
@@ -53,7 +64,29 @@ impl<'a> Candidate<'a> {
         ensures value { result ≡ elevation_of point.now self.now.runway.now }
         ensures size { unsigned_abs result ≤ 2 ^ 19 }
     {
+        let along = self.at.along();
+        if along < 0 {
+            return self.runway.end1.z;
+        }
+        if (self.at.square() as i128) < along {
+            return self.runway.end2.z;
+        }
         self.line.elevation_at(&self.at)
+    }
+
+    /// About how far the point is from the centerline, in tenths of a foot: a guess, of which nothing is asked.
+    pub(crate) fn about_distance(&self, point: &Point) -> u32 {
+        let (from, to) = (&self.runway.end1.at, &self.runway.end2.at);
+        let along = self.at.along();
+        if along < 0 {
+            return about_length(&Vector::between(from, point));
+        }
+        if (self.at.square() as i128) < along {
+            return about_length(&Vector::between(to, point));
+        }
+        let aside = self.at.aside().unsigned_abs() as u64;
+        let length = about_length(&Vector::between(from, to));
+        (aside / (u64::from(length) + 1)).min(u64::from(u32::MAX)) as u32
     }
 
     /// Compares how high its centerline and the other's are, each where it is nearest to the point.

@@ -3,14 +3,17 @@
 //! Lengths, coordinates and elevations are whole tenths of a foot.
 #![tactic(auto)]
 
+mod area;
 mod candidate;
 mod laws;
 mod limit;
 mod nearest;
 mod notice;
+mod search;
 mod slope;
 mod square_distance;
 
+pub use area::notice_area;
 pub use laws::notice_slope_is;
 pub use notice::{SLOPE_REACH, excess_notice};
 pub use slope::{RANGE_B1, RANGE_B2, RATIO_B1, RATIO_B2, Slope, Sub};

@@ -17,14 +17,14 @@ use crate::limit::SlopeLimit;
 use crate::nearest::nearest;
 use crate::slope::{RANGE_B1, Slope, Sub};
 use airfields::{Airport, RUNWAY_REACH, Runways};
-use grid_exact::{Point, excess};
+use grid_exact::Point;
 
 /// No slope from a runway of an airport comes to a point that is farther from the airport's reference point in a coordinate, in
 /// tenths of a foot: the ends of runways are within their reach of it, and no slope goes out farther than that of 77.9(b)(1).
 pub const SLOPE_REACH: u64 = RUNWAY_REACH + RANGE_B1 as u64;
 
 /// Which slope goes out from the runways of an airport.
-fn sub_of(runways: &Runways) -> Sub
+pub(crate) fn sub_of(runways: &Runways) -> Sub
     ensures { result ≡ sub_of_runways runways.now }
 {
     if runways.has_long() { Sub::B1 } else { Sub::B2 }
@@ -49,6 +49,7 @@ fn limit(runway: &Candidate, sub: Sub, point: &Point) -> SlopeLimit
         distance: runway.distance(),
         base: runway.elevation(point),
         ratio: sub.ratio(),
+        about_rise: sub.rise_at(runway.about_distance(point)),
     }
 }
 
@@ -69,8 +70,7 @@ fn excess_over(
     if !runway.distance().is_at_most(sub.range()) {
         return None;
     }
-    let limit = limit(runway, sub, point);
-    excess(&limit, limit.lowest(), top)
+    limit(runway, sub, point).excess(top)
 }
 
 /// The slope that `top` is above, as `excess_notice` answers it. It stands apart so that what `excess_notice` says besides is proved

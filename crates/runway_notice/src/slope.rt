@@ -57,4 +57,12 @@ impl Sub {
             Sub::B2 => RATIO_B2,
         }
     }
+
+    /// How far it has risen at a distance, rounded down.
+    pub(crate) fn rise_at(self, distance: u32) -> u32 {
+        match self {
+            Sub::B1 => distance / RATIO_B1 as u32,
+            Sub::B2 => distance / RATIO_B2 as u32,
+        }
+    }
 }

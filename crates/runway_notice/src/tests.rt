@@ -1,8 +1,8 @@
 //! Worked values, by exact fractions.
 
-use crate::{Slope, Sub, excess_notice, notice_slope_is};
+use crate::{Slope, Sub, excess_notice, notice_area, notice_slope_is};
 use airfields::{Airport, Category, FieldId, Runway, RunwayEnd, RunwayName, Runways};
-use grid_exact::{LEVEL_LIMIT, Point};
+use grid_exact::{Area, LEVEL_LIMIT, Point};
 use runway_classes::ApproachKind;
 use std::alloc::Global;
 use std::test::Fail;
@@ -235,5 +235,35 @@ fn categories(rt: HostRuntime) -> Result<(), Fail> {
             "{category:?}"
         );
     }
+    Ok(())
+}
+
+/// The area of the slope from the runways of the airport.
+fn area(airport: &Airport) -> Result<Option<Area>, BadTable> {
+    if !airport.is_held() {
+        return Err(BadTable);
+    }
+    Ok(notice_area(airport))
+}
+
+/// The runways of an airport, and the sides of their area: west, south, east, north.
+const AREAS: [(Lines, [i64; 4]); 5] = [
+    (LONG, [-250_000, -200_000, 250_000, 200_000]),
+    (EXACT, [-100_000, -100_000, 132_000, 100_000]),
+    (LONGER, [-200_000, -200_000, 232_001, 200_000]),
+    (SEVERAL, [-200_000, -300_000, 600_000, 200_000]),
+    (RISING, [-100_000, -100_000, 106_000, 108_000]),
+];
+
+#[test]
+fn areas(rt: HostRuntime) -> Result<(), Fail> {
+    for (lines, [x0, y0, x1, y1]) in AREAS {
+        let airport = airport(rt.alloc(), Category::PublicUse, lines)?;
+        assert_eq!(rt; area(&airport)?, Some(Area { x0, y0, x1, y1 }));
+    }
+    let bare = airport(rt.alloc(), Category::PublicUse, BARE)?;
+    assert_eq!(rt; area(&bare)?, None);
+    let private = airport(rt.alloc(), Category::OtherPrivate, LONG)?;
+    assert_eq!(rt; area(&private)?, None);
     Ok(())
 }

@@ -104,7 +104,7 @@ squares_most : (l : ℕ) → squares_for l ≤ l
 squares_most l =
     elim (cases_Bool (nat_lt l 5)) [
       | inl y ↦ rw y (omega arith)
-      | inr n ↦ rw n (elim (cases_Bool (nat_lt l 9)) [ inl y ↦ rw y (grind (arith, n)) | inr m ↦ rw m (omega arith) ])
+      | inr n ↦ rw n (grind (arith, n))
     ]
 
 pub cell_most : (a : Area) → cell_level a ≤ level_of a

@@ -53,17 +53,6 @@ module _ {T : Type 0} (area : T → Area) (p : Point) (n : ℕ) (value : List T)
 pub one_level : {T : Type 0} (area : T → Area) (p : Point) (n : ℕ) (value : List T) → n ≤ 14 → All (λ i. cell_level (area i) ≡ n) value → all_hits area p value ≡ filter (λ i. has_point (area i) p) value
 one_level area p n value l even = even_visit area p n value even 14 refl l
 
-level_high : (n m : ℕ) (e : ℤ) → e ≤ℤ pos (side_of m) → level_up_to n e ≤ m
-level_high zero m e h = omega arith
-level_high (suc n) m e h =
-    elim (cases_Bool (int_lt (pos (side_of n)) e)) [
-      | inl y ↦ elim (cases_lt n m) [
-        | inl l ↦ rw y (omega (arith, l))
-        | inr l ↦ absurd (let s : side_of m ≤ side_of n = side-le m n l in let t : pos (side_of n) <ℤ e = grind (arith, ints, y) in omega (arith, ints, s, t, h))
-      ]
-      | inr f ↦ rw f (level_high n m e h)
-    ]
-
 level_low : (n m : ℕ) (e : ℤ) → m < n → pos (side_of m) <ℤ e → m < level_up_to n e
 level_low zero m e l h = absurd (omega arith)
 level_low (suc n) m e l h =
@@ -75,22 +64,17 @@ level_low (suc n) m e l h =
       ]
     ]
 
-middle_squares : (l : ℕ) → 4 < l → l ≤ 9 → squares_for l ≡ 5
-middle_squares l a b =
-    let n : nat_lt l 5 ≡ false = grind (arith, a) in
-    elim (cases_Bool (nat_lt l 9)) [
-      | inl y ↦ rw (n, y) refl
-      | inr m ↦ (let e : l ≡ 9 = grind (arith, m, b) in rw e refl)
-    ]
+middle_squares : (l : ℕ) → 4 < l → squares_for l ≡ 5
+middle_squares l a = let n : nat_lt l 5 ≡ false = grind (arith, a) in rw n refl
 
-level_middle : (a : Area) → pos (side_of 4) <ℤ greater (a.x1 -ℤ a.x0) (a.y1 -ℤ a.y0) → greater (a.x1 -ℤ a.x0) (a.y1 -ℤ a.y0) ≤ℤ pos (side_of 9) → (4 < level_of a) × (level_of a ≤ 9)
+level_middle : (a : Area) → pos (side_of 4) <ℤ greater (a.x1 -ℤ a.x0) (a.y1 -ℤ a.y0) → 4 < level_of a
 unfolding level_of
-level_middle a h k = (level_low 14 4 (greater (a.x1 -ℤ a.x0) (a.y1 -ℤ a.y0)) (omega arith) h, level_high 14 9 (greater (a.x1 -ℤ a.x0) (a.y1 -ℤ a.y0)) k)
+level_middle a h = level_low 14 4 (greater (a.x1 -ℤ a.x0) (a.y1 -ℤ a.y0)) (omega arith) h
 
--- an area that is longer than 65,536 and no longer than 2,097,152 stands in squares of 2^17
-pub cell_middle : (a : Area) → pos 65536 <ℤ greater (a.x1 -ℤ a.x0) (a.y1 -ℤ a.y0) → greater (a.x1 -ℤ a.x0) (a.y1 -ℤ a.y0) ≤ℤ pos 2097152 → cell_level a ≡ 5
+-- an area that is longer than 65,536 stands in squares of 2^17
+pub cell_middle : (a : Area) → pos 65536 <ℤ greater (a.x1 -ℤ a.x0) (a.y1 -ℤ a.y0) → cell_level a ≡ 5
 unfolding cell_level
-cell_middle a h k = let t = level_middle a h k in middle_squares (level_of a) t.0 t.1
+cell_middle a h = middle_squares (level_of a) (level_middle a h)
 
 -- where an item that does not have the point gives nothing, those that have it give all
 pub flat_map_kept : {X Y : Type 0} (f : X → List Y) (p : X → Bool) (xs : List X) → All (λ x. p x ≡ false → f x ≡ []) xs → flat_map f (filter p xs) ≡ flat_map f xs

@@ -5,6 +5,5 @@ pub mod Visits
 pub mod Edits
 pub mod Holdings
 pub mod Owned
-pub mod Order
 pub mod Wholes
 pub mod Even

@@ -22,7 +22,7 @@ use Rattle.surface_tree.specs.Squares.{IsIn}
 use Rattle.surface_tree.specs.declared.square.TheConstants.{PLANE_LIMIT}
 use Rattle.surface_tree.specs.Changes.{Fits}
 use Rattle.surface_tree.specs.Visits.{near_area, close_area, hit_at, hits, all_hits, looks}
-use Rattle.surface_tree.proofs.Order.{not_removed, only_found}
+use Rattle.ordered_tree.proofs.Order.{not_removed, only_found}
 use Rattle.surface_tree.proofs.Boxes.{cell_most, close_near}
 use Rattle.surface_tree.proofs.Visits.{filter_none}
 

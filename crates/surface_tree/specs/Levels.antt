@@ -1,7 +1,7 @@
 -- The sizes of boxes, and the sizes of the squares that hold them.
 use Rattle.std.specs.Prelude.{◌≡◌, ◌≤◌, ℕ, zero, suc, ◌+◌, ◌-◌, ℤ, pos, neg_ℤ, ◌-ℤ◌, ◌≤ℤ◌, ◌<ℤ◌, int_le, int_lt, nat_lt, if◌then◌else◌}
 use Rattle.grid_exact.specs.declared.area.Area.{Area}
-use Rattle.surface_tree.specs.declared.level.TheConstants.{FINER_LEVELS, MIDDLE_LEVEL}
+use Rattle.surface_tree.specs.declared.level.TheConstants.{MIDDLE_LEVEL}
 use Rattle.surface_tree.specs.declared.square.TheConstants.{PLANE_LIMIT, TOP_LEVEL}
 
 -- the box has its ends in order, and lies in the plane of the tree
@@ -31,10 +31,9 @@ greater a b = if int_le a b then b else a
 unfoldable pub level_of : Area → ℕ
 level_of area = level_up_to TOP_LEVEL (greater (area.x1 -ℤ area.x0) (area.y1 -ℤ area.y0))
 
--- the level of the squares that hold the boxes of a size: their own up to the middle one, which holds some larger sizes too, and a
--- few levels below their own for those that are larger still
+-- the level of the squares that hold the boxes of a size: their own, up to a middle one, which holds all larger sizes too
 abbrev pub squares_for : ℕ → ℕ
-squares_for level = if nat_lt level MIDDLE_LEVEL then level else if nat_lt level (MIDDLE_LEVEL + FINER_LEVELS) then MIDDLE_LEVEL else level - FINER_LEVELS
+squares_for level = if nat_lt level MIDDLE_LEVEL then level else MIDDLE_LEVEL
 
 -- the level of the squares that hold the box
 unfoldable pub cell_level : Area → ℕ

@@ -3,5 +3,4 @@ pub mod Squares
 pub mod Visits
 pub mod Parts
 pub mod Changes
-pub mod Index
 pub mod Trees

@@ -7,7 +7,7 @@ ghost use Rattle.grid_exact.specs.declared.area.Area.{Area};
 ghost use Rattle.grid_exact.specs.declared.point.Point.{Point};
 ghost use Rattle.surface_tree.specs.Levels.{IsPlaced, cell_level, greater, side_of};
 ghost use Rattle.surface_tree.specs.Visits.{all_hits, close_area, near_area};
-ghost use Rattle.surface_tree.specs.declared.level.TheConstants.{FINER_LEVELS, MIDDLE_LEVEL};
+ghost use Rattle.surface_tree.specs.declared.level.TheConstants.{MIDDLE_LEVEL};
 ghost use Rattle.surface_tree.specs.declared.square.TheConstants.{TOP_LEVEL};
 
 /// Where squares of one size hold all items, a visit gives those whose areas have the point in the order of their keys.
@@ -15,10 +15,10 @@ pub fn one_size_comes_in_order<T>()
     ensures { (area : T → Area) (point : Point) (level : ℕ) (items : List T) → level ≤ TOP_LEVEL → All (λ i. cell_level (area i) ≡ level) items → all_hits area point items ≡ filter (λ i. has_point (area i) point) items }
 {}
 
-/// The squares of the middle level hold each area with an extent above half of their side and none above sixteen times it.
+/// The squares of the middle level hold each area with an extent above half of their side.
 #[tactic(auto, using(crate::proofs::Even::cell_middle))]
-pub fn middle_sizes_have_one_level()
-    ensures { (area : Area) → pos (side_of (MIDDLE_LEVEL - 1)) <ℤ greater (area.x1 -ℤ area.x0) (area.y1 -ℤ area.y0) → greater (area.x1 -ℤ area.x0) (area.y1 -ℤ area.y0) ≤ℤ pos (side_of (MIDDLE_LEVEL + FINER_LEVELS)) → cell_level area ≡ MIDDLE_LEVEL }
+pub fn larger_sizes_have_one_level()
+    ensures { (area : Area) → pos (side_of (MIDDLE_LEVEL - 1)) <ℤ greater (area.x1 -ℤ area.x0) (area.y1 -ℤ area.y0) → cell_level area ≡ MIDDLE_LEVEL }
 {}
 
 /// An area that a visit looks at has its center near the point.

@@ -7,13 +7,10 @@ ghost use Rattle.surface_tree.specs.declared.square.TheConstants.{PLANE_LIMIT, T
 use crate::square::{PLANE_LIMIT, TOP_LEVEL};
 use grid_exact::Area;
 
-/// The level of the squares that hold middle sizes, of 2^17 tenths of a foot. Smaller squares mean fewer items to look at in a visit,
+/// The level of the largest squares that hold areas, of 2^17 tenths of a foot. Smaller squares mean fewer items to look at in a visit,
 /// and more squares that a change has to copy. These hold the areas of heliports and of airports alike, so that a visit gives all of
 /// them in one order.
-pub(crate) const MIDDLE_LEVEL: u32 = 5;
-
-/// How many levels below its own size the squares of a large area are: their side is a sixteenth of it.
-pub(crate) const FINER_LEVELS: u32 = 4;
+pub const MIDDLE_LEVEL: u32 = 5;
 
 /// The greater of the two.
 #[tactic(auto, using(crate::proofs::Sides::casts))]
@@ -59,10 +56,8 @@ fn squares_of(level: u32) -> u32
 {
     if level < MIDDLE_LEVEL {
         level
-    } else if level < MIDDLE_LEVEL + FINER_LEVELS {
-        MIDDLE_LEVEL
     } else {
-        level - FINER_LEVELS
+        MIDDLE_LEVEL
     }
 }
 

@@ -6,10 +6,10 @@
 #![tactic(auto)]
 
 mod bounds;
+mod by_key;
 mod change;
 mod edit;
 mod entry;
-mod index;
 mod laws;
 mod level;
 mod part;
@@ -21,7 +21,8 @@ mod tree;
 mod visit;
 mod visitor;
 
-pub use laws::{close_is_near, middle_sizes_have_one_level, one_size_comes_in_order};
+pub use laws::{close_is_near, larger_sizes_have_one_level, one_size_comes_in_order};
+pub use level::MIDDLE_LEVEL;
 pub use placed::Placed;
 pub use square::{PLANE_LIMIT, TOP_LEVEL};
 pub use tree::Tree;

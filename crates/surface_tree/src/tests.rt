@@ -238,35 +238,41 @@ fn small(west: i64, south: i64) -> Area
     }
 }
 
+/// Two areas side by side, under 7 and 3.
+fn two_plots(alloc: Global) -> Result<Tree<Plot>, Fail> {
+    let one = with(alloc, &Tree::empty(alloc), 7, &small(500, 500))?;
+    with(alloc, &one, 3, &small(0, 0))
+}
+
+/// The numbers of the areas that have a point of both areas of `two_plots`.
+fn near(alloc: Global, tree: &Tree<Plot>) -> Result<Vec<u32>, Fail> {
+    seen(alloc, tree, &Point::new(700, 700)?)
+}
+
 #[test]
-fn changes_leave_other_trees(rt: HostRuntime) -> Result<(), Fail> {
-    let alloc = rt.alloc();
-    let none = Tree::<Plot>::empty(alloc);
-    let one = with(alloc, &none, 7, &small(500, 500))?;
-    let two = with(alloc, &one, 3, &small(0, 0))?;
-    let moved = with(alloc, &two, 7, &small(-9_000_000, 9_000_000))?;
-    let left = moved.without(
-        alloc,
-        &Plot {
-            number: 3,
-            area: small(500, 500),
-        },
-    )?;
-    let shared = two.share()?;
-    let near = Point::new(700, 700)?;
+fn another_area(rt: HostRuntime) -> Result<(), Fail> {
+    let two = two_plots(rt.alloc())?;
+    let moved = with(rt.alloc(), &two, 7, &small(-9_000_000, 9_000_000))?;
+    assert_eq!(rt; near(rt.alloc(), &two)?.as_slice(), [3, 7].as_slice());
+    assert_eq!(rt; near(rt.alloc(), &moved)?.as_slice(), [3].as_slice());
     let far = Point::new(-8_999_500, 9_000_500)?;
-    for (tree, at_near, at_far) in [
-        (&none, [].as_slice(), [].as_slice()),
-        (&one, [7].as_slice(), [].as_slice()),
-        (&two, [3, 7].as_slice(), [].as_slice()),
-        (&moved, [3].as_slice(), [7].as_slice()),
-        (&left, [].as_slice(), [7].as_slice()),
-        (&shared, [3, 7].as_slice(), [].as_slice()),
-    ] {
-        let hits = seen(alloc, tree, &near)?;
-        assert_eq!(rt; hits.as_slice(), at_near);
-        let hits = seen(alloc, tree, &far)?;
-        assert_eq!(rt; hits.as_slice(), at_far);
-    }
+    assert_eq!(rt; seen(rt.alloc(), &two, &far)?.len(), 0);
+    assert_eq!(rt; seen(rt.alloc(), &moved, &far)?.as_slice(), [7].as_slice());
+    Ok(())
+}
+
+#[test]
+fn taken_out(rt: HostRuntime) -> Result<(), Fail> {
+    let two = two_plots(rt.alloc())?;
+    let plot = Plot {
+        number: 3,
+        area: small(500, 500),
+    };
+    let left = two.without(rt.alloc(), &plot)?;
+    assert_eq!(rt; near(rt.alloc(), &left)?.as_slice(), [7].as_slice());
+    assert_eq!(rt;
+        near(rt.alloc(), &two.share()?)?.as_slice(),
+        [3, 7].as_slice()
+    );
     Ok(())
 }

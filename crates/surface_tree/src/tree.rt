@@ -12,15 +12,16 @@ ghost use Rattle.surface_tree.specs.Parts.{RootHolds};
 ghost use Rattle.surface_tree.specs.Visits.{all_hits, close_area, near_area};
 ghost use Rattle.surface_tree.specs.declared.square.TheConstants.{TOP_LEVEL};
 
+use crate::by_key::PlacedKey;
 use crate::change::changed_part;
 use crate::edit::Edit;
-use crate::index::{Branch, find, insert, remove, shared_branch};
 use crate::part::{Part, shared_part};
 use crate::placed::Placed;
 use crate::square::Square;
 use crate::visit::visit_part;
 use crate::visitor::Visitor;
 use grid_exact::{Area, NoMemory, Point, Steps};
+use ordered_tree::OrderedTree;
 use std::alloc::Global;
 use std::marker::Model;
 use std::sync::Arc;
@@ -30,19 +31,18 @@ use std::sync::ledger::Ledger;
 #[derive(Drop)]
 pub struct Tree<T: Placed + Drop> {
     root: Part<T>,
-    by_key: Branch<T>,
+    by_key: OrderedTree<T, PlacedKey>,
 }
 
 impl<T: Placed + Drop> Model for Tree<T> {
     ghost use Rattle.std.specs.Prelude.{List};
-    ghost use Rattle.surface_tree.specs.Index.{listed};
     ghost use Rattle.surface_tree.specs.Trees.{IsTree};
 
     ghost Value = { List T };
 
-    ghost view = { λ t. listed t.by_key };
+    ghost view = { λ t. t.by_key };
 
-    ghost invariant = { λ t. IsTree T.Key.cmp T.key_of T.area_of t.root (listed t.by_key) };
+    ghost invariant = { λ t. IsTree T.Key.cmp T.key_of T.area_of t.root t.by_key };
 }
 
 /// All squares after a change.
@@ -111,12 +111,12 @@ fn replaced_root<T: Placed + Drop>(
 
 impl<T: Placed + Drop> Tree<T> {
     /// No items. It takes no memory.
-    pub fn empty(_alloc: Global) -> Tree<T>
+    pub fn empty(alloc: Global) -> Tree<T>
         ensures { result ≡ [] }
     {
         Tree {
             root: Part::Bare,
-            by_key: Branch::Leaf,
+            by_key: OrderedTree::empty(alloc),
         }
     }
 
@@ -131,8 +131,8 @@ impl<T: Placed + Drop> Tree<T> {
         requires { IsPlaced (T.area_of (arc_value item)) }
         ensures { IfOk result (λ t. t ≡ put_by T.Key.cmp T.key_of (arc_value item) self.now) }
     {
-        let by_key = insert(alloc, &self.by_key, Arc::try_clone(&item)?)?;
-        let old = find(&self.by_key, item.key());
+        let by_key = self.by_key.with(alloc, Arc::try_clone(&item)?)?;
+        let old = self.by_key.find_shared(&item.key());
         let root = replaced_root(alloc, &self.root, old, item)?;
         Ok(Tree { root, by_key })
     }
@@ -145,8 +145,8 @@ impl<T: Placed + Drop> Tree<T> {
     pub fn without_key(&self, alloc: Global, key: T::Key) -> Result<Tree<T>, NoMemory>
         ensures { IfOk result (λ t. t ≡ removed_by T.Key.cmp T.key_of key self.now) }
     {
-        let root = cleared_root(alloc, &self.root, key, find(&self.by_key, key))?;
-        let by_key = remove(alloc, &self.by_key, key)?;
+        let root = cleared_root(alloc, &self.root, key, self.by_key.find_shared(&key))?;
+        let by_key = self.by_key.without(alloc, &key)?;
         Ok(Tree { root, by_key })
     }
 
@@ -170,14 +170,14 @@ impl<T: Placed + Drop> Tree<T> {
         ensures { IfOk result (λ t. t ≡ self.now) }
     {
         let root = shared_part(&self.root)?;
-        let by_key = shared_branch(&self.by_key)?;
+        let by_key = self.by_key.share()?;
         Ok(Tree { root, by_key })
     }
 
     /// Gives the visitor each item whose area has the point, once, and no other. It takes no memory.
     ///
     /// The items come in the order of their keys where squares of one size hold them all, as they do areas with an extent above
-    /// 65,536 and none above 2,097,152 tenths of a foot. Otherwise those of larger squares come first.
+    /// 65,536 tenths of a foot. Otherwise those of larger squares come first.
     ///
     /// A step is counted for each square, of which there is at most one of each level, and for each item that is looked at.
     pub fn visit<L: Ledger, W: Visitor<T>>(&self, x: &Point, visitor: &mut W, steps: &mut Steps<L>)

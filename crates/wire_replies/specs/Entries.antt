@@ -2,10 +2,10 @@
 use Rattle.std.specs.Prelude.{ℕ, List, ◌++◌, codes}
 use Rattle.std.specs.Fmt.{decimal}
 use Rattle.std.specs.List.{flat_map}
-use Rattle.oe_findings.specs.declared.finding.Rule.{Rule}
-use Rattle.oe_findings.specs.declared.finding.Rule.TheVariants as rules
-use Rattle.oe_findings.specs.declared.finding.SurfaceKey.{SurfaceKey}
-use Rattle.oe_findings.specs.declared.finding.Finding.{Finding}
+use Rattle.airfield_findings.specs.declared.finding.Rule.{Rule}
+use Rattle.airfield_findings.specs.declared.finding.Rule.TheVariants as rules
+use Rattle.airfield_findings.specs.declared.finding.SurfaceKey.{SurfaceKey}
+use Rattle.airfield_findings.specs.declared.finding.Finding.{Finding}
 use Rattle.wire_values.specs.Words.{name_text}
 
 -- the paragraph of part 77 that the rule is

@@ -1,8 +1,8 @@
 -- The texts of replies, each with the line feed that ends it.
 use Rattle.std.specs.Prelude.{ℕ, List, ◌++◌, length, Bool, codes, if◌then◌else◌}
 use Rattle.std.specs.Fmt.{decimal}
-use Rattle.oe_findings.specs.declared.finding.Finding.{Finding}
-use Rattle.oe_findings.specs.declared.verdict.Verdict.{Verdict}
+use Rattle.airfield_findings.specs.declared.finding.Finding.{Finding}
+use Rattle.airfield_findings.specs.declared.verdict.Verdict.{Verdict}
 use Rattle.wire_values.specs.Plains.{plain_word}
 use Rattle.wire_replies.specs.Entries.{entries_text}
 use Rattle.wire_replies.specs.Refusals.{refusal_number, refusal_name, refusal_values}

@@ -6,9 +6,9 @@ ghost use Rattle.wire_values.specs.Words.{name_text};
 ghost use Rattle.wire_replies.specs.Entries as spec;
 
 use crate::fields::{append_next_word, append_number};
+use airfield_findings::{Finding, Rule, SurfaceKey};
 use airfields::RunwayName;
 use grid_exact::NoMemory;
-use oe_findings::{Finding, Rule, SurfaceKey};
 use wire_values::{FieldValue, append_text};
 
 fn rule_word(rule: Rule) -> &'static str

@@ -10,9 +10,9 @@ use crate::fields::{append_next_number, append_next_word, append_number};
 use crate::refusals::append_refused;
 use crate::reply::{Outcome, Reply};
 use crate::rows::append_row;
+use airfield_findings::{Finding, Verdict};
 use airfields::Airfield;
 use grid_exact::{NoMemory, Text};
-use oe_findings::{Finding, Verdict};
 use std::alloc::Global;
 use wire_values::append_text;
 

@@ -1,8 +1,8 @@
 //! Replies.
 
+use airfield_findings::{Findings, Verdict};
 use airport_register::AmendRefusal;
 use grid_exact::Text;
-use oe_findings::{Findings, Verdict};
 use wire_values::Plain;
 
 /// What an accepted request led to.

@@ -1,10 +1,10 @@
 //! The texts of replies.
 
 use crate::{Outcome, Plain, Refusal, Reply, append_airfield, append_found, write_reply};
+use airfield_findings::{Finding, Findings, Rule, SurfaceKey, Verdict};
 use airfields::{Airfield, Airport, Category, FieldId, Heliport, RunwayName, Runways};
 use airport_register::AmendRefusal;
 use grid_exact::{NoMemory, Point, Text};
-use oe_findings::{Finding, Findings, Rule, SurfaceKey, Verdict};
 use std::alloc::Global;
 use std::test::Fail;
 

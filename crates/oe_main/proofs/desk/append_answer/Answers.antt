@@ -1,5 +1,5 @@
 use Rattle.std.proofs.Common.{◌<◌, length, arith}
-use Rattle.oe_findings.proofs.EntryFacts.{where_ok}
+use Rattle.airfield_findings.proofs.EntryFacts.{where_ok}
 use Rattle.oe_main.proofs.StepFacts.{told, refused}
 use Rattle.oe_main.proofs.desk.append_answer.Goals as goal
 

@@ -1,4 +1,4 @@
-use Rattle.oe_findings.proofs.EntryFacts.{where_ok}
+use Rattle.airfield_findings.proofs.EntryFacts.{where_ok}
 use Rattle.oe_main.proofs.StepFacts.{refused_long}
 use Rattle.oe_main.proofs.desk.append_too_long.Goals as goal
 

@@ -28,11 +28,6 @@ returns-then-not-is_at_most c =
     let none : IsExcess (slope_surface a r x) c.args.top None = λ p. (let t : c.is_at_most.result ≡ true = k.1 p.0.within in let f : c.is_at_most.result ≡ false = c.if-not-is_at_most.true in cc) in
     IsExcess-unique (slope_surface a r x) c.args.top None (slope_excess a r x c.args.top) none (slope_excess_is a r x c.args.top c.requires.candidate.proper c.requires.top)
 
-pub excess-requires-clause-lowest : goal.excess-requires-clause-lowest
-excess-requires-clause-lowest c =
-    let fl : FitsSigned w64 c.lowest.result = omega (arith, ints) in
-    λ z h. simp to_z-of_z (c.lowest.ensures.lowest z h)
-
 -- what the search says, of the slope from the runway
 abbrev IsOver : Fraction → ℤ → ℤ → ℤ → Option ℕ → Type 0
 IsOver d ratio base top e = IsExcess (covering (λ z. IsAboveRootOf d (run_of ratio base z)) (λ z. IsAtLeastRootOf d (run_of ratio base z))) top e
@@ -46,7 +41,7 @@ returns c =
     let a = c.args.airport.now in
     let r = c.args.runway.now.runway.now in
     let x = c.args.point.now in
-    let limit = c.limit-limit.result in
+    let limit = c.limit.result in
     let fr : FitsSigned w64 c.range.result = omega (arith, ints) in
     let ft : FitsSigned w64 c.args.top = c.ranges.top in
     let d = distance_is x c.args.runway.now _ c.requires.candidate c.distance.ensures in
@@ -54,7 +49,7 @@ returns c =
     let k = within c.is_at_most.result (fraction c.distance.result) (distance_of x r) c.range.result (range_of (sub_of a.runways)) d (c.range.ensures ∙ ap range_of c.requires.sub) t in
     let h : IsOver (fraction limit.distance) limit.ratio limit.base c.args.top c.excess.result = simp to_z-of_z at c.excess.ensures.excess in
     let over = same_limit (fraction limit.distance) (distance_of x r) limit.ratio (ratio_of (sub_of a.runways)) limit.base (elevation_of x r) c.args.top c.excess.result
-    c.limit-limit.ensures.distance (c.limit-limit.ensures.ratio ∙ ap ratio_of c.requires.sub) c.limit-limit.ensures.base h in
+    c.limit.ensures.distance (c.limit.ensures.ratio ∙ ap ratio_of c.requires.sub) c.limit.ensures.base h in
     IsExcess-unique (slope_surface a r x) c.args.top c.excess.result (slope_excess a r x c.args.top)
     (IsExcess-covered (slope_surface a r x) c.args.top c.excess.result (record { described = c.requires.described; within = k.0 c.if-not-is_at_most.false }) over)
     (slope_excess_is a r x c.args.top c.requires.candidate.proper c.requires.top)

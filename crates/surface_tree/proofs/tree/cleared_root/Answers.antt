@@ -2,7 +2,7 @@ use Rattle.std.proofs.Common.{◌≡◌, sym, Some}
 use Rattle.std.specs.Arc.{arc_value}
 use Rattle.std.proofs.lemmas.Result.{IfOk-weaker}
 use Rattle.ordered_list.specs.Ordered.{found_by}
-use Rattle.surface_tree.proofs.Order.{none_found}
+use Rattle.ordered_tree.proofs.Order.{none_found}
 use Rattle.surface_tree.proofs.Wholes.{fits_found}
 use Rattle.surface_tree.proofs.tree.cleared_root.Goals as goal
 

@@ -2,7 +2,7 @@ use Rattle.std.proofs.Common.{◌∙◌}
 use Rattle.std.specs.Arc.{arc_value}
 use Rattle.std.proofs.lemmas.Result.{IfOk-weaker}
 use Rattle.ordered_list.specs.Ordered.{removed_by}
-use Rattle.surface_tree.proofs.Order.{put_removed}
+use Rattle.ordered_tree.proofs.Order.{put_removed}
 use Rattle.surface_tree.proofs.Wholes.{fits_new, fits_same}
 use Rattle.surface_tree.proofs.tree.replaced_root.Goals as goal
 

@@ -1,10 +1,8 @@
-use Rattle.std.proofs.Common.{◌≡◌, pos, sym, subst, ap, ◌∙◌}
+use Rattle.std.proofs.Common.{◌≡◌, pos, subst, ap, ◌∙◌}
 use Rattle.airfields.specs.Airfields.{IsHeldHeliport}
 use Rattle.airfields.specs.declared.airfield.Heliport.{Heliport}
 use Rattle.grid_exact.specs.Area.{Has}
 use Rattle.grid_exact.specs.Lines.{offset}
-use Rattle.grid_exact.specs.declared.area.Area.{Area}
-use Rattle.grid_exact.specs.declared.point.Point.{Point}
 use Rattle.outline_boxes.specs.Boxes.{IsLeastBox}
 use Rattle.outline_boxes.specs.Rectangles.{HasRectangle, HasRectangleWithin}
 use Rattle.outline_boxes.specs.Trapezoids.{HasTrapezoid}

@@ -1,5 +1,5 @@
 use Rattle.std.proofs.Common.{subst}
-use Rattle.oe_findings.proofs.EntryFacts.{where_ok}
+use Rattle.airfield_findings.proofs.EntryFacts.{where_ok}
 use Rattle.oe_main.specs.declared.state.DeskState.{DeskState}
 use Rattle.oe_main.specs.Desk.{Step}
 use Rattle.oe_main.proofs.desk.DeskAnswering.answer.Goals as goal

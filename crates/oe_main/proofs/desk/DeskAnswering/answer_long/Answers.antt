@@ -1,4 +1,4 @@
-use Rattle.oe_findings.proofs.EntryFacts.{where_ok}
+use Rattle.airfield_findings.proofs.EntryFacts.{where_ok}
 use Rattle.oe_main.proofs.desk.DeskAnswering.answer_long.Goals as goal
 
 pub returns-clause-reply : goal.returns-clause-reply

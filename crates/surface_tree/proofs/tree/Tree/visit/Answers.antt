@@ -3,7 +3,6 @@ use Rattle.std.specs.List.{filter}
 use Rattle.std.specs.List.Sorted.{IsPermutation}
 use Rattle.grid_exact.specs.Area.{has_point}
 use Rattle.surface_tree.specs.Squares.{IsIn}
-use Rattle.surface_tree.specs.Index.{listed}
 use Rattle.surface_tree.specs.Visits.{all_hits, close_area, near_area}
 use Rattle.surface_tree.specs.Parts.{Holds}
 use Rattle.surface_tree.proofs.Wholes.{order_whole, seen_whole, looks_whole, close_count, whole_in}
@@ -15,7 +14,7 @@ returns-clause-order g c =
     let x = c.args.x.now in
     let w = c.whole.result in
     let e = c.whole.ensures in
-    let v = listed c.self.inside.by_key in
+    let v = c.self.inside.by_key in
     let i : IsIn w.level w.west w.south x = rw (e.level, e.west, e.south) (whole_in x) in
     let h : Holds g.T.Placed.area_of v w.level w.west w.south c.self.inside.root = rw (e.level, e.west, e.south) c.self.invariant.holds in
     let P : List g.row.T.Denot → Type 0 = λ zs. g.W.Visitor.seen u c.visit_part.new.visitor (xs ++ all_hits g.T.Placed.area_of x zs) in
@@ -27,7 +26,7 @@ returns-clause-seen g c =
     let x = c.args.x.now in
     let w = c.whole.result in
     let e = c.whole.ensures in
-    let v = listed c.self.inside.by_key in
+    let v = c.self.inside.by_key in
     let i : IsIn w.level w.west w.south x = rw (e.level, e.west, e.south) (whole_in x) in
     let h : Holds g.T.Placed.area_of v w.level w.west w.south c.self.inside.root = rw (e.level, e.west, e.south) c.self.invariant.holds in
     let P : List g.row.T.Denot → Type 0 = λ zs. (ys : List g.row.T.Denot) × IsPermutation (filter (λ i. has_point (g.T.Placed.area_of i) x) zs) ys × g.W.Visitor.seen u c.visit_part.new.visitor (xs ++ ys) in
@@ -38,7 +37,7 @@ returns-clause-close g c =
     let x = c.args.x.now in
     let w = c.whole.result in
     let e = c.whole.ensures in
-    let v = listed c.self.inside.by_key in
+    let v = c.self.inside.by_key in
     let i : IsIn w.level w.west w.south x = rw (e.level, e.west, e.south) (whole_in x) in
     let h : Holds g.T.Placed.area_of v w.level w.west w.south c.self.inside.root = rw (e.level, e.west, e.south) c.self.invariant.holds in
     let a = c.visit_part.ensures.cost v i h in
@@ -50,7 +49,7 @@ returns-clause-cost g c =
     let x = c.args.x.now in
     let w = c.whole.result in
     let e = c.whole.ensures in
-    let v = listed c.self.inside.by_key in
+    let v = c.self.inside.by_key in
     let i : IsIn w.level w.west w.south x = rw (e.level, e.west, e.south) (whole_in x) in
     let h : Holds g.T.Placed.area_of v w.level w.west w.south c.self.inside.root = rw (e.level, e.west, e.south) c.self.invariant.holds in
     let a = c.visit_part.ensures.cost v i h in

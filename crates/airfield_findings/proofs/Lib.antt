@@ -1,0 +1,7 @@
+pub mod SameFindings
+pub mod ListFacts
+pub mod EntryFacts
+pub mod SlopeFacts
+pub mod ReachFacts
+pub mod Counts
+pub mod PlaceFacts

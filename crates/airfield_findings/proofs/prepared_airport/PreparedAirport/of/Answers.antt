@@ -1,0 +1,31 @@
+use Rattle.std.proofs.Common.{◌≡◌, ℤ, List, ap, sym, ◌∙◌, subst, FitsSigned, w64, to_z, of_z, to_z-of_z, arith}
+use Rattle.std.proofs.lemmas.Int.{ints}
+use Rattle.airfields.specs.declared.runway.Runway.{Runway}
+use Rattle.airfields.specs.declared.airfield.Airport.{Airport}
+use Rattle.airfield_findings.specs.PreparedAirports.{IsPreparedAirport}
+use Rattle.airfield_findings.proofs.prepared_airport.PreparedAirport.of.Goals as goal
+
+abbrev made : Airport → ℤ → List Runway → Airport
+made a z rs = record { id = a.id; category = a.category; arp = a.arp; elevation = z; runways = rs }
+
+same : (a : Airport) (z : ℤ) (rs : List Runway) → z ≡ a.elevation → rs ≡ a.runways → a ≡ made a z rs
+same a z rs p q = sym (ap (λ (y : ℤ). made a y rs) p ∙ ap (λ (ys : List Runway). made a a.elevation ys) q)
+
+pub invariant_of-result : goal.invariant_of-result
+invariant_of-result c =
+    let a = c.args.airport.now in
+    let held = c.requires.held in
+    let fe : FitsSigned w64 a.elevation = omega (arith, ints, held.elevation.least, held.elevation.most) in
+    let e : to_z w64 (of_z w64 a.elevation) ≡ a.elevation = to_z-of_z fe in
+    subst (λ (b : Airport). IsPreparedAirport b c.in_ok-hull.hull c.in_ok-strips.strips.items c.near_area-near.result c.notice_area-notice.result c.surfaces_area-surfaces.result)
+    (same a (to_z w64 (of_z w64 a.elevation)) c.in_ok-copy.field-0 e c.in_ok-copy.ensures.copied)
+    (record {
+      held = held;
+      hull_is = c.in_ok-hull.ensures.dome;
+      strips_are = c.in_ok-strips.ensures.strips ∙ c.as_slice.ensures.value;
+      reach = record {
+        near_none = c.near_area-near.ensures.skips;
+        notice_none = λ x top level n. c.notice_area-notice.ensures.skips x top n;
+        surfaces_none = c.surfaces_area-surfaces.ensures a held c.in_ok-hull.ensures.dome (c.as_slice-2.ensures.value ∙ c.in_ok-strips.ensures.strips ∙ c.as_slice.ensures.value);
+      };
+    })

@@ -1,0 +1,46 @@
+-- How far an airfield reaches: where it stands among others, and outside of which boxes it gives no entry.
+use Rattle.std.specs.Prelude.{◌≡◌, ℕ, ℤ, List, [], false, Option, None, IsSomeAnd}
+use Rattle.grid_exact.specs.Area.{Has, has_point}
+use Rattle.grid_exact.specs.Level.{IsLevel}
+use Rattle.grid_exact.specs.declared.area.Area.{Area}
+use Rattle.grid_exact.specs.declared.cap.Cap.{Cap}
+use Rattle.grid_exact.specs.declared.point.Point.{Point}
+use Rattle.airfields.specs.Sites.{Site}
+use Rattle.airfields.specs.declared.airfield.Airfield.{Airfield}
+use Rattle.airfields.specs.declared.airfield.Airport.{Airport}
+use Rattle.airfields.specs.declared.runway.Runway.{Runway}
+use Rattle.height_rules.specs.NearAirport.{near_excess}
+use Rattle.height_rules.specs.Heights.{notice_top, standards_top}
+use Rattle.runway_notice.specs.Notices.{notice_slope}
+use Rattle.imaginary_surfaces.specs.Areas.{HullHas}
+use Rattle.surface_tree.specs.Levels.{IsPlaced, cell_level}
+use Rattle.surface_tree.specs.declared.level.TheConstants.{MIDDLE_LEVEL}
+use Rattle.airfield_findings.specs.Entries.{of_airfield, of_runway, of_surfaces, slope_entries}
+
+-- both tops of a structure are levels
+pub record HasLevels (site : Site) : Type 0 where
+  pub standards_level : IsLevel (standards_top site)
+  pub notice_level : IsLevel (notice_top site)
+
+-- the area lies in the plane of a tree, whose squares of one size hold the areas of all airfields, and the airfield has no entry for a
+-- structure outside of it
+pub record IsInPlace (area : Area) (f : Airfield) : Type 0 where
+  pub placed : IsPlaced area
+  pub level : cell_level area ≡ MIDDLE_LEVEL
+  pub standards : (site : Site) → HasLevels site → has_point area site.at ≡ false → of_airfield site f ≡ []
+  pub slopes : (site : Site) → HasLevels site → has_point area site.at ≡ false → slope_entries site f ≡ []
+
+-- there is a box, and it has the point
+abbrev pub IsOver : Option Area → Point → Type 0
+IsOver area x = IsSomeAnd area (λ a. Has a x)
+
+-- the boxes of the parts of an airport: 77.17(a)(2), 77.9(b), and the surfaces of 77.19
+pub record IsAirportReach (a : Airport) (near notice surfaces : Option Area) : Type 0 where
+  pub near_none : (site : Site) → ¬ IsOver near site.at → near_excess a site ≡ None
+  pub notice_none : (x : Point) (top : ℤ) → IsLevel top → ¬ IsOver notice x → notice_slope a x top ≡ None
+  pub surfaces_none : (x : Point) (top : ℤ) → IsLevel top → ¬ IsOver surfaces x → of_surfaces x top a ≡ []
+
+-- no level is above a surface of the runway outside of the area, where the box `hull` has each point that the horizontal or the
+-- conical surface lies over
+abbrev pub IsRunwayReach : (hull : Area) → Runway → Area → Type 0
+IsRunwayReach hull r area = (id : List ℕ) (x : Point) (top : ℤ) (cap : Cap) → IsLevel top → HullHas hull x cap → ¬ Has area x → of_runway id x top cap r ≡ []

@@ -1,0 +1,73 @@
+//! What takes the entries of a list of findings.
+
+ghost use Rattle.std.specs.Prelude.{◌≡◌, ◌∷◌, ◌++◌, [], List, OnOk, OnErr, IfOk, IfErr};
+ghost use Rattle.airfield_findings.specs.declared.finding.Finding.{Finding as AFinding};
+
+use crate::finding::Finding;
+use crate::findings::Findings;
+use crate::verdict::Verdict;
+use grid_exact::NoMemory;
+
+/// What takes the entries of a list of findings, one by one, in their order.
+pub trait Collector: Sized {
+    /// It has taken these entries.
+    ghost taken: { Self → List AFinding → Type 0 };
+
+    /// What its failing shows.
+    ghost fails: { Type 0 };
+
+    /// Takes one entry more.
+    fn take(&mut self, finding: Finding) -> Result<(), NoMemory>
+        ensures taken { OnOk result ((list : List AFinding) → taken self.old list → taken self.new (list ++ finding ∷ [])) }
+        ensures fails { OnErr result fails };
+
+    /// The entries that this one and then another have taken, as one.
+    fn join(self, rest: Self) -> Result<Self, NoMemory>
+        ensures taken { IfOk result (λ all. (list more : List AFinding) → taken self list → taken rest more → taken all (list ++ more)) }
+        ensures fails { IfErr result (λ _. fails) };
+}
+
+impl Collector for Findings {
+    ghost use Rattle.std.specs.Prelude.{◌≡◌, ⊤};
+
+    ghost taken = { λ findings list. findings ≡ list };
+
+    ghost fails = { ⊤ };
+
+    fn take(&mut self, finding: Finding) -> Result<(), NoMemory> {
+        self.push(finding)?;
+        Ok(())
+    }
+
+    fn join(self, rest: Findings) -> Result<Findings, NoMemory> {
+        self.followed_by(rest)
+    }
+}
+
+/// A verdict takes entries by counting them; it needs no memory.
+impl Collector for Verdict {
+    ghost use Rattle.std.specs.Prelude.{◌≡◌};
+    ghost use Rattle.airfield_findings.specs.Verdicts.{tally_of};
+
+    ghost taken = { λ verdict list. verdict ≡ tally_of list };
+
+    ghost fails = { ⊥ };
+
+    fn take(&mut self, finding: Finding) -> Result<(), NoMemory> {
+        if finding.rule.is_notice() {
+            self.notice = true;
+        } else {
+            self.obstruction = true;
+        }
+        self.entries = self.entries.saturating_add(1);
+        Ok(())
+    }
+
+    fn join(self, rest: Verdict) -> Result<Verdict, NoMemory> {
+        Ok(Verdict {
+            notice: self.notice || rest.notice,
+            obstruction: self.obstruction || rest.obstruction,
+            entries: self.entries.saturating_add(rest.entries),
+        })
+    }
+}

@@ -1,0 +1,136 @@
+//! Lists of findings.
+
+ghost use Rattle.std.specs.Prelude.{◌≡◌, ◌∷◌, ◌++◌, ◌↔◌, [], length, slice_get, option_copied, IfOk, OnOk, OnErr, IsTrue};
+
+use crate::finding::Finding;
+use grid_exact::NoMemory;
+use std::alloc::Global;
+use std::marker::Model;
+
+/// A list of findings.
+#[derive(Drop)]
+pub struct Findings {
+    items: Vec<Finding>,
+    /// Room for the findings of another list while this one is made, kept from list to list.
+    spare: Vec<Finding>,
+}
+
+impl Model for Findings {
+    ghost use Rattle.std.specs.Prelude.{List};
+    ghost use Rattle.airfield_findings.specs.declared.finding.Finding.{Finding};
+
+    ghost Value = { List Finding };
+
+    ghost view = { λ f. f.items.items };
+}
+
+impl Findings {
+    /// No findings. It takes no memory.
+    pub fn new(alloc: Global) -> Findings
+        ensures { result ≡ [] }
+    {
+        Findings {
+            items: Vec::new(alloc),
+            spare: Vec::new(alloc),
+        }
+    }
+
+    /// Appends a finding.
+    ///
+    /// # Errors
+    ///
+    /// `NoMemory` where memory was refused; the list is then unchanged.
+    pub fn push(&mut self, finding: Finding) -> Result<(), NoMemory>
+        ensures pushed { OnOk result (self.new ≡ self.old ++ finding ∷ []) }
+        ensures kept { OnErr result (self.new ≡ self.old) }
+    {
+        self.items.extend_from_slice(&[finding])?;
+        Ok(())
+    }
+
+    /// How many findings there are.
+    pub fn len(&self) -> usize
+        ensures { result ≡ length self.now }
+    {
+        self.items.len()
+    }
+
+    /// Whether there are none.
+    pub fn is_empty(&self) -> bool
+        ensures { IsTrue result ↔ self.now ≡ [] }
+    {
+        self.items.is_empty()
+    }
+
+    /// The finding at place `i`, counted from 0.
+    pub fn get(&self, i: usize) -> Option<&Finding>
+        ensures { option_copied result ≡ slice_get self.now i }
+    {
+        self.items.get(i)
+    }
+
+    /// The findings in their order.
+    pub fn as_slice(&self) -> &[Finding]
+        ensures { result.now ≡ self.now }
+    {
+        self.items.as_slice()
+    }
+
+    /// Two empty lists, in the room of this one.
+    pub fn emptied(self, alloc: Global) -> (Findings, Findings)
+        ensures first { result.0 ≡ [] }
+        ensures second { result.1 ≡ [] }
+    {
+        let mut first = self.items;
+        let mut second = self.spare;
+        first.clear();
+        second.clear();
+        (
+            Findings {
+                items: first,
+                spare: Vec::new(alloc),
+            },
+            Findings {
+                items: second,
+                spare: Vec::new(alloc),
+            },
+        )
+    }
+
+    /// The findings of this list and then those of another, whose room is kept.
+    ///
+    /// # Errors
+    ///
+    /// `NoMemory` where memory was refused.
+    pub fn followed_by(self, rest: Findings) -> Result<Findings, NoMemory>
+        ensures { IfOk result (λ f. f ≡ self ++ rest) }
+    {
+        let mut items = self.items;
+        items.extend_from_slice(rest.items.as_slice())?;
+        Ok(Findings {
+            items,
+            spare: rest.items,
+        })
+    }
+
+    /// A copy.
+    ///
+    /// # Errors
+    ///
+    /// `NoMemory` where memory was refused.
+    pub fn copy(&self, alloc: Global) -> Result<Findings, NoMemory>
+        ensures { IfOk result (λ f. f ≡ self.now) }
+    {
+        Ok(Findings {
+            items: Vec::from_slice(alloc, self.items.as_slice())?,
+            spare: Vec::new(alloc),
+        })
+    }
+
+    /// Whether the two lists have the same findings in the same order.
+    pub fn equal(&self, other: &Findings) -> bool
+        ensures { IsTrue result ↔ self.now ≡ other.now }
+    {
+        self.items == other.items
+    }
+}

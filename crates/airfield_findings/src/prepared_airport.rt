@@ -1,0 +1,146 @@
+//! Airports with their surfaces, prepared for many structures.
+
+ghost use Rattle.std.specs.Prelude.{◌≡◌, ℤ, [], List, IfOk, take, false};
+ghost use Rattle.std.specs.List.{All};
+ghost use Rattle.airfields.specs.Airfields.{IsHeldAirport};
+ghost use Rattle.airfields.specs.Runways.{IsProper};
+ghost use Rattle.grid_exact.specs.Level.{IsLevel};
+ghost use Rattle.height_rules.specs.NearAirport.{near_excess};
+ghost use Rattle.horizontal_hull.specs.Arcs.{dome_of};
+ghost use Rattle.runway_notice.specs.Notices.{notice_slope};
+ghost use Rattle.airfields.specs.declared.airfield.Airfield.TheVariants.{Airport as AnAirport};
+ghost use Rattle.airfield_findings.specs.Entries.{of_surfaces};
+ghost use Rattle.airfield_findings.specs.Reaches.{IsInPlace};
+
+use crate::reach::{is_over, place, surfaces_area};
+use airfields::{Airport, Filing, Runway};
+use grid_exact::{Area, NoMemory, Point};
+use height_rules::{excess_near_airport, near_area};
+use horizontal_hull::Hull;
+use imaginary_surfaces::Strip;
+use runway_notice::{Slope, excess_notice, notice_area};
+use std::alloc::Global;
+use std::marker::Model;
+
+/// An airport with its surfaces; seen as the airport.
+#[derive(Drop)]
+pub struct PreparedAirport {
+    airport: Airport,
+    hull: Hull,
+    strips: Vec<Strip>,
+    /// The box of 77.17(a)(2), where the airport has such a limit.
+    near: Option<Area>,
+    /// The box of 77.9(b), where notice is asked about the airport.
+    notice: Option<Area>,
+    /// The box of the surfaces of 77.19, where the airport has them.
+    surfaces: Option<Area>,
+}
+
+impl Model for PreparedAirport {
+    ghost use Rattle.airfields.specs.declared.airfield.Airport.{Airport};
+    ghost use Rattle.airfield_findings.specs.PreparedAirports.{IsPreparedAirport};
+
+    ghost Value = { Airport };
+
+    ghost view = { λ p. p.airport };
+
+    ghost invariant = { λ p. IsPreparedAirport p.airport p.hull p.strips.items p.near p.notice p.surfaces };
+}
+
+/// The surfaces of runways, each prepared.
+fn strips_of(alloc: Global, runways: &[Runway]) -> Result<Vec<Strip>, NoMemory>
+    requires proper { All IsProper runways.now }
+    ensures strips { IfOk result (λ s. s.items ≡ runways.now) }
+{
+    let mut strips = Vec::with_capacity(alloc, runways.len())?;
+    for runway in runways {
+        strips.push(Strip::of(runway))?;
+    }
+    Ok(strips)
+}
+
+impl PreparedAirport {
+    /// The airport with its surfaces prepared.
+    pub fn of(alloc: Global, airport: &Airport) -> Result<PreparedAirport, NoMemory>
+        requires held { IsHeldAirport airport.now }
+        ensures airport { IfOk result (λ p. p ≡ airport.now) }
+    {
+        let hull = Hull::of(alloc, airport)?;
+        let strips = strips_of(alloc, airport.runways.as_slice())?;
+        let near = near_area(airport);
+        let notice = notice_area(airport);
+        let surfaces = surfaces_area(&hull, strips.as_slice());
+        let airport = Airport {
+            id: airport.id,
+            category: airport.category,
+            arp: airport.arp,
+            elevation: airport.elevation,
+            runways: airport.runways.copy(alloc)?,
+        };
+        Ok(PreparedAirport {
+            airport,
+            hull,
+            strips,
+            near,
+            notice,
+            surfaces,
+        })
+    }
+
+    /// The airport.
+    pub fn airport(&self) -> &Airport
+        ensures airport { result.now ≡ self.now }
+        ensures held { IsHeldAirport result.now }
+    {
+        &self.airport
+    }
+
+    /// Its horizontal and conical surfaces.
+    pub fn hull(&self) -> &Hull
+        ensures { result.now ≡ dome_of self.now }
+    {
+        &self.hull
+    }
+
+    /// The surfaces of its runways, in order of their names.
+    pub fn strips(&self) -> &[Strip]
+        ensures strips { result.now ≡ self.now.runways }
+    {
+        self.strips.as_slice()
+    }
+
+    /// How far the structure is above the limit near the airport, 77.17(a)(2).
+    pub(crate) fn excess_near(&self, filing: &Filing) -> Option<u32>
+        ensures { result ≡ near_excess self.now filing.now }
+    {
+        if !is_over(&self.near, &filing.at) {
+            return None;
+        }
+        excess_near_airport(&self.airport, filing)
+    }
+
+    /// The slope of 77.9(b) that the top of a structure is above at a point.
+    pub(crate) fn excess_notice(&self, at: &Point, top: i64) -> Option<Slope>
+        requires top { IsLevel top }
+        ensures { result ≡ notice_slope self.now at.now top }
+    {
+        if !is_over(&self.notice, at) {
+            return None;
+        }
+        excess_notice(&self.airport, at, top)
+    }
+
+    /// Whether a surface of 77.19 may lie over the point.
+    pub(crate) fn has_surfaces_over(&self, at: &Point) -> bool
+        ensures none { result ≡ false → (top : ℤ) → IsLevel top → of_surfaces at.now top self.now ≡ [] }
+    {
+        is_over(&self.surfaces, at)
+    }
+
+    /// The area outside of which the airport gives no findings.
+    pub(crate) fn area(&self) -> Area
+        ensures { IsInPlace result (AnAirport self.now) }
+    {
+        place(&self.airport.arp, &self.near, &self.notice, &self.surfaces)
+    }
+}

@@ -1,0 +1,86 @@
+//! The notice slope of one airfield.
+
+ghost use Rattle.std.specs.Prelude.{◌≡◌, ◌++◌, List, OnOk, OnErr};
+ghost use Rattle.airfield_findings.specs.Entries.{rule_b as rule_b_of, rule_b3 as rule_b3_of, slope_entries};
+ghost use Rattle.airfield_findings.specs.Prepared.{airfield_of};
+ghost use Rattle.airfields.specs.declared.airfield.Airfield.TheVariants.{Airport as AnAirport, Heliport as AHeliport};
+ghost use Rattle.airfield_findings.specs.declared.finding.Finding.{Finding as AFinding};
+
+use crate::collector::Collector;
+use crate::entry::{put_on_field, runway_key};
+use crate::finding::{Finding, Rule};
+use crate::prepared::Prepared;
+use crate::prepared_airport::PreparedAirport;
+use crate::surfaces::Surfaces;
+use airfields::Filing;
+use grid_exact::NoMemory;
+use height_rules::top_for_notice;
+use heliport_surfaces::Pad;
+use runway_notice::Sub;
+
+/// What 77.9(b)(1) and (2) are called for the structure.
+fn rule_b(filing: &Filing, sub: Sub) -> Rule
+    ensures { result ≡ rule_b_of filing.now sub }
+{
+    match (filing.kind.is_traverse_way(), sub) {
+        (true, Sub::B1) => Rule::WayB1,
+        (true, Sub::B2) => Rule::WayB2,
+        (false, Sub::B1) => Rule::NoticeB1,
+        (false, Sub::B2) => Rule::NoticeB2,
+    }
+}
+
+/// What 77.9(b)(3) is called for the structure.
+fn rule_b3(filing: &Filing) -> Rule
+    ensures { result ≡ rule_b3_of filing.now }
+{
+    if filing.kind.is_traverse_way() {
+        Rule::WayB3
+    } else {
+        Rule::NoticeB3
+    }
+}
+
+/// Hands over the entry of the notice slope of an airport.
+fn put_airport_slope<C: Collector>(
+    out: &mut C,
+    filing: &Filing,
+    prepared: &PreparedAirport,
+) -> Result<(), NoMemory>
+    ensures taken { OnOk result ((list : List AFinding) → C.taken out.old list → C.taken out.new (list ++ slope_entries filing.now (AnAirport prepared.now))) }
+    ensures fails { OnErr result C.fails }
+{
+    let airport = prepared.airport();
+    if let Some(slope) = prepared.excess_notice(&filing.at, top_for_notice(filing)) {
+        out.take(Finding {
+            rule: rule_b(filing, slope.sub),
+            key: runway_key(airport.id, slope.runway, 0),
+            excess: slope.excess,
+        })?;
+    }
+    Ok(())
+}
+
+/// Hands over the entry of the notice slope of a heliport.
+fn put_heliport_slope<C: Collector>(out: &mut C, filing: &Filing, pad: &Pad) -> Result<(), NoMemory>
+    ensures taken { OnOk result ((list : List AFinding) → C.taken out.old list → C.taken out.new (list ++ slope_entries filing.now (AHeliport pad.now))) }
+    ensures fails { OnErr result C.fails }
+{
+    let excess = pad.excess_notice(&filing.at, top_for_notice(filing));
+    put_on_field(out, rule_b3(filing), pad.heliport().id, 0, excess)
+}
+
+/// Hands over the entry of the notice slope of one airfield.
+pub fn put_slope<C: Collector>(
+    out: &mut C,
+    filing: &Filing,
+    prepared: &Prepared,
+) -> Result<(), NoMemory>
+    ensures taken { OnOk result ((list : List AFinding) → C.taken out.old list → C.taken out.new (list ++ slope_entries filing.now (airfield_of prepared.now))) }
+    ensures fails { OnErr result C.fails }
+{
+    match &prepared.surfaces {
+        Surfaces::Airport(airport) => put_airport_slope(out, filing, airport),
+        Surfaces::Heliport(pad) => put_heliport_slope(out, filing, pad),
+    }
+}

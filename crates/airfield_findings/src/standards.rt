@@ -1,0 +1,213 @@
+//! The standards that a structure exceeds over one airfield.
+
+ghost use Rattle.std.specs.Prelude.{◌≡◌, ◌++◌, List, OnOk, OnErr};
+ghost use Rattle.std.specs.List.{flat_map};
+ghost use Rattle.grid_exact.specs.Level.{IsLevel};
+ghost use Rattle.horizontal_hull.specs.Arcs.{dome_of};
+ghost use Rattle.horizontal_hull.specs.Within.{cap_of};
+ghost use Rattle.airfield_findings.specs.Entries.{of_airfield, of_pad, of_runway, of_runways, of_surfaces};
+ghost use Rattle.airfield_findings.specs.Prepared.{airfield_of};
+ghost use Rattle.airfields.specs.declared.airfield.Airfield.TheVariants.{Airport as AnAirport, Heliport as AHeliport};
+ghost use Rattle.airfield_findings.specs.declared.finding.Finding.{Finding as AFinding};
+
+use crate::collector::Collector;
+use crate::entry::{put_on_field, put_on_runway};
+use crate::finding::Rule;
+use crate::prepared::Prepared;
+use crate::prepared_airport::PreparedAirport;
+use crate::surfaces::Surfaces;
+use airfields::{FieldId, Filing};
+use grid_exact::{Cap, NoMemory, Point};
+use height_rules::top_for_standards;
+use heliport_surfaces::Pad;
+use imaginary_surfaces::Strip;
+
+/// Hands over the entries of the surfaces of one runway.
+fn put_runway<C: Collector>(
+    out: &mut C,
+    field: FieldId,
+    at: &Point,
+    top: i64,
+    cap: &Cap,
+    strip: &Strip,
+) -> Result<(), NoMemory>
+    requires top { IsLevel top }
+    ensures taken { OnOk result ((list : List AFinding) → C.taken out.old list → C.taken out.new (list ++ of_runway field at.now top cap.now strip.now)) }
+    ensures fails { OnErr result C.fails }
+{
+    let name = strip.runway().name;
+    let excesses = strip.excesses(at, top, cap);
+    put_on_runway(out, Rule::Primary, field, name, 0, excesses.primary)?;
+    put_on_runway(out, Rule::Approach, field, name, 1, excesses.approach1)?;
+    put_on_runway(out, Rule::Approach, field, name, 2, excesses.approach2)?;
+    put_on_runway(
+        out,
+        Rule::Transition,
+        field,
+        name,
+        0,
+        excesses.beside_primary,
+    )?;
+    put_on_runway(
+        out,
+        Rule::Transition,
+        field,
+        name,
+        1,
+        excesses.beside_approach1,
+    )?;
+    put_on_runway(
+        out,
+        Rule::Transition,
+        field,
+        name,
+        2,
+        excesses.beside_approach2,
+    )?;
+    Ok(())
+}
+
+/// Hands over the entries of the surfaces of runways, one runway after the other.
+fn put_strips<C: Collector>(
+    out: &mut C,
+    field: FieldId,
+    at: &Point,
+    top: i64,
+    cap: &Cap,
+    strips: &[Strip],
+) -> Result<(), NoMemory>
+    requires top { IsLevel top }
+    ensures taken { OnOk result ((list : List AFinding) → C.taken out.old list → C.taken out.new (list ++ flat_map (of_runway field at.now top cap.now) strips.now)) }
+    ensures fails { OnErr result C.fails }
+{
+    for strip in strips {
+        put_runway(out, field, at, top, cap, strip)?;
+    }
+    Ok(())
+}
+
+/// Hands over the entries of the surfaces of an airport's runways, in order of name; only a civil airport has them.
+fn put_runways<C: Collector>(
+    out: &mut C,
+    at: &Point,
+    top: i64,
+    cap: &Cap,
+    prepared: &PreparedAirport,
+) -> Result<(), NoMemory>
+    requires top { IsLevel top }
+    requires cap { cap.now ≡ cap_of (dome_of prepared.now) at.now }
+    ensures taken { OnOk result ((list : List AFinding) → C.taken out.old list → C.taken out.new (list ++ of_runways at.now top prepared.now)) }
+    ensures fails { OnErr result C.fails }
+{
+    let airport = prepared.airport();
+    if !airport.category.civil_surfaces() {
+        return Ok(());
+    }
+    put_strips(out, airport.id, at, top, cap, prepared.strips())
+}
+
+/// Hands over the entries of the surfaces of an airport: horizontal, conical, then those of its runways in order of name. How the
+/// point stands under the first two is found once, for them and for the limit of the transitional surfaces.
+fn put_surfaces<C: Collector>(
+    out: &mut C,
+    at: &Point,
+    top: i64,
+    prepared: &PreparedAirport,
+) -> Result<(), NoMemory>
+    requires top { IsLevel top }
+    ensures taken { OnOk result ((list : List AFinding) → C.taken out.old list → C.taken out.new (list ++ of_surfaces at.now top prepared.now)) }
+    ensures fails { OnErr result C.fails }
+{
+    if !prepared.has_surfaces_over(at) {
+        return Ok(());
+    }
+    put_surfaces_over(out, at, top, prepared)
+}
+
+/// The same where one of them may lie over the point.
+fn put_surfaces_over<C: Collector>(
+    out: &mut C,
+    at: &Point,
+    top: i64,
+    prepared: &PreparedAirport,
+) -> Result<(), NoMemory>
+    requires top { IsLevel top }
+    ensures taken { OnOk result ((list : List AFinding) → C.taken out.old list → C.taken out.new (list ++ of_surfaces at.now top prepared.now)) }
+    ensures fails { OnErr result C.fails }
+{
+    let field = prepared.airport().id;
+    let hull = prepared.hull();
+    let standing = hull.standing(at);
+    let horizontal = hull.excess_horizontal_at(&standing, top);
+    put_on_field(out, Rule::Horizontal, field, 0, horizontal)?;
+    let conical = hull.excess_conical_at(at, &standing, top);
+    put_on_field(out, Rule::Conical, field, 0, conical)?;
+    put_runways(out, at, top, &hull.cap_at(&standing), prepared)
+}
+
+/// Hands over the entries of the surfaces of a heliport.
+fn put_pad<C: Collector>(out: &mut C, at: &Point, top: i64, pad: &Pad) -> Result<(), NoMemory>
+    requires top { IsLevel top }
+    ensures taken { OnOk result ((list : List AFinding) → C.taken out.old list → C.taken out.new (list ++ of_pad at.now top pad.now)) }
+    ensures fails { OnErr result C.fails }
+{
+    let field = pad.heliport().id;
+    let excesses = pad.excesses(at, top);
+    put_on_field(out, Rule::PadPrimary, field, 0, excesses.primary)?;
+    put_on_field(out, Rule::PadApproach, field, 1, excesses.approach1)?;
+    put_on_field(out, Rule::PadApproach, field, 2, excesses.approach2)?;
+    put_on_field(out, Rule::PadTransition, field, 0, excesses.beside_primary)?;
+    put_on_field(
+        out,
+        Rule::PadTransition,
+        field,
+        1,
+        excesses.beside_approach1,
+    )?;
+    put_on_field(
+        out,
+        Rule::PadTransition,
+        field,
+        2,
+        excesses.beside_approach2,
+    )?;
+    Ok(())
+}
+
+/// Hands over the entries of an airport.
+fn put_airport<C: Collector>(
+    out: &mut C,
+    filing: &Filing,
+    prepared: &PreparedAirport,
+) -> Result<(), NoMemory>
+    ensures taken { OnOk result ((list : List AFinding) → C.taken out.old list → C.taken out.new (list ++ of_airfield filing.now (AnAirport prepared.now))) }
+    ensures fails { OnErr result C.fails }
+{
+    let airport = prepared.airport();
+    let near = prepared.excess_near(filing);
+    put_on_field(out, Rule::Near, airport.id, 0, near)?;
+    put_surfaces(out, &filing.at, top_for_standards(filing), prepared)
+}
+
+/// Hands over the entries of a heliport.
+fn put_heliport<C: Collector>(out: &mut C, filing: &Filing, pad: &Pad) -> Result<(), NoMemory>
+    ensures taken { OnOk result ((list : List AFinding) → C.taken out.old list → C.taken out.new (list ++ of_airfield filing.now (AHeliport pad.now))) }
+    ensures fails { OnErr result C.fails }
+{
+    put_pad(out, &filing.at, top_for_standards(filing), pad)
+}
+
+/// Hands over the standards of one airfield.
+pub fn put_airfield<C: Collector>(
+    out: &mut C,
+    filing: &Filing,
+    prepared: &Prepared,
+) -> Result<(), NoMemory>
+    ensures taken { OnOk result ((list : List AFinding) → C.taken out.old list → C.taken out.new (list ++ of_airfield filing.now (airfield_of prepared.now))) }
+    ensures fails { OnErr result C.fails }
+{
+    match &prepared.surfaces {
+        Surfaces::Airport(airport) => put_airport(out, filing, airport),
+        Surfaces::Heliport(pad) => put_heliport(out, filing, pad),
+    }
+}

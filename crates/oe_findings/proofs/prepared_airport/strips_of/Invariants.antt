@@ -1,5 +1,0 @@
-use Rattle.std.proofs.Common.{◌≡◌, take}
-use Rattle.oe_findings.proofs.prepared_airport.strips_of.Given as goal
-
-abbrev pub invariant-loop-runway : goal.invariant-loop-runway
-invariant-loop-runway l = l.strips.items ≡ take l.runway-index l.runways

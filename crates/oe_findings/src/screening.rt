@@ -1,0 +1,111 @@
+//! The screening of a structure: what visits the airfields over its point.
+
+ghost use Rattle.std.specs.Prelude.{◌≡◌, ◌++◌, ◌∷◌, [], List, OnOk, OnErr, IfOk, IfErr, is_none, true, false, map};
+ghost use Rattle.airfields.specs.declared.airfield.Airfield.{Airfield as AnAirfield};
+ghost use Rattle.airfield_findings.specs.Prepared.{airfield_of};
+ghost use Rattle.notice_slopes.specs.Exemptions.{exemption_of};
+ghost use Rattle.oe_findings.specs.List.{findings_of};
+ghost use Rattle.oe_findings.specs.Screenings.{Gathers, HasSeen};
+
+use crate::notices::{put_on_airfield, rule_a};
+use airfield_findings::{Collector, Prepared, Rule, no_field, put_airfield, put_entry, put_slope};
+use airfields::Filing;
+use airport_register::Register;
+use grid_exact::NoMemory;
+use height_rules::{excess_200, excess_499};
+use notice_slopes::exempt;
+use surface_tree::Visitor;
+
+/// What a structure exceeds over the airfields that were visited: the standards, and the notice rules that come behind all of them.
+#[derive(Drop)]
+pub(crate) struct Screening<C: Collector + Drop> {
+    pub(crate) filing: Filing,
+    pub(crate) is_due: bool,
+    pub(crate) standards: C,
+    pub(crate) notices: C,
+    pub(crate) refused: bool,
+}
+
+impl<C: Collector + Drop> Screening<C> {
+    /// Before the first airfield: the rules that look at the structure alone. Both collectors have taken nothing.
+    ///
+    /// # Errors
+    ///
+    /// `NoMemory` where memory was refused.
+    pub(crate) fn begin(standards: C, notices: C, filing: &Filing) -> Result<Screening<C>, NoMemory>
+        requires standards { C.taken standards [] }
+        requires notices { C.taken notices [] }
+        ensures filing { IfOk result (λ s. s.filing ≡ filing.now) }
+        ensures due { IfOk result (λ s. s.is_due ≡ is_none (exemption_of filing.now)) }
+        ensures seen { IfOk result (λ s. HasSeen C.taken C.fails s.filing s.is_due s.standards s.notices s.refused []) }
+        ensures fails { IfErr result (λ _. C.fails) }
+    {
+        let mut standards = standards;
+        let mut notices = notices;
+        put_entry(&mut standards, Rule::H499, no_field(), excess_499(filing))?;
+        let is_due = exempt(filing).is_none();
+        if is_due {
+            put_entry(&mut notices, rule_a(filing), no_field(), excess_200(filing))?;
+        }
+        Ok(Screening {
+            filing: *filing,
+            is_due,
+            standards,
+            notices,
+            refused: false,
+        })
+    }
+
+    /// Takes the entries of one airfield more.
+    fn put(&mut self, prepared: &Prepared) -> Result<(), NoMemory>
+        ensures same { (self.new.filing ≡ self.old.filing) }
+        ensures due { self.new.is_due ≡ self.old.is_due }
+        ensures going { self.new.refused ≡ self.old.refused }
+        ensures taken { OnOk result ((airfields : List AnAirfield) → Gathers C.taken self.old.filing self.old.is_due self.old.standards self.old.notices airfields → Gathers C.taken self.new.filing self.new.is_due self.new.standards self.new.notices (airfields ++ airfield_of prepared.now ∷ [])) }
+        ensures fails { OnErr result C.fails }
+    {
+        put_airfield(&mut self.standards, &self.filing, prepared)?;
+        if self.is_due {
+            put_slope(&mut self.notices, &self.filing, prepared)?;
+        }
+        Ok(())
+    }
+
+    /// After the last airfield: all entries in their order.
+    ///
+    /// # Errors
+    ///
+    /// `NoMemory` where memory was refused.
+    pub(crate) fn finish(self, register: &Register) -> Result<C, NoMemory>
+        requires due { self.is_due ≡ is_none (exemption_of self.filing) }
+        requires seen { HasSeen C.taken C.fails self.filing self.is_due self.standards self.notices self.refused register.now }
+        ensures taken { IfOk result (λ c. C.taken c (findings_of register.now self.filing)) }
+        ensures fails { IfErr result (λ _. C.fails) }
+    {
+        if self.refused {
+            return Err(NoMemory);
+        }
+        let mut notices = self.notices;
+        if self.is_due {
+            put_on_airfield(&mut notices, register, &self.filing)?;
+        }
+        self.standards.join(notices)
+    }
+}
+
+impl<C: Collector + Drop> Visitor<Prepared> for Screening<C> {
+    ghost use Rattle.std.specs.Prelude.{map, ◌≡◌};
+    ghost use Rattle.airfield_findings.specs.Prepared.{airfield_of};
+    ghost use Rattle.oe_findings.specs.Screenings.{HasSeen};
+
+    ghost seen = { λ start s items. (s.filing ≡ start.filing) × (s.is_due ≡ start.is_due) × HasSeen C.taken C.fails s.filing s.is_due s.standards s.notices s.refused (map airfield_of items) };
+
+    fn item(&mut self, item: &Prepared) {
+        if self.refused {
+            return;
+        }
+        if self.put(item).is_err() {
+            self.refused = true;
+        }
+    }
+}

@@ -1,0 +1,99 @@
+//! The airfields of a register with their surfaces, found by the points over which they reach.
+
+ghost use Rattle.std.specs.Prelude.{◌≡◌, ◌≤◌, ◌+◌, [], map, length, IfOk, IfSome, option_map};
+ghost use Rattle.std.specs.Arc.{arc_value};
+ghost use Rattle.airfields.specs.Airfields.{IsHeld};
+ghost use Rattle.airport_register.specs.Amendments.{replaced};
+ghost use Rattle.surface_tree.specs.declared.square.TheConstants.{TOP_LEVEL};
+ghost use Rattle.oe_findings.specs.Screenings.{HasSeen};
+
+use crate::screening::Screening;
+use airfield_findings::{Collector, Prepared};
+use airport_register::{Changed, Register};
+use grid_exact::{NoMemory, Steps};
+use std::alloc::Global;
+use std::marker::Model;
+use std::sync::Arc;
+use std::sync::ledger::Ledger;
+use surface_tree::Tree;
+
+/// The airfields of a register with their surfaces; seen as the list of the airfields in rising order of name.
+#[derive(Drop)]
+pub(crate) struct Surroundings {
+    tree: Tree<Prepared>,
+}
+
+impl Model for Surroundings {
+    ghost use Rattle.std.specs.Prelude.{List, map};
+    ghost use Rattle.airfields.specs.declared.airfield.Airfield.{Airfield};
+    ghost use Rattle.airfield_findings.specs.Prepared.{airfield_of};
+
+    ghost Value = { List Airfield };
+
+    ghost view = { λ s. map airfield_of s.tree };
+}
+
+impl Surroundings {
+    /// No airfields. It takes no memory.
+    pub(crate) fn empty(alloc: Global) -> Surroundings
+        ensures { result ≡ [] }
+    {
+        Surroundings {
+            tree: Tree::empty(alloc),
+        }
+    }
+
+    /// The airfields of a register, each with its surfaces prepared.
+    pub(crate) fn of(alloc: Global, register: &Register) -> Result<Surroundings, NoMemory>
+        ensures { IfOk result (λ s. s ≡ register.now) }
+    {
+        register.limits();
+        let mut tree = Tree::empty(alloc);
+        for i in 0..register.len() {
+            let Some(airfield) = register.nth(i) else {
+                unreachable!();
+            };
+            tree = tree.with(alloc, Arc::new(alloc, Prepared::of(alloc, airfield)?)?)?;
+        }
+        Ok(Surroundings { tree })
+    }
+
+    /// The airfields after a change of one of them; the others share their surfaces with these.
+    pub(crate) fn replaced(
+        &self,
+        alloc: Global,
+        changed: &Changed,
+    ) -> Result<Surroundings, NoMemory>
+        requires held { IfSome (option_map arc_value changed.now.after) (λ f. IsHeld f) }
+        ensures { IfOk result (λ s. s ≡ replaced changed.now.id (option_map arc_value changed.now.after) self.now) }
+    {
+        match &changed.after {
+            Some(airfield) => {
+                let prepared = Arc::new(alloc, Prepared::of(alloc, airfield)?)?;
+                Ok(Surroundings {
+                    tree: self.tree.with(alloc, prepared)?,
+                })
+            }
+            None => Ok(Surroundings {
+                tree: self.tree.without_key(alloc, changed.id)?,
+            }),
+        }
+    }
+
+    /// Shows a screening that has seen no airfield all airfields that reach over its structure's point, in order of their names. As the
+    /// others give no entry, it has then seen what it would of all.
+    pub(crate) fn visit<C: Collector + Drop, L: Ledger>(
+        &self,
+        screening: &mut Screening<C>,
+        steps: &mut Steps<L>,
+    )
+        requires { HasSeen C.taken C.fails screening.old.filing screening.old.is_due screening.old.standards screening.old.notices screening.old.refused [] }
+        ensures filing { screening.new.filing ≡ screening.old.filing }
+        ensures due { screening.new.is_due ≡ screening.old.is_due }
+        ensures seen { HasSeen C.taken C.fails screening.new.filing screening.new.is_due screening.new.standards screening.new.notices screening.new.refused self.now }
+        ensures steps { steps.new ≤ steps.old + (TOP_LEVEL + 1) + length self.now }
+    {
+        let at = screening.filing.at;
+        self.tree.visit(&at, screening, steps);
+    }
+}
