@@ -1,3 +1,4 @@
 pub mod Lengths
 pub mod WithinLimits
 pub mod NameText
+pub mod SameFiling

@@ -64,7 +64,7 @@ pub struct Flags {
 }
 
 /// The structure of one notice, within the limits of a filing; a value that is copied.
-#[derive(Clone, Copy, Debug)]
+#[derive(Clone, Copy, Debug, PartialEq, Eq)]
 pub struct Filing {
     /// Where it stands.
     pub at: Point,

@@ -10,7 +10,7 @@ use std::marker::Model;
 pub const WORD_LIMIT: usize = 16;
 
 /// The name of a caller or the key of a request: 1 to `WORD_LIMIT` ASCII letters, digits, dots and underscores.
-#[derive(Clone, Copy, Debug, PartialEq, Eq)]
+#[derive(Clone, Copy, Debug, PartialEq, Eq, PartialOrd, Ord)]
 pub struct Word {
     text: ShortText<WORD_LIMIT>,
 }
