@@ -1,0 +1,13 @@
+//! What changing requests ask for: amendments of the register, days, notices, and acts on a case under 14 CFR Part 77.
+//!
+//! Dates are those of `jiff`, from 1900-01-01 to 2999-12-31.
+#![tactic(auto)]
+
+mod act;
+mod submission;
+
+pub use act::{Act, Impact, Party};
+pub use submission::Submission;
+
+#[cfg(test)]
+mod tests;
