@@ -1,0 +1,6 @@
+pub mod Standing
+pub mod Decisions
+pub mod Cases
+pub mod Rules
+pub mod Effects
+pub mod Rulings

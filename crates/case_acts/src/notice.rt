@@ -1,0 +1,119 @@
+//! Notices, and the forms of emergencies.
+
+ghost use Rattle.std.specs.Prelude.{◌≡◌, ◌+ℤ◌, ◌-ℤ◌, IfOk, IfSome};
+ghost use Rattle.jiff_core.specs.Date.{epoch_day};
+ghost use Rattle.determination_dates.specs.Days.{IsLimited};
+ghost use Rattle.determination_dates.specs.Notices.{days_over};
+ghost use Rattle.case_acts.specs.Cases.{HasLimitedDates, IsSound, IsSoundStep};
+ghost use Rattle.case_acts.specs.Effects.{explained as is_explained, fcc_days, form_days, new_case};
+ghost use Rattle.case_acts.specs.Rulings.{file_ruling, form_ruling};
+
+use crate::effect::{Effect, Step};
+use case_records::{KeptCase, Outcome, Refusal};
+use case_values::Submission;
+use determination_dates::{FORM_DAYS, Life, fcc_late, timeliness};
+use jiff::civil::Date;
+
+/// A structure that is higher than this above ground, 2,000 feet in tenths of a foot, is presumed to be a hazard (77.7(d)).
+pub const PRESUMED_HEIGHT: i64 = 20_000;
+
+/// Whether a statement explains a height that is presumed to be a hazard; none where the height is not.
+fn explained(notice: &Submission) -> Option<bool>
+    ensures { result ≡ is_explained notice.now }
+{
+    if notice.filing.height <= PRESUMED_HEIGHT {
+        return None;
+    }
+    Some(notice.statement)
+}
+
+/// How many days the notice came after the application to the FCC.
+fn days_after(today: Date, application: Option<Date>) -> Option<u32>
+    requires today { IsLimited today }
+    requires application { IfSome application IsLimited }
+    ensures { result ≡ fcc_days today application }
+{
+    match application {
+        Some(day) => Some(fcc_late(today, day)),
+        None => None,
+    }
+}
+
+/// A case to which nothing has happened yet.
+fn opened(today: Date, notice: &Submission) -> KeptCase
+    ensures { result ≡ new_case today notice.now }
+{
+    KeptCase {
+        submission: *notice,
+        received: today,
+        form: None,
+        life: Life {
+            end: None,
+            determination: None,
+        },
+        list: None,
+    }
+}
+
+/// What a notice comes to that is received today and opens the case of this number: whether it is in time (77.7(b), (c) and (e)), and
+/// whether it explains a height of more than 2,000 feet (77.7(d)).
+///
+/// # Errors
+///
+/// `DateRange` exactly where the day on which an emergency's form is due is outside the limit.
+pub fn file(number: u32, today: Date, notice: &Submission) -> Result<Effect, Refusal>
+    requires today { IsLimited today }
+    requires dates { HasLimitedDates notice.now }
+    ensures value { result ≡ file_ruling number today notice.now }
+    ensures sound { IfOk result (λ e. IsSoundStep e.step) }
+{
+    let Ok(timely) = timeliness(today, notice.start, notice.permit, notice.emergency) else {
+        return Err(Refusal::DateRange);
+    };
+    Ok(Effect {
+        outcome: Outcome::Filed {
+            case: number,
+            timely,
+            fcc: days_after(today, notice.fcc),
+            explained: explained(notice),
+        },
+        step: Step::CaseFiled(opened(today, notice)),
+    })
+}
+
+/// So many days where they are above 0, else 0.
+fn days_over(days: i32) -> u32
+    ensures { result ≡ days_over days }
+{
+    if days > 0 { days as u32 } else { 0 }
+}
+
+/// How many days the form of an emergency came after the day on which it was due (77.7(e)).
+fn form_late(received: Date, today: Date) -> u32
+    ensures { result ≡ form_days received today }
+{
+    let due = received.to_plain().to_unix_epoch_day() + FORM_DAYS;
+    days_over(today.to_plain().to_unix_epoch_day() - due)
+}
+
+/// What the form of an emergency's notice comes to that came today (77.7(e)).
+///
+/// # Errors
+///
+/// `NoFormDue` exactly where the case is no emergency or its form came.
+pub fn form(number: u32, today: Date, case: &KeptCase) -> Result<Effect, Refusal>
+    requires today { IsLimited today }
+    ensures value { result ≡ form_ruling number today case.now }
+    ensures sound { IfOk result (λ e. IsSoundStep e.step) }
+{
+    if !case.submission.emergency || case.form.is_some() {
+        return Err(Refusal::NoFormDue);
+    }
+    Ok(Effect {
+        outcome: Outcome::FormCame {
+            case: number,
+            late: form_late(case.received, today),
+        },
+        step: Step::FormPut { number, day: today },
+    })
+}
