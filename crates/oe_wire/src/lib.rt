@@ -5,7 +5,7 @@
 #![tactic(auto)]
 
 pub use wire_replies::{
-    Outcome, Refusal, Reply, append_airfield, append_found, append_reply, write_reply,
+    CaseView, Outcome, Refusal, Reply, append_airfield, append_found, append_reply, write_reply,
 };
 pub use wire_requests::{
     Act, Change, Query, ReadRefusal, RecordReader, Request, canonical_line, first_bad_field,

@@ -1,5 +1,5 @@
 -- The texts of findings.
-use Rattle.std.specs.Prelude.{ℕ, List, ◌++◌, codes}
+use Rattle.std.specs.Prelude.{ℕ, List, ◌++◌, length, codes}
 use Rattle.std.specs.Fmt.{decimal}
 use Rattle.std.specs.List.{flat_map}
 use Rattle.airfield_findings.specs.declared.finding.Rule.{Rule}
@@ -66,3 +66,7 @@ entry_text f = rule_word f.rule ++ codes " " ++ place_text f.rule f.key ++ codes
 -- the entries, a comma before each
 abbrev pub entries_text : List Finding → List ℕ
 entries_text list = flat_map (λ f. codes "," ++ entry_text f) list
+
+-- how many entries there are, and the entries, a comma before each
+abbrev pub list_text : List Finding → List ℕ
+list_text list = codes "," ++ decimal (length list) ++ entries_text list

@@ -2,7 +2,11 @@ pub use Rattle.grid_exact.specs.Texts
 pub use Rattle.wire_values.specs.Words
 pub use Rattle.wire_values.specs.Commas
 pub use Rattle.wire_values.specs.Plains
+pub use Rattle.determination_dates.specs.Text
+pub mod States
 pub mod Entries
+pub mod Outcomes
+pub mod Cases
 pub mod Refusals
 pub mod Rows
 pub mod Replies

@@ -1,10 +1,11 @@
 -- Refusals: their numbers, their names, and what they say besides.
-use Rattle.std.specs.Prelude.{ℕ, List, [], ◌++◌, codes}
+use Rattle.std.specs.Prelude.{ℕ, List, [], ◌∷◌, codes}
 use Rattle.std.specs.Fmt.{decimal}
-use Rattle.airport_register.specs.declared.amendment.AmendRefusal.{AmendRefusal}
-use Rattle.airport_register.specs.declared.amendment.AmendRefusal.TheVariants as amend_refusals
-use Rattle.wire_replies.specs.declared.reply.Refusal.{Refusal}
-use Rattle.wire_replies.specs.declared.reply.Refusal.TheVariants as refusals
+use Rattle.determination_dates.specs.Text.{date_text}
+use Rattle.case_records.specs.declared.refusal.Refusal.{Refusal}
+use Rattle.case_records.specs.declared.refusal.Refusal.TheVariants as refusals
+use Rattle.wire_values.specs.Commas.{with_commas}
+use Rattle.wire_replies.specs.States.{status_word}
 
 abbrev pub refusal_number : Refusal → ℕ
 refusal_number refusals.PrecisionOnUtility = 2
@@ -17,8 +18,27 @@ refusal_number refusals.RegisterFull = 8
 refusal_number refusals.ElevationRange = 9
 refusal_number refusals.HeliportShape = 10
 refusal_number refusals.WrongKind = 11
+refusal_number refusals.DateRange = 12
 refusal_number (refusals.Malformed field) = 13
+refusal_number refusals.UnknownCase = 14
+refusal_number refusals.CasesFull = 15
+refusal_number (refusals.DayBack kept day) = 16
+refusal_number (refusals.NotStanding status) = 17
+refusal_number refusals.FindingWanted = 18
+refusal_number refusals.FindingUnwanted = 19
+refusal_number refusals.NotReviewable = 20
+refusal_number (refusals.PetitionLate deadline day) = 21
+refusal_number refusals.PetitionPending = 22
+refusal_number refusals.NothingPending = 23
+refusal_number (refusals.ExtensionLate last_day day) = 24
+refusal_number refusals.WorkStarted = 25
+refusal_number refusals.AlreadyExtended = 26
+refusal_number refusals.FccEvidence = 27
+refusal_number (refusals.KeyReused entry) = 28
+refusal_number refusals.NoDay = 29
+refusal_number refusals.KeeperFault = 30
 refusal_number refusals.NoMemory = 31
+refusal_number refusals.NoFormDue = 32
 
 abbrev pub refusal_name : Refusal → List ℕ
 refusal_name refusals.PrecisionOnUtility = codes "PrecisionOnUtility"
@@ -31,24 +51,38 @@ refusal_name refusals.RegisterFull = codes "RegisterFull"
 refusal_name refusals.ElevationRange = codes "ElevationRange"
 refusal_name refusals.HeliportShape = codes "HeliportShape"
 refusal_name refusals.WrongKind = codes "WrongKind"
+refusal_name refusals.DateRange = codes "DateRange"
 refusal_name (refusals.Malformed field) = codes "Malformed"
+refusal_name refusals.UnknownCase = codes "UnknownCase"
+refusal_name refusals.CasesFull = codes "CasesFull"
+refusal_name (refusals.DayBack kept day) = codes "DayBack"
+refusal_name (refusals.NotStanding status) = codes "NotStanding"
+refusal_name refusals.FindingWanted = codes "FindingWanted"
+refusal_name refusals.FindingUnwanted = codes "FindingUnwanted"
+refusal_name refusals.NotReviewable = codes "NotReviewable"
+refusal_name (refusals.PetitionLate deadline day) = codes "PetitionLate"
+refusal_name refusals.PetitionPending = codes "PetitionPending"
+refusal_name refusals.NothingPending = codes "NothingPending"
+refusal_name (refusals.ExtensionLate last_day day) = codes "ExtensionLate"
+refusal_name refusals.WorkStarted = codes "WorkStarted"
+refusal_name refusals.AlreadyExtended = codes "AlreadyExtended"
+refusal_name refusals.FccEvidence = codes "FccEvidence"
+refusal_name (refusals.KeyReused entry) = codes "KeyReused"
+refusal_name refusals.NoDay = codes "NoDay"
+refusal_name refusals.KeeperFault = codes "KeeperFault"
 refusal_name refusals.NoMemory = codes "NoMemory"
+refusal_name refusals.NoFormDue = codes "NoFormDue"
 
--- what a refusal says besides its name, a comma before it
+-- what a refusal says besides its name
+abbrev pub refusal_fields : Refusal → List (List ℕ)
+refusal_fields (refusals.Malformed field) = decimal field ∷ []
+refusal_fields (refusals.DayBack kept day) = date_text kept ∷ date_text day ∷ []
+refusal_fields (refusals.NotStanding status) = status_word status ∷ []
+refusal_fields (refusals.PetitionLate deadline day) = date_text deadline ∷ date_text day ∷ []
+refusal_fields (refusals.ExtensionLate last_day day) = date_text last_day ∷ date_text day ∷ []
+refusal_fields (refusals.KeyReused entry) = decimal entry ∷ []
+refusal_fields _ = []
+
+-- the same, a comma before each
 abbrev pub refusal_values : Refusal → List ℕ
-refusal_values (refusals.Malformed field) = codes "," ++ decimal field
-refusal_values _ = []
-
--- the refusal of an amendment
-abbrev pub refused_amendment : AmendRefusal → Refusal
-refused_amendment amend_refusals.PrecisionOnUtility = refusals.PrecisionOnUtility
-refused_amendment amend_refusals.UnknownAirfield = refusals.UnknownAirfield
-refused_amendment amend_refusals.UnknownRunway = refusals.UnknownRunway
-refused_amendment amend_refusals.RunwayLength = refusals.RunwayLength
-refused_amendment amend_refusals.RunwayFar = refusals.RunwayFar
-refused_amendment amend_refusals.TooManyRunways = refusals.TooManyRunways
-refused_amendment amend_refusals.RegisterFull = refusals.RegisterFull
-refused_amendment amend_refusals.ElevationRange = refusals.ElevationRange
-refused_amendment amend_refusals.HeliportShape = refusals.HeliportShape
-refused_amendment amend_refusals.WrongKind = refusals.WrongKind
-refused_amendment amend_refusals.NoMemory = refusals.NoMemory
+refusal_values refusal = with_commas (refusal_fields refusal)

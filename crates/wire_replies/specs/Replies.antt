@@ -1,22 +1,19 @@
 -- The texts of replies, each with the line feed that ends it.
-use Rattle.std.specs.Prelude.{ℕ, List, ◌++◌, length, Bool, codes, if◌then◌else◌}
+use Rattle.std.specs.Prelude.{ℕ, List, ◌++◌, Bool, codes, if◌then◌else◌}
 use Rattle.std.specs.Fmt.{decimal}
 use Rattle.airfield_findings.specs.declared.finding.Finding.{Finding}
 use Rattle.airfield_findings.specs.declared.verdict.Verdict.{Verdict}
-use Rattle.wire_values.specs.Plains.{plain_word}
-use Rattle.wire_replies.specs.Entries.{entries_text}
+use Rattle.case_records.specs.declared.outcome.Outcome.{Outcome}
+use Rattle.case_records.specs.declared.refusal.Refusal.{Refusal}
+use Rattle.wire_replies.specs.Cases.{case_text}
+use Rattle.wire_replies.specs.Entries.{list_text}
+use Rattle.wire_replies.specs.Outcomes.{outcome_text}
 use Rattle.wire_replies.specs.Refusals.{refusal_number, refusal_name, refusal_values}
-use Rattle.wire_replies.specs.declared.reply.Outcome.{Outcome}
-use Rattle.wire_replies.specs.declared.reply.Outcome.TheVariants as outcomes
-use Rattle.wire_replies.specs.declared.reply.Refusal.{Refusal}
 use Rattle.wire_replies.specs.declared.reply.Reply.{Reply}
 use Rattle.wire_replies.specs.declared.reply.Reply.TheVariants as replies
 
 abbrev pub publication_word : Bool → List ℕ
 publication_word published = if published then codes "published" else codes "waiting"
-
-abbrev pub outcome_text : Outcome → List ℕ
-outcome_text (outcomes.Plain plain) = plain_word plain
 
 -- an accepted request: its entry's number, whether every session sees it, and what it led to
 abbrev pub accepted_text : ℕ → Bool → Outcome → List ℕ
@@ -28,7 +25,7 @@ refused_text refusal = codes "no," ++ decimal (refusal_number refusal) ++ codes 
 
 -- the list of findings over the register after its entry of number `last`
 abbrev pub found_text : ℕ → List Finding → List ℕ
-found_text last list = codes "found," ++ decimal last ++ codes "," ++ decimal (length list) ++ entries_text list ++ codes "\n"
+found_text last list = codes "found," ++ decimal last ++ list_text list ++ codes "\n"
 
 abbrev pub yes_word : Bool → List ℕ
 yes_word holds = if holds then codes "yes" else codes "no"
@@ -49,4 +46,5 @@ reply_text (replies.Accepted entry published outcome) = accepted_text entry publ
 reply_text (replies.Refused refusal) = refused_text refusal
 reply_text (replies.Found last list) = found_text last list
 reply_text (replies.Verdict last verdict) = verdict_text last verdict
+reply_text (replies.Case view) = case_text view
 reply_text (replies.Airfield row) = row_text row

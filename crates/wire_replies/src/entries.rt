@@ -5,7 +5,7 @@ ghost use Rattle.grid_exact.specs.Texts.{Extends};
 ghost use Rattle.wire_values.specs.Words.{name_text};
 ghost use Rattle.wire_replies.specs.Entries as spec;
 
-use crate::fields::{append_next_word, append_number};
+use crate::fields::{append_next_number, append_next_word, append_number};
 use airfield_findings::{Finding, Rule, SurfaceKey};
 use airfields::RunwayName;
 use grid_exact::NoMemory;
@@ -111,7 +111,7 @@ fn append_entry(text: &mut String, finding: &Finding) -> Result<(), NoMemory>
 
 // Appends the entries of a list.
 #[tactic(auto, using(grid_exact::proofs::Extending::extending))]
-pub(crate) fn append_entries(text: &mut String, list: &[Finding]) -> Result<(), NoMemory>
+fn append_entries(text: &mut String, list: &[Finding]) -> Result<(), NoMemory>
     ensures ok { OnOk result (string_bytes text.new ≡ string_bytes text.old ++ spec.entries_text list.now) }
     ensures part { OnErr result (Extends (string_bytes text.old) (string_bytes text.new)) }
 {
@@ -119,4 +119,14 @@ pub(crate) fn append_entries(text: &mut String, list: &[Finding]) -> Result<(), 
         append_entry(text, finding)?;
     }
     Ok(())
+}
+
+// Appends a list: how many entries it has, and the entries, a comma before each.
+#[tactic(auto, using(grid_exact::proofs::Extending::extending))]
+pub(crate) fn append_list(text: &mut String, list: &[Finding]) -> Result<(), NoMemory>
+    ensures ok { OnOk result (string_bytes text.new ≡ string_bytes text.old ++ spec.list_text list.now) }
+    ensures part { OnErr result (Extends (string_bytes text.old) (string_bytes text.new)) }
+{
+    append_next_number(text, list.len() as u64)?;
+    append_entries(text, list)
 }

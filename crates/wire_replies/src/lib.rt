@@ -1,4 +1,4 @@
-//! The texts of replies: refusals, lists of findings and their entries, and the rows of airfields.
+//! The texts of replies: what accepted requests led to, refusals, lists of findings and their entries, cases, and the rows of airfields.
 //!
 //! Each function appends to a text. Where memory is refused, the text is the old one and maybe a part of what was to be appended, so that
 //! its owner can cut that part off again. No function appends more than six parts, as the proof of a longer chain is dear.
@@ -6,16 +6,23 @@
 //! Lengths, coordinates, elevations and excesses are whole tenths of a foot.
 #![tactic(auto)]
 
+mod case;
+mod dates;
 mod entries;
 mod fields;
+mod outcomes;
 mod refusals;
 mod replies;
 mod reply;
 mod rows;
+mod states;
 
+pub use case_records::{CaseView, Outcome, Refusal};
 pub use replies::{append_airfield, append_found, append_reply, write_reply};
-pub use reply::{Outcome, Refusal, Reply};
+pub use reply::Reply;
 pub use wire_values::Plain;
 
+#[cfg(test)]
+mod case_tests;
 #[cfg(test)]
 mod tests;

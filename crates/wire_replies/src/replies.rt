@@ -1,17 +1,20 @@
 //! The texts of replies.
 
-ghost use Rattle.std.specs.Prelude.{◌≡◌, ◌++◌, IfOk, OnOk, OnErr, codes, string_bytes};
+ghost use Rattle.std.specs.Prelude.{◌≡◌, ◌++◌, IfOk, OnOk, OnErr, string_bytes};
 ghost use Rattle.grid_exact.specs.Texts.{Extends};
 ghost use Rattle.wire_replies.specs.Replies as spec;
 ghost use Rattle.wire_replies.specs.Rows.{airfield_row};
 
-use crate::entries::append_entries;
+use crate::case::append_case;
+use crate::entries::append_list;
 use crate::fields::{append_next_number, append_next_word, append_number};
+use crate::outcomes::append_outcome;
 use crate::refusals::append_refused;
-use crate::reply::{Outcome, Reply};
+use crate::reply::Reply;
 use crate::rows::append_row;
 use airfield_findings::{Finding, Verdict};
 use airfields::Airfield;
+use case_records::Outcome;
 use grid_exact::{NoMemory, Text};
 use std::alloc::Global;
 use wire_values::append_text;
@@ -28,25 +31,15 @@ fn yes_word(holds: bool) -> &'static str
     if holds { "yes" } else { "no" }
 }
 
-// Appends what an accepted request led to, a comma before it.
-fn append_outcome(text: &mut String, outcome: Outcome) -> Result<(), NoMemory>
-    ensures ok { OnOk result (string_bytes text.new ≡ string_bytes text.old ++ (codes "," ++ spec.outcome_text outcome)) }
-    ensures part { OnErr result (Extends (string_bytes text.old) (string_bytes text.new)) }
-{
-    match outcome {
-        Outcome::Plain(plain) => append_next_word(text, plain.word()),
-    }
-}
-
 // Appends the reply of an accepted request.
 #[tactic(auto, using(grid_exact::proofs::Extending::extending))]
 fn append_accepted(
     text: &mut String,
     entry: u64,
     published: bool,
-    outcome: Outcome,
+    outcome: &Outcome,
 ) -> Result<(), NoMemory>
-    ensures ok { OnOk result (string_bytes text.new ≡ string_bytes text.old ++ spec.accepted_text entry published outcome) }
+    ensures ok { OnOk result (string_bytes text.new ≡ string_bytes text.old ++ spec.accepted_text entry published outcome.now) }
     ensures part { OnErr result (Extends (string_bytes text.old) (string_bytes text.new)) }
 {
     append_text(text, "ok,")?;
@@ -68,8 +61,7 @@ pub fn append_found(text: &mut String, last: u64, list: &[Finding]) -> Result<()
 {
     append_text(text, "found,")?;
     append_number(text, last)?;
-    append_next_number(text, list.len() as u64)?;
-    append_entries(text, list)?;
+    append_list(text, list)?;
     append_text(text, "\n")
 }
 
@@ -127,10 +119,11 @@ pub fn append_reply(text: &mut String, reply: &Reply) -> Result<(), NoMemory>
             entry,
             published,
             outcome,
-        } => append_accepted(text, *entry, *published, *outcome),
+        } => append_accepted(text, *entry, *published, outcome),
         Reply::Refused(refusal) => append_refused(text, *refusal),
         Reply::Found { last, list } => append_found(text, *last, list.as_slice()),
         Reply::Verdict { last, verdict } => append_verdict(text, *last, *verdict),
+        Reply::Case(view) => append_case(text, view),
         Reply::Airfield(row) => append_row_text(text, row.as_str()),
     }
 }

@@ -1,0 +1,89 @@
+-- What accepted requests led to, one definition for each kind of request.
+use Rattle.std.specs.Prelude.{ℕ, List, [], ◌∷◌, ◌++◌, Bool, Option, Some, None, codes, ◌==◌, if◌then◌else◌}
+use Rattle.std.specs.Fmt.{decimal}
+use Rattle.jiff_core.specs.declared.civil.date.Date.{Date}
+use Rattle.airfield_findings.specs.declared.finding.Finding.{Finding}
+use Rattle.determination_dates.specs.Text.{date_text}
+use Rattle.determination_dates.specs.declared.determination.Decision.{Decision}
+use Rattle.determination_dates.specs.declared.timely.Timeliness.{Timeliness}
+use Rattle.determination_dates.specs.declared.timely.Timeliness.TheVariants as timeliness
+use Rattle.case_records.specs.declared.outcome.Outcome.{Outcome}
+use Rattle.case_records.specs.declared.outcome.Outcome.TheVariants as outcomes
+use Rattle.wire_values.specs.Commas.{joined}
+use Rattle.wire_values.specs.Plains.{plain_word}
+use Rattle.wire_replies.specs.Entries.{list_text}
+use Rattle.wire_replies.specs.States.{decision_word, day_text}
+
+-- so many days late
+abbrev pub late_text : ℕ → List ℕ
+late_text days = codes "late " ++ decimal days
+
+-- so many days late, or a word where that is none
+abbrev pub lateness_text : List ℕ → ℕ → List ℕ
+lateness_text word days = if days == 0 then word else late_text days
+
+-- whether a notice is in time; in an emergency the day up to which its form is due
+abbrev pub timeliness_text : Timeliness → List ℕ
+timeliness_text timeliness.Timely = codes "timely"
+timeliness_text (timeliness.Late days) = late_text days
+timeliness_text (timeliness.Emergency due) = codes "emergency " ++ date_text due
+
+-- how a notice stands to the application to the FCC, where there is one
+abbrev pub fcc_text : Option ℕ → List ℕ
+fcc_text None = codes "-"
+fcc_text (Some days) = lateness_text (codes "timely") days
+
+-- whether the presumption of a hazard is answered, where there is one: above 2,000 feet (77.7(c))
+abbrev pub presumption_text : Option Bool → List ℕ
+presumption_text None = codes "-"
+presumption_text (Some explained) = if explained then codes "explained" else codes "unexplained"
+
+abbrev pub filed_text : ℕ → Timeliness → Option ℕ → Option Bool → List ℕ
+filed_text number timely fcc explained =
+    joined (codes "case" ∷ decimal number ∷ timeliness_text timely ∷ fcc_text fcc ∷ presumption_text explained ∷ [])
+
+abbrev pub form_text : ℕ → ℕ → List ℕ
+form_text number late = joined (codes "form" ∷ decimal number ∷ lateness_text (codes "intime") late ∷ [])
+
+-- the decision, the number of the last entry of the register that it is over, and its days; the list follows
+abbrev pub determined_fields : ℕ → Decision → ℕ → Date → Option Date → Option Date → Option Date → List (List ℕ)
+determined_fields number decision last issued deadline effective expiry =
+    codes "determine" ∷ decimal number ∷ decision_word decision ∷ decimal last ∷ date_text issued
+    ∷ day_text deadline ∷ day_text effective ∷ day_text expiry ∷ []
+
+abbrev pub determined_text : ℕ → Decision → ℕ → Date → Option Date → Option Date → Option Date → List Finding → List ℕ
+determined_text number decision last issued deadline effective expiry list =
+    joined (determined_fields number decision last issued deadline effective expiry) ++ list_text list
+
+abbrev pub disposal_word : Bool → List ℕ
+disposal_word affirmed = if affirmed then codes "affirm" else codes "reverse"
+
+-- a reversed determination has no days
+abbrev pub disposal_day : Bool → Option Date → List ℕ
+disposal_day affirmed day = if affirmed then day_text day else codes "-"
+
+abbrev pub disposed_text : ℕ → Bool → Option Date → Option Date → List ℕ
+disposed_text number affirmed effective expiry =
+    joined (codes "dispose" ∷ decimal number ∷ disposal_word affirmed ∷ disposal_day affirmed effective ∷ disposal_day affirmed expiry ∷ [])
+
+abbrev pub extended_text : ℕ → Date → Date → List ℕ
+extended_text number expiry last_day = joined (codes "extend" ∷ decimal number ∷ date_text expiry ∷ date_text last_day ∷ [])
+
+abbrev pub fcc_act_text : ℕ → Date → List ℕ
+fcc_act_text number expiry = joined (codes "fcc" ∷ decimal number ∷ date_text expiry ∷ [])
+
+-- a form whose reply tells no more than the case
+abbrev pub case_act_text : List ℕ → ℕ → List ℕ
+case_act_text word number = joined (word ∷ decimal number ∷ [])
+
+abbrev pub outcome_text : Outcome → List ℕ
+outcome_text (outcomes.Plain plain) = plain_word plain
+outcome_text (outcomes.Filed number timely fcc explained) = filed_text number timely fcc explained
+outcome_text (outcomes.FormCame number late) = form_text number late
+outcome_text (outcomes.Determined number decision last issued deadline effective expiry list) =
+    determined_text number decision last issued deadline effective expiry list
+outcome_text (outcomes.Petitioned number) = case_act_text (codes "petition") number
+outcome_text (outcomes.Disposed number affirmed effective expiry) = disposed_text number affirmed effective expiry
+outcome_text (outcomes.Extended number expiry last_day) = extended_text number expiry last_day
+outcome_text (outcomes.Fcc number expiry) = fcc_act_text number expiry
+outcome_text (outcomes.Abandoned number) = case_act_text (codes "abandon") number

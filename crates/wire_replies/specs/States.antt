@@ -1,0 +1,26 @@
+-- How cases stand: words, and days that are there or not.
+use Rattle.std.specs.Prelude.{ℕ, List, Option, Some, None, codes}
+use Rattle.jiff_core.specs.declared.civil.date.Date.{Date}
+use Rattle.determination_dates.specs.Text.{date_text}
+use Rattle.determination_dates.specs.declared.determination.Decision.{Decision}
+use Rattle.determination_dates.specs.declared.determination.Decision.TheVariants as decisions
+use Rattle.determination_dates.specs.declared.life.Status.{Status}
+use Rattle.determination_dates.specs.declared.life.Status.TheVariants as statuses
+
+abbrev pub status_word : Status → List ℕ
+status_word statuses.Awaiting = codes "awaiting"
+status_word statuses.Pending = codes "pending"
+status_word statuses.InForce = codes "inforce"
+status_word statuses.HazardStands = codes "hazard"
+status_word statuses.Expired = codes "expired"
+status_word statuses.Abandoned = codes "abandoned"
+status_word statuses.Reversed = codes "reversed"
+
+abbrev pub decision_word : Decision → List ℕ
+decision_word decisions.NoHazard = codes "nohazard"
+decision_word decisions.Hazard = codes "hazard"
+
+-- a date, or a dash where there is none
+abbrev pub day_text : Option Date → List ℕ
+day_text None = codes "-"
+day_text (Some day) = date_text day
