@@ -28,7 +28,7 @@ use Rattle.case_acts.specs.Rules.{when}
 use Rattle.case_acts.specs.Effects.{effect, filed}
 use Rattle.case_acts.specs.Rulings.{by_first, ruling, form_ruling, determination_ruling, petition_ruling, disposal_ruling, extension_ruling, fcc_ruling, abandon_ruling}
 use Rattle.desk_rules.specs.declared.entry.Entry.{Entry}
-use Rattle.desk_rules.specs.declared.entry.TheConstants.{CASE_LIMIT}
+use Rattle.desk_rules.specs.declared.entry.TheConstants.{MOST_CASES}
 use Rattle.desk_rules.specs.States.{State, stepped, with_entry, entry_of, case_at, last_number}
 use Rattle.desk_rules.specs.Evaluations.{Given, basis_of, evaluated_site}
 
@@ -58,7 +58,7 @@ day_rules (Some kept) day = when (int_lt (epoch_day day) (epoch_day kept)) (refu
 
 -- the desk has room for so many cases
 abbrev pub file_rules : List KeptCase → List Refusal
-file_rules cases = when (nat_le CASE_LIMIT (length cases)) refusals.CasesFull
+file_rules cases = when (nat_le MOST_CASES (length cases)) refusals.CasesFull
 
 -- what an act comes to on the list of its basis, but for the rules of the register
 abbrev pub acted : State → Option KeptList → Act → Result Effect Refusal

@@ -4,7 +4,7 @@ use case_records::Outcome;
 use wire_requests::Change;
 
 /// The desk has room for so many cases.
-pub const CASE_LIMIT: usize = 100_000;
+pub const MOST_CASES: usize = 100_000;
 
 /// An accepted request, with its number and what it led to.
 #[derive(Drop)]

@@ -7,5 +7,5 @@
 mod entry;
 mod laws;
 
-pub use entry::{CASE_LIMIT, Entry};
+pub use entry::{MOST_CASES, Entry};
 pub use laws::{repeats, replays};

@@ -17,7 +17,7 @@ use crate::receipts::Receipts;
 use case_acts::{Effect, Step};
 use case_records::{KeptCase, KeptList, Outcome, Refusal};
 use case_values::{Act, Impact, Submission};
-use desk_rules::{CASE_LIMIT, Entry};
+use desk_rules::{MOST_CASES, Entry};
 use determination_dates::{ClosedDays, Life};
 use grid_exact::NoMemory;
 use jiff::civil::Date;

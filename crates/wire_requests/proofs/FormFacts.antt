@@ -2,11 +2,11 @@
 use Rattle.std.proofs.Common.{arith, ◌≡◌, ◌≢◌, ◌≤◌, ◌+◌, List, [], ◌∷◌, ℕ, codes, length, refl, ap, sym, subst, ◌∙◌, inl, inr, Result, Ok, Err, IfErr}
 use Rattle.wire_values.specs.Wanted.{Wanted, Spelled}
 use Rattle.wire_values.specs.declared.plain.Plain.TheVariants as plains
-use Rattle.wire_requests.specs.Shape.{FirstBad, Place, beginning, Took, IsBad}
+use Rattle.wire_cursor.specs.Shape.{FirstBad, Place, beginning, Took, IsBad}
 use Rattle.wire_requests.specs.Forms.{form_word, fields_of_form, shape_of, BeginsWith, FirstWrong, NoForm, InForm}
 use Rattle.wire_requests.specs.Readings.{IsReading}
 use Rattle.wire_requests.specs.Requests.{spelling}
-use Rattle.wire_requests.specs.declared.cursor.BadField.{BadField}
+use Rattle.wire_cursor.specs.declared.cursor.BadField.{BadField}
 use Rattle.wire_requests.specs.declared.form.Form.{Form}
 use Rattle.wire_requests.specs.declared.form.Form.TheVariants as forms
 use Rattle.wire_requests.specs.declared.request.Request.{Request}

@@ -1,12 +1,12 @@
 -- The first wrong field is the first that no request with the same earlier fields has.
 use Rattle.std.proofs.Common.{arith, ℕ, suc, ◌-◌, ◌≡◌, ◌≢◌, List, [], ◌∷◌, take, refl, ap, sym, subst, ◌∙◌}
-use Rattle.wire_requests.specs.Shape.{HasShape}
+use Rattle.wire_cursor.specs.Shape.{HasShape}
 use Rattle.wire_requests.specs.Forms.{form_word, shape_of, BeginsWith, FirstWrong, NoForm, InForm}
 use Rattle.wire_requests.specs.Requests.{spelling, form_of, IsGood, IsFirstWithout}
 use Rattle.wire_requests.specs.declared.form.Form.{Form}
 use Rattle.wire_requests.specs.declared.form.Form.TheVariants as forms
 use Rattle.wire_requests.specs.declared.request.Request.{Request}
-use Rattle.wire_requests.proofs.ShapeLaws.{BadAt, place_of, no_shape, Values, texts, texts_shape, examples, completed}
+use Rattle.wire_cursor.proofs.ShapeLaws.{BadAt, place_of, no_shape, Values, texts, texts_shape, examples, completed}
 use Rattle.wire_requests.proofs.RequestFacts.{form_usual, request_of, is_good}
 use Rattle.wire_requests.proofs.OneRequest.{begins, one_form}
 

@@ -1,8 +1,5 @@
-pub mod ShapeFacts
 pub mod FormFacts
-pub mod ExitFacts
 pub mod ReadFacts
-pub mod ShapeLaws
 pub mod RequestFacts
 pub mod OneRequest
 pub mod FormLaw

@@ -15,7 +15,7 @@ use Rattle.wire_requests.specs.declared.request.Request.TheVariants as requests
 use Rattle.wire_requests.specs.Requests.{spelling, form_of, IsGood, IsRecord}
 use Rattle.wire_requests.specs.declared.request.Request.{Request}
 use Rattle.wire_requests.proofs.FormFacts.{short_shape}
-use Rattle.wire_requests.proofs.ShapeLaws.{fields_short, as_many}
+use Rattle.wire_cursor.proofs.ShapeLaws.{fields_short, as_many}
 use Rattle.wire_requests.proofs.RequestFacts.{form_usual}
 
 ordinary_byte : (b : ℕ) → is_field_byte b ≡ true → IsOrdinary b

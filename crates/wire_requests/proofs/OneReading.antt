@@ -11,7 +11,7 @@ use Rattle.wire_requests.specs.Requests.{spelling, IsGood, IsRecord, IsMalformed
 use Rattle.wire_requests.specs.declared.form.Form.{Form}
 use Rattle.wire_requests.specs.declared.request.Request.{Request}
 use Rattle.wire_requests.proofs.FormLaw.{first_without}
-use Rattle.wire_requests.proofs.ShapeLaws.{shape_or_bad}
+use Rattle.wire_cursor.proofs.ShapeLaws.{shape_or_bad}
 use Rattle.wire_requests.proofs.RequestFacts.{form_usual, request_of, is_good}
 use Rattle.wire_requests.proofs.OneRequest.{form_named, form_again, one_request}
 

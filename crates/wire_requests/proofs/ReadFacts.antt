@@ -5,7 +5,7 @@ use Rattle.wire_values.specs.Wanted.{WordWanted}
 use Rattle.wire_values.specs.Plains.{plain_word}
 use Rattle.wire_values.specs.declared.plain.Plain.{Plain}
 use Rattle.wire_requests.specs.Changes.{Asked}
-use Rattle.wire_requests.specs.Shape.{Place, HasShape, Took}
+use Rattle.wire_cursor.specs.Shape.{Place, HasShape, Took}
 use Rattle.wire_requests.specs.Forms.{shape_of, amendment_shape}
 use Rattle.wire_requests.specs.Spellings.{amendment_fields, change_spelling, plain_of}
 use Rattle.wire_requests.specs.Limits.{IsChangeRecord}
@@ -13,7 +13,7 @@ use Rattle.wire_requests.specs.Readings.{TookAmendment, IsReading}
 use Rattle.wire_requests.specs.declared.form.Form.TheVariants as forms
 use Rattle.wire_requests.specs.declared.request.Act.TheVariants as acts
 use Rattle.wire_requests.specs.declared.request.Request.TheVariants as requests
-use Rattle.wire_requests.proofs.ShapeFacts.{all_took}
+use Rattle.wire_cursor.proofs.ShapeFacts.{all_took}
 
 asked : List ℕ → List ℕ → Amendment → Asked
 asked caller key a = record { caller = caller; key = key; act = acts.Amend a }

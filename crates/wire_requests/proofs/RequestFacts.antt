@@ -16,7 +16,7 @@ use Rattle.wire_values.specs.declared.plain.Plain.{Plain}
 use Rattle.wire_values.specs.declared.plain.Plain.TheVariants as plains
 use Rattle.wire_values.proofs.FieldFacts.{short_word}
 use Rattle.wire_values.proofs.LimitFacts.{limit_of_kind}
-use Rattle.wire_requests.specs.Shape.{HasShape}
+use Rattle.wire_cursor.specs.Shape.{HasShape}
 use Rattle.wire_requests.specs.Forms.{coordinate, end_shape, site_shape, amendment_shape, shape_of}
 use Rattle.wire_requests.specs.Spellings.{site_fields, amendment_fields, plain_of}
 use Rattle.wire_requests.specs.Limits.{IsValidSite, IsValidAmendment}
@@ -27,7 +27,7 @@ use Rattle.wire_requests.specs.declared.request.Request.{Request}
 use Rattle.wire_requests.specs.declared.request.Request.TheVariants as requests
 use Rattle.wire_requests.specs.declared.request.Query.TheVariants as queries
 use Rattle.wire_requests.specs.declared.request.Act.TheVariants as acts
-use Rattle.wire_requests.proofs.ShapeLaws.{AllUsual, Values, texts, values_of}
+use Rattle.wire_cursor.proofs.ShapeLaws.{AllUsual, Values, texts, values_of}
 
 -- ---- the fields of the forms are usual
 

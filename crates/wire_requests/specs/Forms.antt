@@ -1,55 +1,71 @@
 -- The forms of records. Lengths and coordinates are whole tenths of a foot.
-use Rattle.std.specs.Prelude.{ℕ, List, [], ◌∷◌, ◌≡◌, pos, neg_ℤ, codes}
-use Rattle.grid_exact.specs.declared.point.TheConstants.{COORDINATE_LIMIT}
-use Rattle.airfields.specs.declared.limits.TheConstants.{ELEVATION_LEAST, ELEVATION_MOST}
-use Rattle.airfields.specs.declared.structure.TheConstants.{HEIGHT_LIMIT}
-use Rattle.wire_values.specs.Wanted.{Wanted, Spelled, Between, any_number, FieldIdWanted, RunwayNameWanted, WordWanted, CategoryWanted, WeightWanted, PavementWanted, ApproachWanted, KindWanted, MobileWanted, FlagsWanted, AirfieldWanted}
+use Rattle.std.specs.Prelude.{ℕ, List, [], ◌∷◌, ◌≡◌, codes}
+use Rattle.wire_values.specs.Words.{weight_word, pavement_word, urgency_word, statement_word, disposal_word, progress_word, warrant_word, grant_word}
+use Rattle.wire_values.specs.Wanted.{Wanted, Spelled, Choice, any_number, case_wanted, months_wanted, FieldIdWanted, RunwayNameWanted, WordWanted, CategoryWanted, ApproachWanted, DateWanted, OptionalDateWanted, CompletionWanted, ImpactWanted, PartyWanted}
 use Rattle.wire_values.specs.Plains.{plain_word}
 use Rattle.wire_values.specs.declared.plain.Plain.{Plain}
 use Rattle.wire_values.specs.declared.plain.Plain.TheVariants as plains
-use Rattle.wire_requests.specs.Shape.{FirstBad}
+use Rattle.wire_cursor.specs.Shape.{FirstBad}
+use Rattle.wire_cursor.specs.Groups.{coordinate, site_shape}
+use Rattle.wire_requests.specs.declared.form.ActForm.{ActForm}
+use Rattle.wire_requests.specs.declared.form.ActForm.TheVariants as act_forms
 use Rattle.wire_requests.specs.declared.form.Form.{Form}
 use Rattle.wire_requests.specs.declared.form.Form.TheVariants as forms
 
+-- the first field of a form of changes
+abbrev pub act_word : ActForm → List ℕ
+act_word (act_forms.Plain plain) = plain_word plain
+act_word act_forms.File = codes "file"
+act_word act_forms.Form = codes "form"
+act_word act_forms.Determine = codes "determine"
+act_word act_forms.Petition = codes "petition"
+act_word act_forms.Dispose = codes "dispose"
+act_word act_forms.Extend = codes "extend"
+act_word act_forms.Fcc = codes "fcc"
+act_word act_forms.Abandon = codes "abandon"
+
 -- the first field of a form
 abbrev pub form_word : Form → List ℕ
-form_word (forms.Plain plain) = plain_word plain
+form_word (forms.Act form) = act_word form
 form_word forms.Screen = codes "screen"
 form_word forms.Verdict = codes "verdict"
+form_word forms.Case = codes "case"
 form_word forms.Airfield = codes "airfield"
 
--- a coordinate of the grid
-abbrev pub coordinate : Wanted
-coordinate = Between (neg_ℤ COORDINATE_LIMIT) COORDINATE_LIMIT
-
--- a point of the grid
-abbrev pub point_shape : List Wanted
-point_shape = coordinate ∷ coordinate ∷ []
-
--- an end of a runway: its place, its elevation and its kind of approach
-abbrev pub end_shape : List Wanted
-end_shape = coordinate ∷ coordinate ∷ any_number ∷ ApproachWanted ∷ []
-
--- a structure: its place, the elevation of the terrain, its height, kind, mobile object and flags, and the airfield that it is on
-abbrev pub site_shape : List Wanted
-site_shape = coordinate ∷ coordinate ∷ Between ELEVATION_LEAST ELEVATION_MOST ∷ Between (pos 0) HEIGHT_LIMIT
-    ∷ KindWanted ∷ MobileWanted ∷ FlagsWanted ∷ AirfieldWanted ∷ []
-
--- the fields of an amendment after caller and key
-abbrev pub amendment_shape : Plain → List Wanted
-amendment_shape plains.Airport = FieldIdWanted ∷ CategoryWanted ∷ coordinate ∷ coordinate ∷ any_number ∷ []
-amendment_shape plains.Runway = FieldIdWanted ∷ RunwayNameWanted ∷ WeightWanted ∷ PavementWanted
+-- the fields after caller and key, of the forms whose accepted reply says no more
+abbrev pub plain_shape : Plain → List Wanted
+plain_shape plains.Airport = FieldIdWanted ∷ CategoryWanted ∷ coordinate ∷ coordinate ∷ any_number ∷ []
+plain_shape plains.Runway = FieldIdWanted ∷ RunwayNameWanted ∷ Choice weight_word ∷ Choice pavement_word
     ∷ coordinate ∷ coordinate ∷ any_number ∷ ApproachWanted ∷ coordinate ∷ coordinate ∷ any_number ∷ ApproachWanted ∷ []
-amendment_shape plains.DropRunway = FieldIdWanted ∷ RunwayNameWanted ∷ []
-amendment_shape plains.Heliport = FieldIdWanted ∷ CategoryWanted
+plain_shape plains.DropRunway = FieldIdWanted ∷ RunwayNameWanted ∷ []
+plain_shape plains.Heliport = FieldIdWanted ∷ CategoryWanted
     ∷ coordinate ∷ coordinate ∷ coordinate ∷ coordinate ∷ any_number ∷ any_number ∷ []
-amendment_shape plains.Drop = FieldIdWanted ∷ []
+plain_shape plains.Drop = FieldIdWanted ∷ []
+plain_shape plains.Day = DateWanted ∷ []
+plain_shape plains.Closed = DateWanted ∷ []
+
+-- a notice: the start of work, the applications for a permit and to the FCC, its urgency and its statement, and the structure
+abbrev pub submission_shape : List Wanted
+submission_shape = DateWanted ∷ OptionalDateWanted ∷ OptionalDateWanted ∷ Choice urgency_word ∷ Choice statement_word ∷ site_shape
+
+-- the fields of a change after caller and key
+abbrev pub act_shape : ActForm → List Wanted
+act_shape (act_forms.Plain plain) = plain_shape plain
+act_shape act_forms.File = submission_shape
+act_shape act_forms.Form = case_wanted ∷ []
+act_shape act_forms.Determine = case_wanted ∷ ImpactWanted ∷ []
+act_shape act_forms.Petition = case_wanted ∷ PartyWanted ∷ []
+act_shape act_forms.Dispose = case_wanted ∷ Choice disposal_word ∷ []
+act_shape act_forms.Extend = case_wanted ∷ months_wanted ∷ Choice progress_word ∷ OptionalDateWanted ∷ Choice warrant_word ∷ []
+act_shape act_forms.Fcc = case_wanted ∷ Choice grant_word ∷ CompletionWanted ∷ []
+act_shape act_forms.Abandon = case_wanted ∷ []
 
 -- the fields of each form after the first: those of a change are who asks, the key, and what the form tells
 abbrev pub fields_of_form : Form → List Wanted
-fields_of_form (forms.Plain plain) = WordWanted ∷ WordWanted ∷ amendment_shape plain
+fields_of_form (forms.Act form) = WordWanted ∷ WordWanted ∷ act_shape form
 fields_of_form forms.Screen = site_shape
 fields_of_form forms.Verdict = site_shape
+fields_of_form forms.Case = case_wanted ∷ []
 fields_of_form forms.Airfield = FieldIdWanted ∷ []
 
 -- all fields of each form

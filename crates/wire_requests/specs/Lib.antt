@@ -3,7 +3,8 @@ pub use Rattle.wire_values.specs.Wanted
 pub use Rattle.wire_values.specs.Commas
 pub use Rattle.wire_values.specs.Plains
 pub use Rattle.record_fields.specs.Fields
-pub mod Shape
+pub use Rattle.wire_cursor.specs.Shape
+pub use Rattle.wire_cursor.specs.Groups
 pub mod Forms
 pub mod Changes
 pub mod Spellings

@@ -1,26 +1,32 @@
 -- The limits of the values in changes and questions.
-use Rattle.std.specs.Prelude.{[]}
+use Rattle.std.specs.Prelude.{ℕ, ◌≤◌, []}
 use Rattle.whole_number.specs.Whole.{HasNineDigits}
-use Rattle.airfields.specs.Sites.{Site, IsSite}
 use Rattle.airport_register.specs.declared.amendment.Amendment.{Amendment}
 use Rattle.airport_register.specs.declared.amendment.Amendment.TheVariants as amendments
-use Rattle.wire_values.specs.Words.{IsAirfieldName}
+use Rattle.determination_dates.specs.Days.{IsLimited}
+use Rattle.determination_dates.specs.declared.determination.TheConstants.{EXTENSION_MONTHS}
+use Rattle.case_values.specs.declared.act.Act.{Act}
+use Rattle.case_values.specs.declared.act.Act.TheVariants as acts
+use Rattle.case_values.specs.declared.submission.Submission.{Submission}
+use Rattle.wire_values.specs.Words.{IsAnyLimited}
+use Rattle.wire_values.specs.declared.counts.TheConstants.{CASE_LIMIT}
+use Rattle.wire_cursor.specs.Shape.{HasShape}
+use Rattle.wire_cursor.specs.Groups.{IsValidSite}
 use Rattle.wire_requests.specs.Changes.{Asked}
 use Rattle.wire_requests.specs.Forms.{shape_of}
-use Rattle.wire_requests.specs.Shape.{HasShape}
 use Rattle.wire_requests.specs.Spellings.{act_form, change_spelling}
-use Rattle.wire_requests.specs.declared.request.Act.{Act}
-use Rattle.wire_requests.specs.declared.request.Act.TheVariants as acts
+use Rattle.wire_requests.specs.declared.form.Form.TheVariants as forms
 use Rattle.wire_requests.specs.declared.request.Query.{Query}
 use Rattle.wire_requests.specs.declared.request.Query.TheVariants as queries
 
--- a structure that a record can tell
-abbrev pub IsValidSite : Site → Type 0
-IsValidSite site = IsSite site × IsAirfieldName site.on
+-- a number of a case
+abbrev pub IsCase : ℕ → Type 0
+IsCase n = (1 ≤ n) × (n ≤ CASE_LIMIT)
 
 abbrev pub IsValidQuery : Query → Type 0
 IsValidQuery (queries.Screen site) = IsValidSite site
 IsValidQuery (queries.Verdict site) = IsValidSite site
+IsValidQuery (queries.Case n) = IsCase n
 IsValidQuery (queries.Airfield id) = Unit {0}
 
 -- elevations and widths have nine digits here; the register refuses those outside their limits
@@ -31,10 +37,28 @@ IsValidAmendment (amendments.DropRunway id name) = Unit {0}
 IsValidAmendment (amendments.PutHeliport heliport) = HasNineDigits heliport.width × HasNineDigits heliport.elevation
 IsValidAmendment (amendments.Drop id) = Unit {0}
 
+-- a notice that a record can tell
+pub record IsValidSubmission (s : Submission) : Type 0 where
+  pub start : IsLimited s.start
+  pub permit : IsAnyLimited s.permit
+  pub fcc : IsAnyLimited s.fcc
+  pub filing : IsValidSite s.filing
+
+-- dates are within the limit, cases have a number that a case can have, and an extension is of 1 to 18 months (77.35)
 abbrev pub IsValidAct : Act → Type 0
 IsValidAct (acts.Amend amendment) = IsValidAmendment amendment
+IsValidAct (acts.Day date) = IsLimited date
+IsValidAct (acts.Closed date) = IsLimited date
+IsValidAct (acts.File submission) = IsValidSubmission submission
+IsValidAct (acts.Form n) = IsCase n
+IsValidAct (acts.Determine n finding) = IsCase n
+IsValidAct (acts.Petition n party) = IsCase n
+IsValidAct (acts.Dispose n affirm) = IsCase n
+IsValidAct (acts.Extend n months started filed warranted) = IsCase n × (1 ≤ months) × (months ≤ EXTENSION_MONTHS) × IsAnyLimited filed
+IsValidAct (acts.Fcc n completion) = IsCase n × IsAnyLimited completion
+IsValidAct (acts.Abandon n) = IsCase n
 
 -- a change that has a record: its values are within their limits, and each field is what its form wants there
 pub record IsChangeRecord (c : Asked) : Type 0 where
   pub valid : IsValidAct c.act
-  pub shape : HasShape (shape_of (act_form c.act)) [] (change_spelling c)
+  pub shape : HasShape (shape_of (forms.Act (act_form c.act))) [] (change_spelling c)

@@ -2,11 +2,12 @@
 use Rattle.std.specs.Prelude.{ℕ, ◌-◌, ◌≤◌, ◌<◌, take, ◌≡◌, ◌≢◌, List, [], length, Some, None}
 use Rattle.grid_exact.specs.declared.text.TheConstants.{LINE_LIMIT}
 use Rattle.record_fields.specs.Fields.{one_record}
-use Rattle.wire_requests.specs.Shape.{HasShape}
+use Rattle.wire_cursor.specs.Shape.{HasShape}
 use Rattle.wire_requests.specs.Forms.{shape_of, FirstWrong}
 use Rattle.wire_requests.specs.Spellings.{act_form, change_spelling, query_form, query_spelling}
 use Rattle.wire_requests.specs.Limits.{IsValidAct, IsValidQuery}
 use Rattle.wire_requests.specs.declared.form.Form.{Form}
+use Rattle.wire_requests.specs.declared.form.Form.TheVariants as forms
 use Rattle.wire_requests.specs.declared.request.Request.{Request}
 use Rattle.wire_requests.specs.declared.request.Request.TheVariants as requests
 use Rattle.wire_requests.specs.declared.request.ReadRefusal.{ReadRefusal}
@@ -20,7 +21,7 @@ spelling (requests.Change change) = change_spelling change
 -- the form of a request
 abbrev pub form_of : Request → Form
 form_of (requests.Query query) = query_form query
-form_of (requests.Change change) = act_form change.act
+form_of (requests.Change change) = forms.Act (act_form change.act)
 
 -- the values of the request are within the limits of records
 abbrev pub IsValid : Request → Type 0

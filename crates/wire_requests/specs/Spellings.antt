@@ -1,27 +1,26 @@
 -- The one spelling of each request, field by field.
-use Rattle.std.specs.Prelude.{ℕ, List, [], ◌∷◌}
-use Rattle.std.specs.Fmt.{signed_decimal}
-use Rattle.airfields.specs.Sites.{Site}
+use Rattle.std.specs.Prelude.{ℕ, List, [], ◌∷◌, is_some}
+use Rattle.std.specs.Fmt.{decimal, signed_decimal}
 use Rattle.airfields.specs.declared.runway.Runway.{Runway}
 use Rattle.airfields.specs.declared.airfield.Heliport.{Heliport}
 use Rattle.airport_register.specs.declared.amendment.Amendment.{Amendment}
 use Rattle.airport_register.specs.declared.amendment.Amendment.TheVariants as amendments
-use Rattle.wire_values.specs.Words.{category_word, approach_word, weight_word, pavement_word, kind_word, flags_text, name_text}
+use Rattle.determination_dates.specs.Text.{date_text}
+use Rattle.case_values.specs.declared.act.Act.{Act}
+use Rattle.case_values.specs.declared.act.Act.TheVariants as acts
+use Rattle.case_values.specs.declared.submission.Submission.{Submission}
+use Rattle.wire_values.specs.Words.{category_word, approach_word, weight_word, pavement_word, urgency_word, statement_word, disposal_word, progress_word, warrant_word, grant_word, impact_word, party_word, optional_date}
 use Rattle.wire_values.specs.declared.plain.Plain.{Plain}
 use Rattle.wire_values.specs.declared.plain.Plain.TheVariants as plains
-use Rattle.wire_requests.specs.Forms.{form_word}
+use Rattle.wire_cursor.specs.Groups.{site_fields}
+use Rattle.wire_requests.specs.Forms.{act_word, form_word}
+use Rattle.wire_requests.specs.declared.form.ActForm.{ActForm}
+use Rattle.wire_requests.specs.declared.form.ActForm.TheVariants as act_forms
 use Rattle.wire_requests.specs.declared.form.Form.{Form}
 use Rattle.wire_requests.specs.declared.form.Form.TheVariants as forms
-use Rattle.wire_requests.specs.declared.request.Act.{Act}
-use Rattle.wire_requests.specs.declared.request.Act.TheVariants as acts
 use Rattle.wire_requests.specs.declared.request.Query.{Query}
 use Rattle.wire_requests.specs.declared.request.Query.TheVariants as queries
 use Rattle.wire_requests.specs.Changes.{Asked}
-
--- the eight fields of a structure
-abbrev pub site_fields : Site → List (List ℕ)
-site_fields s = signed_decimal s.at.x ∷ signed_decimal s.at.y ∷ signed_decimal s.terrain ∷ signed_decimal s.height
-    ∷ kind_word s.kind ∷ signed_decimal s.mobile ∷ flags_text s.flags ∷ name_text s.on ∷ []
 
 -- the fields of a runway after its airport
 abbrev pub runway_fields : Runway → List (List ℕ)
@@ -42,8 +41,25 @@ amendment_fields (amendments.DropRunway id name) = id ∷ name ∷ []
 amendment_fields (amendments.PutHeliport heliport) = heliport_fields heliport
 amendment_fields (amendments.Drop id) = id ∷ []
 
+-- the fields of a notice
+abbrev pub submission_fields : Submission → List (List ℕ)
+submission_fields s = date_text s.start ∷ optional_date s.permit ∷ optional_date s.fcc ∷ urgency_word s.emergency ∷ statement_word s.statement
+    ∷ site_fields s.filing
+
+-- the fields of an act after caller and key
 abbrev pub act_fields : Act → List (List ℕ)
 act_fields (acts.Amend amendment) = amendment_fields amendment
+act_fields (acts.Day date) = date_text date ∷ []
+act_fields (acts.Closed date) = date_text date ∷ []
+act_fields (acts.File submission) = submission_fields submission
+act_fields (acts.Form n) = decimal n ∷ []
+act_fields (acts.Determine n finding) = decimal n ∷ impact_word finding ∷ []
+act_fields (acts.Petition n party) = decimal n ∷ party_word party ∷ []
+act_fields (acts.Dispose n affirm) = decimal n ∷ disposal_word affirm ∷ []
+act_fields (acts.Extend n months started filed warranted) =
+    decimal n ∷ decimal months ∷ progress_word started ∷ optional_date filed ∷ warrant_word warranted ∷ []
+act_fields (acts.Fcc n completion) = decimal n ∷ grant_word (is_some completion) ∷ optional_date completion ∷ []
+act_fields (acts.Abandon n) = decimal n ∷ []
 
 -- the form of an amendment
 abbrev pub plain_of : Amendment → Plain
@@ -53,21 +69,34 @@ plain_of (amendments.DropRunway id name) = plains.DropRunway
 plain_of (amendments.PutHeliport heliport) = plains.Heliport
 plain_of (amendments.Drop id) = plains.Drop
 
-abbrev pub act_form : Act → Form
-act_form (acts.Amend amendment) = forms.Plain (plain_of amendment)
+-- the form of an act
+abbrev pub act_form : Act → ActForm
+act_form (acts.Amend amendment) = act_forms.Plain (plain_of amendment)
+act_form (acts.Day date) = act_forms.Plain plains.Day
+act_form (acts.Closed date) = act_forms.Plain plains.Closed
+act_form (acts.File submission) = act_forms.File
+act_form (acts.Form n) = act_forms.Form
+act_form (acts.Determine n finding) = act_forms.Determine
+act_form (acts.Petition n party) = act_forms.Petition
+act_form (acts.Dispose n affirm) = act_forms.Dispose
+act_form (acts.Extend n months started filed warranted) = act_forms.Extend
+act_form (acts.Fcc n completion) = act_forms.Fcc
+act_form (acts.Abandon n) = act_forms.Abandon
 
 -- a change: its form, who asks, under which key, and the fields of what is asked for
 abbrev pub change_spelling : Asked → List (List ℕ)
-change_spelling c = form_word (act_form c.act) ∷ c.caller ∷ c.key ∷ act_fields c.act
+change_spelling c = act_word (act_form c.act) ∷ c.caller ∷ c.key ∷ act_fields c.act
 
 abbrev pub query_form : Query → Form
 query_form (queries.Screen site) = forms.Screen
 query_form (queries.Verdict site) = forms.Verdict
+query_form (queries.Case n) = forms.Case
 query_form (queries.Airfield id) = forms.Airfield
 
 abbrev pub query_fields : Query → List (List ℕ)
 query_fields (queries.Screen site) = site_fields site
 query_fields (queries.Verdict site) = site_fields site
+query_fields (queries.Case n) = decimal n ∷ []
 query_fields (queries.Airfield id) = id ∷ []
 
 abbrev pub query_spelling : Query → List (List ℕ)

@@ -2,22 +2,47 @@
 
 ghost use Rattle.std.specs.Prelude.{◌≡◌, ◌≢◌, ◌∷◌, [], IfSome, IfNone};
 ghost use Rattle.wire_values.specs.Wanted.{Spelled};
-ghost use Rattle.wire_requests.specs.Shape.{Took};
+ghost use Rattle.wire_cursor.specs.Shape.{Took};
 ghost use Rattle.wire_requests.specs.Forms.{form_word, BeginsWith};
 ghost use Rattle.wire_requests.specs.declared.form.Form.{Form as SomeForm};
 
-use crate::cursor::{BadField, Cursor};
+use wire_cursor::Cursor;
 use wire_values::Plain;
+
+/// A form of changing records, chosen by the first field.
+#[derive(Clone, Copy)]
+pub enum ActForm {
+    /// A change whose accepted reply says no more than its form.
+    Plain(Plain),
+    /// A notice, which opens a case.
+    File,
+    /// The form of an emergency's notice.
+    Form,
+    /// A determination.
+    Determine,
+    /// A petition for review.
+    Petition,
+    /// The decision on a petition.
+    Dispose,
+    /// A request for an extension.
+    Extend,
+    /// What the FCC decides.
+    Fcc,
+    /// That a structure is given up.
+    Abandon,
+}
 
 /// A form of records, chosen by the first field.
 #[derive(Clone, Copy)]
-pub(crate) enum Form {
-    /// A change whose accepted reply says no more than its form.
-    Plain(Plain),
+pub enum Form {
+    /// A change.
+    Act(ActForm),
     /// The list of findings of a structure.
     Screen,
     /// What the list of findings of a structure comes to.
     Verdict,
+    /// How a case stands.
+    Case,
     /// The row of an airfield.
     Airfield,
 }
@@ -30,25 +55,34 @@ fn form_of(word: &[u8]) -> Option<Form>
 {
     match word {
         b"screen" => Some(Form::Screen),
-        b"airport" => Some(Form::Plain(Plain::Airport)),
-        b"runway" => Some(Form::Plain(Plain::Runway)),
-        b"droprunway" => Some(Form::Plain(Plain::DropRunway)),
-        b"heliport" => Some(Form::Plain(Plain::Heliport)),
-        b"drop" => Some(Form::Plain(Plain::Drop)),
+        b"airport" => Some(Form::Act(ActForm::Plain(Plain::Airport))),
+        b"runway" => Some(Form::Act(ActForm::Plain(Plain::Runway))),
+        b"droprunway" => Some(Form::Act(ActForm::Plain(Plain::DropRunway))),
+        b"heliport" => Some(Form::Act(ActForm::Plain(Plain::Heliport))),
+        b"drop" => Some(Form::Act(ActForm::Plain(Plain::Drop))),
+        b"day" => Some(Form::Act(ActForm::Plain(Plain::Day))),
+        b"closed" => Some(Form::Act(ActForm::Plain(Plain::Closed))),
+        b"file" => Some(Form::Act(ActForm::File)),
+        b"form" => Some(Form::Act(ActForm::Form)),
+        b"determine" => Some(Form::Act(ActForm::Determine)),
+        b"petition" => Some(Form::Act(ActForm::Petition)),
+        b"dispose" => Some(Form::Act(ActForm::Dispose)),
+        b"extend" => Some(Form::Act(ActForm::Extend)),
+        b"fcc" => Some(Form::Act(ActForm::Fcc)),
+        b"abandon" => Some(Form::Act(ActForm::Abandon)),
         b"verdict" => Some(Form::Verdict),
+        b"case" => Some(Form::Case),
         b"airfield" => Some(Form::Airfield),
         _ => None,
     }
 }
 
-impl Cursor<'_> {
-    // The form that the first field names, which is then taken.
-    pub(crate) fn form(&mut self) -> Option<Form>
-        ensures took { IfSome result (λ form. Took (Spelled (form_word form) ∷ []) (form_word form ∷ []) self.old self.new) }
-        ensures before { IfSome result (λ form. self.new.before ≡ form_word form) }
-        ensures none { IfNone result ((form : SomeForm) → ¬ BeginsWith (form_word form) self.old.rest) }
-    {
-        let word = self.next()?;
-        form_of(word)
-    }
+/// The form that the first field names, which is then taken.
+pub(crate) fn named_form(cursor: &mut Cursor<'_>) -> Option<Form>
+    ensures took { IfSome result (λ form. Took (Spelled (form_word form) ∷ []) (form_word form ∷ []) cursor.old cursor.new) }
+    ensures before { IfSome result (λ form. cursor.new.before ≡ form_word form) }
+    ensures none { IfNone result ((form : SomeForm) → ¬ BeginsWith (form_word form) cursor.old.rest) }
+{
+    let word = cursor.next()?;
+    form_of(word)
 }

@@ -1,24 +1,26 @@
-//! The requests of the desk: records read into requests, and changes written as records.
+//! The requests of the desk: records read into requests.
 //!
 //! Each request has one spelling, field by field. Lengths, coordinates and elevations are whole tenths of a foot.
 #![tactic(auto)]
 
-mod cursor;
+mod change;
+mod determination;
+mod extension;
+mod filing;
 mod form;
+mod forms_of_acts;
 mod laws;
-mod pieces;
-mod plain;
+mod queries;
 mod read;
 mod register;
 mod request;
-mod structures;
-mod write;
 
+pub use case_values::{Act, Impact, Party, Submission};
+pub use form::{ActForm, Form};
+pub use forms_of_acts::{act_form, plain_of};
 pub use laws::{canonical_line, first_bad_field, one_reading};
-pub use plain::plain_of;
 pub use read::{RecordReader, read_record};
-pub use request::{Act, Change, Query, ReadRefusal, Request};
-pub use write::write_request;
+pub use request::{Change, Query, ReadRefusal, Request};
 
 #[cfg(test)]
 mod question_tests;

@@ -82,6 +82,7 @@ fn filing_of(query: &Query) -> Option<&Filing> {
     match query {
         Query::Screen(filing) => Some(filing),
         Query::Verdict(filing) => Some(filing),
+        Query::Case(_) => None,
         Query::Airfield(_) => None,
     }
 }

@@ -4,15 +4,15 @@ ghost use Rattle.std.specs.Prelude.{◌≡◌, ◌+◌, ◌<◌, ◌^◌, ℕ, L
 ghost use Rattle.wire_requests.specs.Forms.{FirstWrong};
 ghost use Rattle.wire_requests.specs.Requests.{spelling, IsGood, IsRecord, IsRefusal};
 
-use crate::cursor::{BadField, Cursor};
-use crate::form::Form;
-use crate::register::change;
+use crate::change::change;
+use crate::form::{Form, named_form};
+use crate::queries::{airfield, case, screen, verdict};
 use crate::request::{ReadRefusal, Request};
-use crate::structures::{airfield, screen, verdict};
 use csv::ByteRecord;
 use grid_exact::LINE_LIMIT;
 use record_fields::{Fields, find_fields};
 use std::alloc::Global;
+use wire_cursor::{BadField, Cursor};
 
 // The request whose spelling the fields are.
 #[tactic(auto, using(crate::proofs::FormFacts::all_fields))]
@@ -23,10 +23,11 @@ fn request(fields: Fields<'_>) -> Result<Request, BadField>
     ensures bad { IfErr result (λ b. FirstWrong fields.entry (b.before + 1)) }
 {
     let mut cursor = Cursor::new(fields);
-    match cursor.form() {
-        Some(Form::Plain(plain)) => change(&mut cursor, plain),
+    match named_form(&mut cursor) {
+        Some(Form::Act(form)) => change(&mut cursor, form),
         Some(Form::Screen) => screen(&mut cursor),
         Some(Form::Verdict) => verdict(&mut cursor),
+        Some(Form::Case) => case(&mut cursor),
         Some(Form::Airfield) => airfield(&mut cursor),
         None => Err(BadField { before: 0 }),
     }

@@ -1,66 +1,52 @@
-//! The forms that change the register of airfields.
+//! The forms that change the register of airfields, or the days of the desk.
 
-ghost use Rattle.std.specs.Prelude.{◌≡◌, ◌+◌, IfOk, IfErr};
-ghost use Rattle.wire_values.specs.Plains.{plain_word};
-ghost use Rattle.wire_requests.specs.Shape.{Stops, IsBad};
-ghost use Rattle.wire_requests.specs.Forms.{fields_of_form, amendment_shape};
-ghost use Rattle.wire_requests.specs.Readings.{TookAmendment, IsReading};
-ghost use Rattle.wire_requests.specs.declared.form.Form.TheVariants as forms;
+ghost use Rattle.std.specs.Prelude.{◌+◌, IfOk, IfErr};
+ghost use Rattle.wire_cursor.specs.Shape.{Stops};
+ghost use Rattle.wire_requests.specs.Forms.{plain_shape};
+ghost use Rattle.wire_requests.specs.Readings.{TookAct};
+ghost use Rattle.wire_requests.specs.declared.form.ActForm.TheVariants as act_forms;
 
-use crate::cursor::{BadField, Cursor};
-use crate::pieces::{point, runway_end};
-use crate::request::{Act, Change, Request};
 use airfields::{Heliport, Runway};
 use airport_register::Amendment;
+use case_values::Act;
+use wire_cursor::{BadField, Cursor, point, runway_end};
 use wire_values::{Pavement, Plain, Weight};
 
-/// A change of the register, after the word of its form.
-pub(crate) fn change(cursor: &mut Cursor<'_>, plain: Plain) -> Result<Request, BadField>
-    requires { cursor.old.before ≡ plain_word plain }
-    ensures read { IfOk result (λ r. IsReading (forms.Plain plain) r cursor.old) }
-    ensures bad { IfErr result (λ b. IsBad (fields_of_form (forms.Plain plain)) cursor.old (b.before + 1)) }
+/// What a form whose accepted reply says no more tells after caller and key.
+pub(crate) fn plain_act(cursor: &mut Cursor<'_>, form: Plain) -> Result<Act, BadField>
+    ensures took { IfOk result (λ a. TookAct (act_forms.Plain form) a cursor.old cursor.new) }
+    ensures stops { IfErr result (λ b. Stops (plain_shape form) cursor.old (b.before + 1)) }
 {
-    let caller = cursor.take()?;
-    let key = cursor.take()?;
-    let amendment = amendment(cursor, plain)?;
-    cursor.end()?;
-    let act = Act::Amend(amendment);
-    Ok(Request::Change(Change { caller, key, act }))
-}
-
-// What a form tells after caller and key.
-fn amendment(cursor: &mut Cursor<'_>, plain: Plain) -> Result<Amendment, BadField>
-    ensures took { IfOk result (λ a. TookAmendment plain a cursor.old cursor.new) }
-    ensures stops { IfErr result (λ b. Stops (amendment_shape plain) cursor.old (b.before + 1)) }
-{
-    match plain {
+    match form {
         Plain::Airport => airport(cursor),
         Plain::Runway => runway(cursor),
         Plain::DropRunway => drop_runway(cursor),
         Plain::Heliport => heliport(cursor),
         Plain::Drop => drop_airfield(cursor),
+        Plain::Day => day(cursor),
+        Plain::Closed => closed(cursor),
     }
 }
 
-fn airport(cursor: &mut Cursor<'_>) -> Result<Amendment, BadField>
-    ensures took { IfOk result (λ a. TookAmendment Plain.Airport a cursor.old cursor.new) }
-    ensures stops { IfErr result (λ b. Stops (amendment_shape Plain.Airport) cursor.old (b.before + 1)) }
+fn airport(cursor: &mut Cursor<'_>) -> Result<Act, BadField>
+    ensures took { IfOk result (λ a. TookAct (act_forms.Plain Plain.Airport) a cursor.old cursor.new) }
+    ensures stops { IfErr result (λ b. Stops (plain_shape Plain.Airport) cursor.old (b.before + 1)) }
 {
     let id = cursor.take()?;
     let category = cursor.take()?;
     let arp = point(cursor)?;
     let elevation = cursor.whole()?;
-    Ok(Amendment::PutAirport {
+    Ok(Act::Amend(Amendment::PutAirport {
         id,
         category,
         arp,
         elevation,
-    })
+    }))
 }
 
-fn runway(cursor: &mut Cursor<'_>) -> Result<Amendment, BadField>
-    ensures took { IfOk result (λ a. TookAmendment Plain.Runway a cursor.old cursor.new) }
-    ensures stops { IfErr result (λ b. Stops (amendment_shape Plain.Runway) cursor.old (b.before + 1)) }
+fn runway(cursor: &mut Cursor<'_>) -> Result<Act, BadField>
+    ensures took { IfOk result (λ a. TookAct (act_forms.Plain Plain.Runway) a cursor.old cursor.new) }
+    ensures stops { IfErr result (λ b. Stops (plain_shape Plain.Runway) cursor.old (b.before + 1)) }
 {
     let id = cursor.take()?;
     let name = cursor.take()?;
@@ -75,21 +61,21 @@ fn runway(cursor: &mut Cursor<'_>) -> Result<Amendment, BadField>
         end1,
         end2,
     };
-    Ok(Amendment::PutRunway { id, runway })
+    Ok(Act::Amend(Amendment::PutRunway { id, runway }))
 }
 
-fn drop_runway(cursor: &mut Cursor<'_>) -> Result<Amendment, BadField>
-    ensures took { IfOk result (λ a. TookAmendment Plain.DropRunway a cursor.old cursor.new) }
-    ensures stops { IfErr result (λ b. Stops (amendment_shape Plain.DropRunway) cursor.old (b.before + 1)) }
+fn drop_runway(cursor: &mut Cursor<'_>) -> Result<Act, BadField>
+    ensures took { IfOk result (λ a. TookAct (act_forms.Plain Plain.DropRunway) a cursor.old cursor.new) }
+    ensures stops { IfErr result (λ b. Stops (plain_shape Plain.DropRunway) cursor.old (b.before + 1)) }
 {
     let id = cursor.take()?;
     let name = cursor.take()?;
-    Ok(Amendment::DropRunway { id, name })
+    Ok(Act::Amend(Amendment::DropRunway { id, name }))
 }
 
-fn heliport(cursor: &mut Cursor<'_>) -> Result<Amendment, BadField>
-    ensures took { IfOk result (λ a. TookAmendment Plain.Heliport a cursor.old cursor.new) }
-    ensures stops { IfErr result (λ b. Stops (amendment_shape Plain.Heliport) cursor.old (b.before + 1)) }
+fn heliport(cursor: &mut Cursor<'_>) -> Result<Act, BadField>
+    ensures took { IfOk result (λ a. TookAct (act_forms.Plain Plain.Heliport) a cursor.old cursor.new) }
+    ensures stops { IfErr result (λ b. Stops (plain_shape Plain.Heliport) cursor.old (b.before + 1)) }
 {
     let id = cursor.take()?;
     let category = cursor.take()?;
@@ -97,20 +83,36 @@ fn heliport(cursor: &mut Cursor<'_>) -> Result<Amendment, BadField>
     let b = point(cursor)?;
     let width = cursor.whole()?;
     let elevation = cursor.whole()?;
-    Ok(Amendment::PutHeliport(Heliport {
+    Ok(Act::Amend(Amendment::PutHeliport(Heliport {
         id,
         category,
         a,
         b,
         width,
         elevation,
-    }))
+    })))
 }
 
-fn drop_airfield(cursor: &mut Cursor<'_>) -> Result<Amendment, BadField>
-    ensures took { IfOk result (λ a. TookAmendment Plain.Drop a cursor.old cursor.new) }
-    ensures stops { IfErr result (λ b. Stops (amendment_shape Plain.Drop) cursor.old (b.before + 1)) }
+fn drop_airfield(cursor: &mut Cursor<'_>) -> Result<Act, BadField>
+    ensures took { IfOk result (λ a. TookAct (act_forms.Plain Plain.Drop) a cursor.old cursor.new) }
+    ensures stops { IfErr result (λ b. Stops (plain_shape Plain.Drop) cursor.old (b.before + 1)) }
 {
     let id = cursor.take()?;
-    Ok(Amendment::Drop(id))
+    Ok(Act::Amend(Amendment::Drop(id)))
+}
+
+fn day(cursor: &mut Cursor<'_>) -> Result<Act, BadField>
+    ensures took { IfOk result (λ a. TookAct (act_forms.Plain Plain.Day) a cursor.old cursor.new) }
+    ensures stops { IfErr result (λ b. Stops (plain_shape Plain.Day) cursor.old (b.before + 1)) }
+{
+    let date = cursor.take()?;
+    Ok(Act::Day(date))
+}
+
+fn closed(cursor: &mut Cursor<'_>) -> Result<Act, BadField>
+    ensures took { IfOk result (λ a. TookAct (act_forms.Plain Plain.Closed) a cursor.old cursor.new) }
+    ensures stops { IfErr result (λ b. Stops (plain_shape Plain.Closed) cursor.old (b.before + 1)) }
+{
+    let date = cursor.take()?;
+    Ok(Act::Closed(date))
 }

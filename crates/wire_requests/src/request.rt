@@ -1,16 +1,9 @@
 //! Requests.
 
 use airfields::{FieldId, Filing};
-use airport_register::Amendment;
+use case_values::Act;
 use std::marker::Model;
 use wire_values::Word;
-
-/// What a changing request asks for.
-#[derive(Clone, Copy)]
-pub enum Act {
-    /// A change to the register of airfields.
-    Amend(Amendment),
-}
 
 /// A request that changes what the desk holds; a key names each request of a caller. It has a record: each of its values is within the
 /// limits of its field.
@@ -55,6 +48,8 @@ pub enum Query {
     Screen(Filing),
     /// What the list of findings of a structure comes to.
     Verdict(Filing),
+    /// How the case of this number stands.
+    Case(u32),
     /// The row of the airfield of this name.
     Airfield(FieldId),
 }

@@ -1,12 +1,16 @@
 -- A text that is none of the words of a value.
-use Rattle.std.proofs.Common.{◌≢◌, List, ℕ, Bool, true, false, codes}
+use Rattle.std.proofs.Common.{◌≢◌, List, ℕ, Option, Some, None, codes}
 use Rattle.runway_classes.specs.declared.ApproachKind.{ApproachKind}
 use Rattle.runway_classes.specs.declared.ApproachKind.TheVariants.{Visual, NonprecisionAbove, NonprecisionLow, Precision}
 use Rattle.airfields.specs.declared.category.Category.{Category}
 use Rattle.airfields.specs.declared.category.Category.TheVariants.{PublicUse, PublicBuilding, MilitaryBuilding, Federal, Dod, Procedure, OtherPrivate}
 use Rattle.airfields.specs.declared.structure.StructureKind.{StructureKind}
 use Rattle.airfields.specs.declared.structure.StructureKind.TheVariants as kinds
-use Rattle.wire_values.specs.Words.{category_word, approach_word, weight_word, pavement_word, kind_word}
+use Rattle.case_values.specs.declared.act.Impact.{Impact}
+use Rattle.case_values.specs.declared.act.Impact.TheVariants as impacts
+use Rattle.case_values.specs.declared.act.Party.{Party}
+use Rattle.case_values.specs.declared.act.Party.TheVariants as parties
+use Rattle.wire_values.specs.Words.{category_word, approach_word, kind_word, impact_word, party_word}
 
 pub no_category : (word : List ℕ) → word ≢ codes "public" → word ≢ codes "building" → word ≢ codes "military" → word ≢ codes "federal"
     → word ≢ codes "dod" → word ≢ codes "procedure" → word ≢ codes "private" → (category : Category) → word ≢ category_word category
@@ -24,14 +28,6 @@ no_approach word v a l p NonprecisionAbove = a
 no_approach word v a l p NonprecisionLow = l
 no_approach word v a l p Precision = p
 
-pub no_weight : (word : List ℕ) → word ≢ codes "utility" → word ≢ codes "other" → (utility : Bool) → word ≢ weight_word utility
-no_weight word u o true = u
-no_weight word u o false = o
-
-pub no_pavement : (word : List ℕ) → word ≢ codes "hard" → word ≢ codes "soft" → (hard : Bool) → word ≢ pavement_word hard
-no_pavement word h s true = h
-no_pavement word h s false = s
-
 pub no_kind : (word : List ℕ) → word ≢ codes "object" → word ≢ codes "antenna" → word ≢ codes "interstate" → word ≢ codes "road"
     → word ≢ codes "private" → word ≢ codes "rail" → word ≢ codes "water" → (kind : StructureKind) → word ≢ kind_word kind
 no_kind word o a i r p l w kinds.Object = o
@@ -41,3 +37,13 @@ no_kind word o a i r p l w kinds.Road = r
 no_kind word o a i r p l w kinds.Private = p
 no_kind word o a i r p l w kinds.Rail = l
 no_kind word o a i r p l w kinds.Water = w
+
+pub no_impact : (word : List ℕ) → word ≢ codes "-" → word ≢ codes "none" → word ≢ codes "substantial" → (impact : Option Impact) → word ≢ impact_word impact
+no_impact word d n s None = d
+no_impact word d n s (Some impacts.NotSubstantial) = n
+no_impact word d n s (Some impacts.Substantial) = s
+
+pub no_party : (word : List ℕ) → word ≢ codes "sponsor" → word ≢ codes "commenter" → word ≢ codes "latecomment" → (party : Party) → word ≢ party_word party
+no_party word s c l parties.Sponsor = s
+no_party word s c l parties.Commenter = c
+no_party word s c l parties.LateComment = l

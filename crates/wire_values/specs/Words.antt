@@ -9,6 +9,13 @@ use Rattle.airfields.specs.declared.structure.StructureKind.{StructureKind}
 use Rattle.airfields.specs.declared.structure.StructureKind.TheVariants as kinds
 use Rattle.airfields.specs.declared.structure.Flags.{Flags}
 use Rattle.airfields.specs.Names.{IsFieldId}
+use Rattle.jiff_core.specs.declared.civil.date.Date.{Date}
+use Rattle.determination_dates.specs.Days.{IsLimited}
+use Rattle.determination_dates.specs.Text.{date_text}
+use Rattle.case_values.specs.declared.act.Impact.{Impact}
+use Rattle.case_values.specs.declared.act.Impact.TheVariants as impacts
+use Rattle.case_values.specs.declared.act.Party.{Party}
+use Rattle.case_values.specs.declared.act.Party.TheVariants as parties
 use Rattle.wire_values.specs.declared.word.TheConstants.{WORD_LIMIT}
 
 -- the code of an ASCII letter, of a digit, of a dot or of an underscore
@@ -87,3 +94,51 @@ IsAirfieldName (Some name) = IsFieldId name
 -- a whole number within these limits
 abbrev pub IsBetween : ℤ → ℤ → ℤ → Type 0
 IsBetween low high z = (low ≤ℤ z) × (z ≤ℤ high)
+
+-- ---- values of cases
+
+-- whether a notice is of an emergency that requires immediate construction (77.7(d))
+abbrev pub urgency_word : Bool → List ℕ
+urgency_word emergency = if emergency then codes "emergency" else codes "normal"
+
+-- whether a statement explains a height of more than 2,000 feet (77.7(c))
+abbrev pub statement_word : Bool → List ℕ
+statement_word explains = if explains then codes "yes" else codes "-"
+
+-- how a petition is decided: the determination is affirmed or reversed (77.41)
+abbrev pub disposal_word : Bool → List ℕ
+disposal_word affirm = if affirm then codes "affirm" else codes "reverse"
+
+-- whether structural work has started (77.33, 77.35)
+abbrev pub progress_word : Bool → List ℕ
+progress_word started = if started then codes "started" else codes "unstarted"
+
+-- whether more time is warranted (77.35(c))
+abbrev pub warrant_word : Bool → List ℕ
+warrant_word warranted = if warranted then codes "yes" else codes "no"
+
+-- whether the FCC grants a construction permit
+abbrev pub grant_word : Bool → List ℕ
+grant_word granted = if granted then codes "granted" else codes "refused"
+
+-- what it means that a standard is exceeded (77.31), a dash where none is
+abbrev pub impact_word : Option Impact → List ℕ
+impact_word None = codes "-"
+impact_word (Some impacts.NotSubstantial) = codes "none"
+impact_word (Some impacts.Substantial) = codes "substantial"
+
+-- who petitions (77.37)
+abbrev pub party_word : Party → List ℕ
+party_word parties.Sponsor = codes "sponsor"
+party_word parties.Commenter = codes "commenter"
+party_word parties.LateComment = codes "latecomment"
+
+-- a date, or a dash where there is none
+abbrev pub optional_date : Option Date → List ℕ
+optional_date None = codes "-"
+optional_date (Some date) = date_text date
+
+-- no date, or one within the limit
+abbrev pub IsAnyLimited : Option Date → Type 0
+IsAnyLimited None = Unit {0}
+IsAnyLimited (Some date) = IsLimited date

@@ -3,6 +3,9 @@
 //! Lengths, coordinates and elevations are whole tenths of a foot.
 #![tactic(auto)]
 
+mod choices;
+mod counts;
+mod dates;
 mod field_value;
 mod flags;
 mod names;
@@ -11,11 +14,13 @@ mod plain;
 mod word;
 mod words;
 
+pub use choices::{Disposal, Grant, Pavement, Progress, Statement, Urgency, Warrant, Weight};
+pub use counts::{CASE_LIMIT, CaseNumber, Months};
+pub use dates::completion_date;
 pub use field_value::{FieldValue, append_next, append_text};
 pub use numbers::{WholeNumber, number_within};
 pub use plain::Plain;
 pub use word::{WORD_LIMIT, Word};
-pub use words::{Pavement, Weight};
 
 #[cfg(test)]
 mod tests;

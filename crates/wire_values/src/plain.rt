@@ -15,6 +15,10 @@ pub enum Plain {
     Heliport,
     /// An airfield was taken out of the register.
     Drop,
+    /// The desk's day was set.
+    Day,
+    /// A day was closed.
+    Closed,
 }
 
 impl Plain {
@@ -30,6 +34,8 @@ impl Plain {
             Plain::DropRunway => "droprunway",
             Plain::Heliport => "heliport",
             Plain::Drop => "drop",
+            Plain::Day => "day",
+            Plain::Closed => "closed",
         }
     }
 }

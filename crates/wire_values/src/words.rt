@@ -3,27 +3,14 @@
 ghost use Rattle.std.specs.Prelude.{◌≡◌, refl};
 ghost use Rattle.runway_classes.specs.declared.ApproachKind.{ApproachKind};
 ghost use Rattle.airfields.specs.declared.category.Category.{Category};
-ghost use Rattle.wire_values.specs.Words.{category_word, approach_word, weight_word, pavement_word, kind_word};
-ghost use Rattle.wire_values.specs.Wanted.{CategoryWanted, ApproachWanted, WeightWanted, PavementWanted, KindWanted};
+ghost use Rattle.wire_values.specs.Words.{category_word, approach_word, kind_word, impact_word, party_word};
+ghost use Rattle.wire_values.specs.Wanted.{CategoryWanted, ApproachWanted, KindWanted, ImpactWanted, PartyWanted};
 
 use crate::field_value::{FieldValue, append_text};
 use airfields::{Category, StructureKind};
+use case_values::{Impact, Party};
 use grid_exact::NoMemory;
 use runway_classes::ApproachKind;
-
-/// The weight of aircraft that a runway is for (77.3).
-#[derive(Clone, Copy, Debug, PartialEq, Eq)]
-pub struct Weight {
-    /// Whether it is a utility runway.
-    pub utility: bool,
-}
-
-/// The surface of a runway (77.19(c)).
-#[derive(Clone, Copy, Debug, PartialEq, Eq)]
-pub struct Pavement {
-    /// Whether it is a prepared hard surface.
-    pub hard: bool,
-}
 
 fn text_of_category(category: Category) -> &'static str
     ensures { result.now ≡ category_word category }
@@ -145,60 +132,71 @@ impl FieldValue for StructureKind {
     ghost fits = { λ v _ _. (v, refl) };
 }
 
-fn text_of_weight(utility: bool) -> &'static str
-    ensures { result.now ≡ weight_word utility }
+fn text_of_impact(finding: Option<Impact>) -> &'static str
+    ensures { result.now ≡ impact_word finding }
 {
-    if utility { "utility" } else { "other" }
+    match finding {
+        None => "-",
+        Some(Impact::NotSubstantial) => "none",
+        Some(Impact::Substantial) => "substantial",
+    }
 }
 
-impl FieldValue for Weight {
-    ghost wanted = { WeightWanted };
+/// What it means that a standard is exceeded; a dash where none is.
+impl FieldValue for Option<Impact> {
+    ghost wanted = { ImpactWanted };
 
-    ghost spelled = { λ v. weight_word v.utility };
+    ghost spelled = { impact_word };
 
     ghost good = { λ _. Unit {0} };
 
-    #[tactic(auto, using(crate::proofs::WordFacts::no_weight))]
-    fn parse(text: &[u8]) -> Option<Weight> {
+    #[tactic(auto, using(crate::proofs::WordFacts::no_impact))]
+    fn parse(text: &[u8]) -> Option<Option<Impact>> {
         match text {
-            b"utility" => Some(Weight { utility: true }),
-            b"other" => Some(Weight { utility: false }),
+            b"-" => Some(None),
+            b"none" => Some(Some(Impact::NotSubstantial)),
+            b"substantial" => Some(Some(Impact::Substantial)),
             _ => None,
         }
     }
 
     fn append(&self, text: &mut String) -> Result<(), NoMemory> {
-        append_text(text, text_of_weight(self.utility))
+        append_text(text, text_of_impact(*self))
     }
 
-    ghost fits = { λ v _ _. (v.utility, refl) };
+    ghost fits = { λ v _ _. (v, refl) };
 }
 
-fn text_of_pavement(hard: bool) -> &'static str
-    ensures { result.now ≡ pavement_word hard }
+fn text_of_party(party: Party) -> &'static str
+    ensures { result.now ≡ party_word party }
 {
-    if hard { "hard" } else { "soft" }
+    match party {
+        Party::Sponsor => "sponsor",
+        Party::Commenter => "commenter",
+        Party::LateComment => "latecomment",
+    }
 }
 
-impl FieldValue for Pavement {
-    ghost wanted = { PavementWanted };
+impl FieldValue for Party {
+    ghost wanted = { PartyWanted };
 
-    ghost spelled = { λ v. pavement_word v.hard };
+    ghost spelled = { party_word };
 
     ghost good = { λ _. Unit {0} };
 
-    #[tactic(auto, using(crate::proofs::WordFacts::no_pavement))]
-    fn parse(text: &[u8]) -> Option<Pavement> {
+    #[tactic(auto, using(crate::proofs::WordFacts::no_party))]
+    fn parse(text: &[u8]) -> Option<Party> {
         match text {
-            b"hard" => Some(Pavement { hard: true }),
-            b"soft" => Some(Pavement { hard: false }),
+            b"sponsor" => Some(Party::Sponsor),
+            b"commenter" => Some(Party::Commenter),
+            b"latecomment" => Some(Party::LateComment),
             _ => None,
         }
     }
 
     fn append(&self, text: &mut String) -> Result<(), NoMemory> {
-        append_text(text, text_of_pavement(self.hard))
+        append_text(text, text_of_party(*self))
     }
 
-    ghost fits = { λ v _ _. (v.hard, refl) };
+    ghost fits = { λ v _ _. (v, refl) };
 }

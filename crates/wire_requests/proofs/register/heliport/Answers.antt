@@ -1,7 +1,7 @@
 use Rattle.std.proofs.Common.{refl}
 use Rattle.wire_values.proofs.LimitFacts.{raw_short}
-use Rattle.wire_requests.proofs.ShapeFacts.{in_1, in_2, past_1, past_2, took_1, took_2}
-use Rattle.wire_requests.proofs.ExitFacts.{stops_out}
+use Rattle.wire_cursor.proofs.ShapeFacts.{in_1, in_2, past_1, past_2, took_1, took_2}
+use Rattle.wire_cursor.proofs.ExitFacts.{stops_out}
 use Rattle.wire_requests.proofs.register.heliport.Goals as goal
 
 pub returns-in_err-category-clause-stops : goal.returns-in_err-category-clause-stops

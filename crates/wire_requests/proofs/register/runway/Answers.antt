@@ -1,6 +1,6 @@
 use Rattle.std.proofs.Common.{refl}
-use Rattle.wire_requests.proofs.ShapeFacts.{in_1, in_4, past_1, past_4, took_1, took_4}
-use Rattle.wire_requests.proofs.ExitFacts.{stops_out}
+use Rattle.wire_cursor.proofs.ShapeFacts.{in_1, in_4, past_1, past_4, took_1, took_4}
+use Rattle.wire_cursor.proofs.ExitFacts.{stops_out}
 use Rattle.wire_requests.proofs.register.runway.Goals as goal
 
 pub returns-in_err-name-clause-stops : goal.returns-in_err-name-clause-stops

@@ -1,9 +1,0 @@
-use Rattle.wire_requests.proofs.ShapeFacts.{bad_here, bad_after}
-use Rattle.wire_requests.proofs.ExitFacts.{bad_out}
-use Rattle.wire_requests.proofs.structures.airfield.Goals as goal
-
-pub returns-in_err-id-clause-bad : goal.returns-in_err-id-clause-bad
-returns-in_err-id-clause-bad c = bad_out _ _ c.from_residual.ensures.1 (bad_here c.in_err-id.ensures.stops)
-
-pub returns-in_err-end-clause-bad : goal.returns-in_err-end-clause-bad
-returns-in_err-end-clause-bad c = bad_out _ _ c.from_residual-in_err-end.ensures.1 (bad_after c.in_ok-id.ensures.took c.in_err-end.ensures.bad)
