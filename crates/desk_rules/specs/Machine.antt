@@ -111,8 +111,11 @@ decide_new s q (Err why) = No why
 decide_new s q (Ok e) = Done (entry s q e.outcome) e.step
 
 -- a caller's key stands for one act
+abbrev pub repeated : Entry → Asked → Answer
+repeated e q = cond (act.ghosts.eq e.change.act q.act) (Kept e) (No (refusals.KeyReused e.number))
+
 abbrev pub decide_by : Option Entry → State → Asked → Option KeptList → Answer
-decide_by (Some e) s q basis = cond (act.ghosts.eq e.change.act q.act) (Kept e) (No (refusals.KeyReused e.number))
+decide_by (Some e) s q basis = repeated e q
 decide_by None s q basis = decide_new s q (ruled s basis q.act)
 
 -- what a request is answered, where p is the number of the last published entry, and a list may be given

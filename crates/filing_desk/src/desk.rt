@@ -1,25 +1,14 @@
 //! All that the desk holds.
 
-ghost use Rattle.std.specs.Prelude.{◌≡◌, ◌≢◌, ◌<◌, [], Some, None, Ok, Err, IfOk, IfErr, IfSome, OnOk, OnErr, MatchResult, option_copied, slice_get};
-ghost use Rattle.oe_findings.specs.List.{findings_of};
-ghost use Rattle.case_values.specs.declared.act.Act.TheVariants as acts;
-ghost use Rattle.case_acts.specs.declared.effect.Step.TheVariants as steps;
-ghost use Rattle.case_acts.specs.Cases.{HasLimitedDates, IsSound, IsSoundStep};
+ghost use Rattle.std.specs.Prelude.{◌≡◌, IfSome, option_copied, slice_get};
+ghost use Rattle.case_acts.specs.Cases.{IsSound};
 ghost use Rattle.determination_dates.specs.Days.{IsLimited};
-ghost use Rattle.determination_dates.specs.Effects.{IsKept};
-ghost use Rattle.desk_rules.specs.States.{empty, case_at, entry_of, with_entry, stepped, last_number};
-ghost use Rattle.desk_rules.specs.Evaluations.{basis_of};
-ghost use Rattle.desk_rules.specs.Machine.{acted, register_rule, after};
+ghost use Rattle.desk_rules.specs.States.{empty, case_at};
 ghost use Rattle.filing_desk.specs.Desks.{AreSound};
-ghost use Rattle.filing_desk.specs.Answers.{told, decision, no_memory};
 
 use crate::receipts::Receipts;
-use case_acts::{Effect, Step};
-use case_records::{KeptCase, KeptList, Outcome, Refusal};
-use case_values::{Act, Impact, Submission};
-use desk_rules::{MOST_CASES, Entry};
-use determination_dates::{ClosedDays, Life};
-use grid_exact::NoMemory;
+use case_records::KeptCase;
+use determination_dates::ClosedDays;
 use jiff::civil::Date;
 use oe_findings::Sky;
 use std::alloc::Global;
