@@ -16,3 +16,6 @@ mod view;
 
 pub use answer::Answer;
 pub use clerk::Clerk;
+
+#[cfg(test)]
+mod tests;
