@@ -1,0 +1,4 @@
+pub mod States
+pub mod Evaluations
+pub mod Machine
+pub mod Views

@@ -1,0 +1,173 @@
+-- The desk as a machine: what a request is answered, the state after it, and the replay of accepted requests.
+use Rattle.std.specs.Prelude.{ℕ, ◌+◌, List, [], ◌∷◌, length, nat_le, int_lt, cond, Option, Some, None, Result, Ok, Err}
+use Rattle.std.specs.Option.{option_map}
+use Rattle.jiff_core.specs.declared.civil.date.Date.{Date}
+use Rattle.jiff_core.specs.Date.{epoch_day}
+use Rattle.airfields.specs.Sites.{Site}
+use Rattle.airfields.specs.declared.airfield.Airfield.{Airfield}
+use Rattle.airport_register.specs.Amendments.{first_broken}
+use Rattle.determination_dates.specs.Computed.{with_some}
+use Rattle.wire_values.specs.declared.plain.Plain.TheVariants as plains
+use Rattle.wire_requests.specs.Changes.{Asked}
+use Rattle.wire_requests.specs.Spellings.{plain_of}
+use Rattle.case_values.specs.contracts.act.ActPartialEq.TheImpl as act
+use Rattle.case_values.specs.declared.act.Act.{Act}
+use Rattle.case_values.specs.declared.act.Act.TheVariants as acts
+use Rattle.case_values.specs.declared.act.Impact.{Impact}
+use Rattle.case_records.specs.declared.outcome.Outcome.{Outcome}
+use Rattle.case_records.specs.declared.outcome.Outcome.TheVariants as outcomes
+use Rattle.case_records.specs.declared.refusal.Refusal.{Refusal}
+use Rattle.case_records.specs.declared.refusal.Refusal.TheVariants as refusals
+use Rattle.case_records.specs.declared.case.KeptList.{KeptList}
+use Rattle.case_records.specs.declared.case.KeptCase.{KeptCase}
+use Rattle.case_records.specs.Refusals.{refused_amendment}
+use Rattle.case_acts.specs.declared.effect.Effect.{Effect}
+use Rattle.case_acts.specs.declared.effect.Step.{Step}
+use Rattle.case_acts.specs.declared.effect.Step.TheVariants as steps
+use Rattle.case_acts.specs.Rules.{when}
+use Rattle.case_acts.specs.Effects.{effect, filed}
+use Rattle.case_acts.specs.Rulings.{by_first, ruling, form_ruling, determination_ruling, petition_ruling, disposal_ruling, extension_ruling, fcc_ruling, abandon_ruling}
+use Rattle.desk_rules.specs.declared.entry.Entry.{Entry}
+use Rattle.desk_rules.specs.declared.entry.TheConstants.{MOST_CASES}
+use Rattle.desk_rules.specs.States.{State, stepped, with_entry, entry_of, case_at, last_number}
+use Rattle.desk_rules.specs.Evaluations.{Given, basis_of, evaluated_site}
+
+-- ---- what an act comes to
+
+-- a notice and an act on a case want a day; no case has the number 0, nor one above their count
+abbrev pub on_day : Option Date → (Date → Result Effect Refusal) → Result Effect Refusal
+on_day None act = Err refusals.NoDay
+on_day (Some today) act = act today
+
+abbrev pub on_kept : Option KeptCase → (KeptCase → Result Effect Refusal) → Result Effect Refusal
+on_kept None act = Err refusals.UnknownCase
+on_kept (Some c) act = act c
+
+abbrev pub on_case : State → ℕ → (Date → KeptCase → Result Effect Refusal) → Result Effect Refusal
+on_case s number act = on_day s.day (λ today. on_kept (case_at s.cases number) (act today))
+
+-- an act that evaluates a structure has a list
+abbrev pub on_list : Option KeptList → (KeptList → Result Effect Refusal) → Result Effect Refusal
+on_list None act = Err refusals.UnknownCase
+on_list (Some kept) act = act kept
+
+-- the day of the desk never goes back
+abbrev pub day_rules : Option Date → Date → List Refusal
+day_rules None day = []
+day_rules (Some kept) day = when (int_lt (epoch_day day) (epoch_day kept)) (refusals.DayBack kept day)
+
+-- the desk has room for so many cases
+abbrev pub file_rules : List KeptCase → List Refusal
+file_rules cases = when (nat_le MOST_CASES (length cases)) refusals.CasesFull
+
+-- what an act comes to on the list of its basis, but for the rules of the register
+abbrev pub acted : State → Option KeptList → Act → Result Effect Refusal
+acted s basis (acts.Amend a) = Ok (effect (outcomes.Plain (plain_of a)) (steps.Amended a))
+acted s basis (acts.Day d) = ruling (day_rules s.day d) (Some (effect (outcomes.Plain plains.Day) (steps.DaySet d)))
+acted s basis (acts.Closed d) = Ok (effect (outcomes.Plain plains.Closed) (steps.DayClosed d))
+acted s basis (acts.File n) = on_day s.day (λ today. ruling (file_rules s.cases) (filed (length s.cases + 1) today n))
+acted s basis (acts.Form number) = on_case s number (form_ruling number)
+acted s basis (acts.Determine number finding) = on_case s number (λ today c. on_list basis (λ kept. determination_ruling number finding s.closed kept today c))
+acted s basis (acts.Petition number party) = on_case s number (petition_ruling number)
+acted s basis (acts.Dispose number affirm) = on_case s number (disposal_ruling number affirm)
+acted s basis (acts.Extend number months started filed warranted) =
+    on_case s number (extension_ruling number (record { months = months; started = started; filed = filed; warranted = warranted }))
+acted s basis (acts.Fcc number completion) = on_case s number (fcc_ruling number completion)
+acted s basis (acts.Abandon number) = on_case s number (abandon_ruling number)
+
+-- the rule of the register that a step breaks
+abbrev pub register_rule : List Airfield → Step → Option Refusal
+register_rule register (steps.Amended a) = option_map refused_amendment (first_broken register a)
+register_rule register (steps.DaySet d) = None
+register_rule register (steps.DayClosed d) = None
+register_rule register (steps.CaseFiled c) = None
+register_rule register (steps.FormPut number day) = None
+register_rule register (steps.LifePut number life) = None
+register_rule register (steps.Issued number life list) = None
+
+abbrev pub registered : List Airfield → Result Effect Refusal → Result Effect Refusal
+registered register (Err why) = Err why
+registered register (Ok e) = by_first (register_rule register e.step) (Some e)
+
+abbrev pub ruled : State → Option KeptList → Act → Result Effect Refusal
+ruled s basis a = registered s.register (acted s basis a)
+
+-- ---- what a request is answered
+
+pub data Answer : Type 0 where
+  -- the outcome of an entry that is there already
+  Kept : Entry → Answer
+  -- a refusal
+  No : Refusal → Answer
+  -- a new entry, and what is done
+  Done : Entry → Step → Answer
+
+-- the entry that a request makes
+abbrev pub entry : State → Asked → Outcome → Entry
+entry s q outcome = record { number = last_number s + 1; change = q; outcome = outcome }
+
+abbrev pub decide_new : State → Asked → Result Effect Refusal → Answer
+decide_new s q (Err why) = No why
+decide_new s q (Ok e) = Done (entry s q e.outcome) e.step
+
+-- a caller's key stands for one act
+abbrev pub repeated : Entry → Asked → Answer
+repeated e q = cond (act.ghosts.eq e.change.act q.act) (Kept e) (No (refusals.KeyReused e.number))
+
+abbrev pub decide_by : Option Entry → State → Asked → Option KeptList → Answer
+decide_by (Some e) s q basis = repeated e q
+decide_by None s q basis = decide_new s q (ruled s basis q.act)
+
+-- what a request is answered, where p is the number of the last published entry, and a list may be given
+abbrev pub decide : State → ℕ → Asked → Option Given → Answer
+decide s p q given = decide_by (entry_of q.caller q.key s.entries) s q (basis_of s p given q.act)
+
+-- the state after an answer
+abbrev pub after : State → Answer → State
+after s (Kept e) = s
+after s (No why) = s
+after s (Done e step) = with_entry e (stepped step s)
+
+-- the entry that it makes
+abbrev pub made : Answer → List Entry
+made (Kept e) = []
+made (No why) = []
+made (Done e step) = e ∷ []
+
+-- ---- replay
+
+-- the number of the register that the outcome records
+abbrev pub version_of : Outcome → ℕ
+version_of (outcomes.Plain plain) = 0
+version_of (outcomes.Filed number timely fcc explained) = 0
+version_of (outcomes.FormCame number late) = 0
+version_of (outcomes.Determined number decision last issued deadline effective expiry list) = last
+version_of (outcomes.Petitioned number) = 0
+version_of (outcomes.Disposed number affirmed effective expiry) = 0
+version_of (outcomes.Extended number expiry last_day) = 0
+version_of (outcomes.Fcc number expiry) = 0
+version_of (outcomes.Abandoned number) = 0
+
+-- the list that it records, as one that is given for this structure
+abbrev pub list_given : Outcome → Site → Option Given
+list_given (outcomes.Plain plain) site = None
+list_given (outcomes.Filed number timely fcc explained) site = None
+list_given (outcomes.FormCame number late) site = None
+list_given (outcomes.Determined number decision last issued deadline effective expiry list) site = Some (record { filing = site; last = last; list = list })
+list_given (outcomes.Petitioned number) site = None
+list_given (outcomes.Disposed number affirmed effective expiry) site = None
+list_given (outcomes.Extended number expiry last_day) site = None
+list_given (outcomes.Fcc number expiry) site = None
+list_given (outcomes.Abandoned number) site = None
+
+abbrev pub given_of : State → Entry → Option Given
+given_of s e = with_some (evaluated_site s e.change.act) (list_given e.outcome)
+
+-- the request of an entry, decided again with what its outcome records
+abbrev pub decide_again : State → Entry → Answer
+decide_again s e = decide s (version_of e.outcome) e.change (given_of s e)
+
+-- the requests of entries, decided again in their order
+abbrev pub replay : State → List Entry → State
+replay s [] = s
+replay s (e ∷ es) = replay (after s (decide_again s e)) es

@@ -1,0 +1,24 @@
+//! Laws of the desk as a machine.
+
+ghost use Rattle.std.specs.Prelude.{◌≡◌, ◌++◌, ℕ, List, Option};
+ghost use Rattle.wire_requests.specs.Changes.{Asked};
+ghost use Rattle.case_acts.specs.declared.effect.Step.{Step};
+ghost use Rattle.desk_rules.specs.declared.entry.Entry.{Entry as Seen};
+ghost use Rattle.desk_rules.specs.States.{State};
+ghost use Rattle.desk_rules.specs.Evaluations.{Given};
+ghost use Rattle.desk_rules.specs.Machine.{Done, Kept, decide, after, decide_again, replay, made};
+
+/// An entry is made again where its request is decided with what its outcome records; so a state that is the replay of its entries goes
+/// on being it, whatever is asked.
+pub fn replays()
+    ensures again { (s : State) (p : ℕ) (q : Asked) (given : Option Given) (e : Seen) (step : Step) →
+        decide s p q given ≡ Done e step → decide_again s e ≡ Done e step }
+    ensures always { (opening s : State) (es : List Seen) (p : ℕ) (q : Asked) (given : Option Given) → s ≡ replay opening es →
+        after s (decide s p q given) ≡ replay opening (es ++ made (decide s p q given)) }
+{}
+
+/// A request that was accepted and comes again is answered its entry and changes nothing.
+pub fn repeats()
+    ensures { (s : State) (p n : ℕ) (q : Asked) (given other : Option Given) (e : Seen) (step : Step) →
+        decide s p q given ≡ Done e step → decide (after s (Done e step)) n q other ≡ Kept e }
+{}

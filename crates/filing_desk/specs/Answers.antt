@@ -1,0 +1,21 @@
+-- What the clerk answers.
+use Rattle.std.specs.Prelude.{◌≡◌, ◌≢◌, None}
+use Rattle.wire_requests.specs.Changes.{Asked}
+use Rattle.case_records.specs.declared.refusal.Refusal.TheVariants as refusals
+use Rattle.desk_rules.specs.States.{State, last_number}
+use Rattle.desk_rules.specs.Machine.{Answer as Decided, Kept, No, Done, decide, after}
+use Rattle.filing_desk.specs.declared.answer.Answer.{Answer}
+use Rattle.filing_desk.specs.declared.answer.Answer.TheVariants as answers
+
+-- what is decided, as it is told: an entry that is there already as one that was just made
+abbrev pub told : Decided → Answer
+told (Kept e) = answers.Accepted e.number e.outcome
+told (No why) = answers.Refused why
+told (Done e step) = answers.Accepted e.number e.outcome
+
+-- what the desk decides by itself: all its entries are published, and no list is given
+abbrev pub decision : State → Asked → Decided
+decision s q = decide s (last_number s) q None
+
+abbrev pub no_memory : Answer
+no_memory = answers.Refused refusals.NoMemory

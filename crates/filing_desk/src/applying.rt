@@ -1,0 +1,78 @@
+//! How the desk decides a changing request.
+
+ghost use Rattle.std.specs.Prelude.{◌≡◌, ◌≢◌, None, Ok};
+ghost use Rattle.case_acts.specs.Cases.{IsSoundStep};
+ghost use Rattle.desk_rules.specs.States.{entry_of};
+ghost use Rattle.desk_rules.specs.Machine.{after, decide_new, registered, repeated as repeat};
+ghost use Rattle.filing_desk.specs.Answers.{told, decision, no_memory};
+
+use crate::answer::Answer;
+use crate::desk::Desk;
+use case_acts::Effect;
+use case_records::Refusal;
+use desk_rules::Entry;
+use std::alloc::Global;
+use wire_requests::Change;
+
+/// What a request is answered whose caller's key stands for an entry.
+fn repeated(alloc: Global, entry: &Entry, c: &Change) -> Answer
+    ensures { result ≢ no_memory → result ≡ told (repeat entry.now c.now) }
+{
+    if entry.change.act != c.act {
+        return Answer::Refused(Refusal::KeyReused {
+            entry: entry.number,
+        });
+    }
+    match entry.outcome.copy(alloc) {
+        Ok(outcome) => Answer::Accepted {
+            entry: entry.number,
+            outcome,
+        },
+        Err(_) => Answer::Refused(Refusal::NoMemory),
+    }
+}
+
+impl Desk {
+    /// Accepts a request with this effect, where the rules of the register allow that.
+    fn accept(&mut self, alloc: Global, c: &Change, effect: Effect) -> Answer
+        requires new { entry_of c.now.caller c.now.key self.old.entries ≡ None }
+        requires sound { IsSoundStep effect.step }
+        ensures answer { result ≢ no_memory → result ≡ told (decide_new self.old c.now (registered self.old.register (Ok effect))) }
+        ensures after { result ≢ no_memory → self.new ≡ after self.old (decide_new self.old c.now (registered self.old.register (Ok effect))) }
+        ensures same { result ≡ no_memory → self.new ≡ self.old }
+    {
+        let number = self.receipts.len() as u64 + 1;
+        let Ok(outcome) = effect.outcome.copy(alloc) else {
+            return Answer::Refused(Refusal::NoMemory);
+        };
+        let entry = Entry {
+            number,
+            change: *c,
+            outcome: effect.outcome,
+        };
+        match self.take(alloc, entry, effect.step) {
+            Ok(()) => Answer::Accepted {
+                entry: number,
+                outcome,
+            },
+            Err(why) => Answer::Refused(why),
+        }
+    }
+
+    /// Decides a changing request.
+    pub(crate) fn apply(&mut self, alloc: Global, c: &Change) -> Answer
+        ensures answer { result ≢ no_memory → result ≡ told (decision self.old c.now) }
+        ensures after { result ≢ no_memory → self.new ≡ after self.old (decision self.old c.now) }
+        ensures same { result ≡ no_memory → self.new ≡ self.old }
+    {
+        match self.receipts.find(c.caller, c.key) {
+            Some(entry) => return repeated(alloc, entry, c),
+            None => {}
+        }
+        c.has_record();
+        match self.acted(alloc, &c.act) {
+            Ok(effect) => self.accept(alloc, c, effect),
+            Err(why) => Answer::Refused(why),
+        }
+    }
+}

@@ -1,0 +1,86 @@
+//! The clerk of the desk.
+
+ghost use Rattle.std.specs.Prelude.{◌≡◌, ◌≢◌, option_map};
+ghost use Rattle.desk_rules.specs.States.{case_at, last_number};
+ghost use Rattle.desk_rules.specs.Evaluations.{site_of};
+ghost use Rattle.desk_rules.specs.Views.{case_view};
+ghost use Rattle.filing_desk.specs.Answers.{told, decision, no_memory};
+ghost use Rattle.filing_desk.specs.Clerks.{advanced};
+
+use crate::answer::Answer;
+use crate::desk::Desk;
+use crate::view::view_of;
+use airfields::Filing;
+use case_records::CaseView;
+use oe_findings::Sky;
+use std::alloc::Global;
+use std::marker::Model;
+use wire_requests::Change;
+
+/// The clerk decides changing requests one after the other, and keeps what it accepted. It is seen as its state and the requests that it
+/// accepted since the opening; the state is always the replay of these from the state at the opening, which holds nothing.
+#[derive(Drop)]
+pub struct Clerk {
+    pub(crate) desk: Desk,
+}
+
+impl Model for Clerk {
+    ghost use Rattle.desk_rules.specs.States.{empty};
+    ghost use Rattle.filing_desk.specs.Clerks.{Clerking, IsReplay};
+
+    ghost Value = { Clerking };
+
+    ghost view = { λ c. record { state = c.desk; accepted = c.desk.entries } };
+
+    ghost invariant = { λ c. IsReplay empty (record { state = c.desk; accepted = c.desk.entries }) };
+}
+
+impl Clerk {
+    /// Decides a changing request on the desk's day. One that was accepted before, of the same caller under the same key, is answered as
+    /// it was then, and changes nothing.
+    ///
+    /// # Errors
+    ///
+    /// The first rule that the request breaks, in the order of the rules, or `NoMemory` where memory was refused; nothing is changed then.
+    pub fn apply(&mut self, alloc: Global, c: &Change) -> Answer
+        ensures answer { result ≢ no_memory → result ≡ told (decision self.old.state c.now) }
+        ensures after { result ≢ no_memory → self.new ≡ advanced self.old (decision self.old.state c.now) }
+        ensures same { result ≡ no_memory → self.new ≡ self.old }
+    {
+        self.desk.apply(alloc, c)
+    }
+
+    /// What is told of the case of this number; `None` exactly where there is no such case. Whether it is marked is for the caller to say.
+    pub fn case_view(&self, number: u32, marked: bool) -> Option<CaseView>
+        ensures { result ≡ case_view self.now.state marked number }
+    {
+        match self.desk.case(number) {
+            Some(case) => Some(view_of(self.desk.day(), marked, number, case)),
+            None => None,
+        }
+    }
+
+    /// The structure of the case of this number; `None` exactly where there is no such case.
+    pub fn filing(&self, number: u32) -> Option<Filing>
+        ensures { result ≡ option_map site_of (case_at self.now.state.cases number) }
+    {
+        match self.desk.case(number) {
+            Some(case) => Some(case.submission.filing),
+            None => None,
+        }
+    }
+
+    /// The number of the last entry, 0 where there is none.
+    pub fn accepted(&self) -> u64
+        ensures { result ≡ last_number self.now.state }
+    {
+        self.desk.receipts.len() as u64
+    }
+
+    /// The airfields as they stand, with the surfaces over them.
+    pub fn sky(&self) -> &Sky
+        ensures { result.now ≡ self.now.state.register }
+    {
+        &self.desk.sky
+    }
+}

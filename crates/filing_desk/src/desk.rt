@@ -1,0 +1,89 @@
+//! All that the desk holds.
+
+ghost use Rattle.std.specs.Prelude.{◌≡◌, IfSome, option_copied, slice_get};
+ghost use Rattle.case_acts.specs.Cases.{IsSound};
+ghost use Rattle.determination_dates.specs.Days.{IsLimited};
+ghost use Rattle.desk_rules.specs.States.{empty, case_at};
+ghost use Rattle.filing_desk.specs.Desks.{AreSound};
+
+use crate::receipts::Receipts;
+use case_records::KeptCase;
+use determination_dates::ClosedDays;
+use jiff::civil::Date;
+use oe_findings::Sky;
+use std::alloc::Global;
+use std::marker::Model;
+
+/// The airfields, the day, the closed days, the cases and the accepted requests.
+#[derive(Drop)]
+pub(crate) struct Desk {
+    pub(crate) sky: Sky,
+    pub(crate) today: Option<Date>,
+    pub(crate) closed: ClosedDays,
+    pub(crate) cases: Vec<KeptCase>,
+    pub(crate) receipts: Receipts,
+}
+
+impl Model for Desk {
+    ghost use Rattle.std.specs.Prelude.{IfSome};
+    ghost use Rattle.determination_dates.specs.Days.{IsLimited};
+    ghost use Rattle.desk_rules.specs.States.{State};
+    ghost use Rattle.filing_desk.specs.Desks.{AreSound};
+
+    ghost Value = { State };
+
+    ghost view = { λ d. record { register = d.sky; day = d.today; closed = d.closed; cases = d.cases.items; entries = d.receipts } };
+
+    ghost invariant = { λ d. AreSound d.cases.items × IfSome d.today IsLimited };
+}
+
+impl Desk {
+    /// A desk that holds nothing. It takes no memory.
+    pub(crate) fn empty(alloc: Global) -> Desk
+        ensures { result ≡ empty }
+    {
+        Desk {
+            sky: Sky::empty(alloc),
+            today: None,
+            closed: ClosedDays::empty(alloc),
+            cases: Vec::new(alloc),
+            receipts: Receipts::empty(alloc),
+        }
+    }
+
+    /// The case at this place.
+    fn case_in(&self, place: usize) -> Option<&KeptCase>
+        ensures { option_copied result ≡ slice_get self.now.cases place }
+    {
+        self.cases.get(place)
+    }
+
+    /// Shows to a proof that the dates of the cases are within their limit.
+    fn soundness(&self)
+        ensures cases { AreSound self.now.cases }
+        ensures day { IfSome self.now.day IsLimited }
+    {
+        let _ = &self.cases;
+    }
+
+    /// The case of this number.
+    #[tactic(auto, using(crate::proofs::Sound::sound_of, crate::proofs::Sound::numbered))]
+    pub(crate) fn case(&self, number: u32) -> Option<&KeptCase>
+        ensures value { option_copied result ≡ case_at self.now.cases number }
+        ensures sound { IfSome result (λ c. IsSound c.now) }
+    {
+        self.soundness();
+        if number == 0 {
+            return None;
+        }
+        self.case_in(number as usize - 1)
+    }
+
+    /// The desk's day.
+    pub(crate) fn day(&self) -> Option<Date>
+        ensures value { result ≡ self.now.day }
+        ensures limited { IfSome result IsLimited }
+    {
+        self.today
+    }
+}

@@ -1,0 +1,21 @@
+//! The filing desk: what the clerk holds, how it decides changing requests, and what it tells of cases.
+//!
+//! Dates are those of `jiff`, from 1900-01-01 to 2999-12-31.
+#![tactic(auto)]
+
+mod acts;
+mod answer;
+mod applying;
+mod clerk;
+mod desk;
+mod opening;
+mod receipt_key;
+mod receipts;
+mod steps;
+mod view;
+
+pub use answer::Answer;
+pub use clerk::Clerk;
+
+#[cfg(test)]
+mod tests;

@@ -1,0 +1,52 @@
+//! A case, as the reply to a question for it tells it.
+
+ghost use Rattle.std.specs.Prelude.{◌≡◌, IfSome};
+ghost use Rattle.case_acts.specs.Cases.{IsSound};
+ghost use Rattle.desk_rules.specs.Views.{status_on as status_by, view_of as viewed};
+
+use case_records::{CaseView, KeptCase};
+use determination_dates::{Status, effective, expiry, last_extension_day, status};
+use jiff::civil::Date;
+
+/// How a case stands on the desk's day.
+fn status_on(day: Option<Date>, case: &KeptCase) -> Status
+    requires { IsSound case.now }
+    ensures { result ≡ status_by day case.now }
+{
+    match day {
+        Some(today) => status(&case.life, today),
+        None => Status::Awaiting,
+    }
+}
+
+/// What is told of a case: how it stands on the desk's day, and what its determination says.
+pub fn view_of(day: Option<Date>, marked: bool, number: u32, case: &KeptCase) -> CaseView
+    requires { IsSound case.now }
+    ensures { result ≡ viewed day marked number case.now }
+{
+    let status = status_on(day, case);
+    let Some(record) = case.life.determination else {
+        return CaseView {
+            case: number,
+            status,
+            decision: None,
+            issued: None,
+            deadline: None,
+            effective: None,
+            expiry: None,
+            last_day: None,
+            marked,
+        };
+    };
+    CaseView {
+        case: number,
+        status,
+        decision: Some(record.decision),
+        issued: Some(record.issued),
+        deadline: record.deadline,
+        effective: effective(&record),
+        expiry: expiry(&record),
+        last_day: last_extension_day(&record),
+        marked,
+    }
+}
