@@ -1,5 +1,5 @@
 -- A date is read back from its text.
-use Rattle.std.proofs.Common.{arith, ℕ, ◌+◌, ◌*◌, ◌-◌, ◌/◌, ◌<◌, ◌≤◌, ◌≡◌, ◌≢◌, ℤ, pos, Bool, true, false, List, [], ◌∷◌, Option, Some, None, get_or, length, All, refl, ap, sym, subst, ◌∙◌, codes}
+use Rattle.std.proofs.Common.{arith, ℕ, ◌+◌, ◌*◌, ◌-◌, ◌/◌, ◌<◌, ◌≤◌, ◌≡◌, ◌≢◌, ℤ, pos, Bool, true, false, List, [], ◌∷◌, Option, Some, None, get_or, length, All, refl, ap, sym, ◌∙◌, inl, inr, codes}
 use Rattle.std.specs.Prelude.{is_some}
 use Rattle.std.specs.Str.{IsUtf8}
 use Rattle.std.proofs.lemmas.Str.{IsUtf8-from_ascii}
@@ -57,7 +57,7 @@ by_name : (text : List ℕ) (o : Option Date) → date_named text ≡ o → Deci
 unfolding date_named
 by_name text None e = inr (λ h. let none : None ≡ Some h.0 = sym e ∙ ap date_named h.1 ∙ date_again h.0 h.2 in cc)
 by_name text (Some d) e =
-    let limited : IsLimited d = (limited_sound _ d e).0 in
+    let limited : IsLimited d = (limited_sound (days_from_civil (pos (year_named text)) (month_named text) (day_named text)) d e).0 in
     let same : (h : (date : Date) × (text ≡ date_text date) × IsLimited date) → h.0 ≡ d =
     λ h. let s : Some h.0 ≡ Some d = sym (date_again h.0 h.2) ∙ ap date_named (sym h.1) ∙ e in cc in
     decided_by (λ (t : text ≡ date_text d). (d, t, limited)) (λ (h : (date : Date) × (text ≡ date_text date) × IsLimited date). h.1 ∙ ap date_text (same h))
@@ -147,16 +147,25 @@ pub a_day_limited : IsLimited a_day
 unfolding a_day
 a_day_limited = (limited_year a_day).1 (omega (arith, signed_arith), omega (arith, signed_arith))
 
+digit_then : (P : ℕ → Type 0) → ((n : ℕ) → P (last_digit n)) → (n : ℕ) (xs : List ℕ) → All P xs → All P (last_digit n ∷ xs)
+digit_then P digits n xs h = All-cons P (last_digit n) xs (digits n) h
+
 -- each of them is a digit or a dash
-pub date_bytes : {P : ℕ → Type 0} → ((n : ℕ) → P (last_digit n)) → P 45 → (y m n : ℕ) → All P (ymd_text y m n)
-date_bytes {P} digits dash y m n =
-    let four : All P (last_digit (n / 10) ∷ last_digit n ∷ []) = All-cons P _ _ (digits _) (All-cons P _ _ (digits _) (All-nil P)) in
-    let three : All P (last_digit (m / 10) ∷ last_digit m ∷ 45 ∷ last_digit (n / 10) ∷ last_digit n ∷ []) =
-    All-cons P _ _ (digits _) (All-cons P _ _ (digits _) (All-cons P _ _ dash four)) in
-    All-cons P _ _ (digits _) (All-cons P _ _ (digits _) (All-cons P _ _ (digits _) (All-cons P _ _ (digits _) (All-cons P _ _ dash three))))
+pub date_bytes : (P : ℕ → Type 0) → ((n : ℕ) → P (last_digit n)) → P 45 → (y m n : ℕ) → All P (ymd_text y m n)
+date_bytes P digits dash y m n =
+    let one : List ℕ = last_digit n ∷ [] in
+    let two : List ℕ = last_digit (n / 10) ∷ one in
+    let three : List ℕ = last_digit m ∷ 45 ∷ two in
+    let four : List ℕ = last_digit (m / 10) ∷ three in
+    let five : List ℕ = last_digit y ∷ 45 ∷ four in
+    let six : List ℕ = last_digit (y / 10) ∷ five in
+    let seven : List ℕ = last_digit (y / 100) ∷ six in
+    let day : All P two = digit_then P digits (n / 10) one (digit_then P digits n [] (All-nil P)) in
+    let month : All P four = digit_then P digits (m / 10) three (digit_then P digits m (45 ∷ two) (All-cons P 45 two dash day)) in
+    digit_then P digits (y / 1000) seven (digit_then P digits (y / 100) six (digit_then P digits (y / 10) five (digit_then P digits y (45 ∷ four) (All-cons P 45 four dash month))))
 
 digit_small : (n : ℕ) → last_digit n < 128
 digit_small n = omega arith
 
 pub date_utf8 : (d : Date) → IsUtf8 (date_text d)
-date_utf8 d = IsUtf8-from_ascii (date_text d) (IsAscii-from_all (date_text d) (date_bytes digit_small (omega arith) (year_of d.year) d.month d.day))
+date_utf8 d = IsUtf8-from_ascii (date_text d) (IsAscii-from_all (date_text d) (date_bytes (λ b. b < 128) digit_small (omega arith) (year_of d.year) d.month d.day))

@@ -204,7 +204,7 @@ digit_plain n =
     grind (arith, nat_tests)
 
 date_short : (d : Date) → IsShortField (date_text d)
-date_short d = record { least = omega arith; most = omega arith; bytes = date_bytes digit_plain refl (year_of d.year) d.month d.day }
+date_short d = record { least = omega arith; most = omega arith; bytes = date_bytes (λ b. is_field_byte b ≡ true) digit_plain refl (year_of d.year) d.month d.day }
 
 optional_short : (d : Option Date) → IsShortField (optional_date d)
 optional_short None = short_word _ (omega arith) (omega arith) refl
@@ -279,9 +279,12 @@ no_less : (b : Bool) → pos 0 ≤ℤ (if b then MOBILE_LIMIT else pos 0)
 no_less true = omega (arith, ints)
 no_less false = omega (arith, ints)
 
-a_completion : (granted : Bool) → (text : List ℕ) × (date : Option Date) × (text ≡ optional_date date) × IsAnyLimited date × (is_some date ≡ granted)
-a_completion true = (date_text a_day, Some a_day, refl, a_day_limited, refl)
-a_completion false = (codes "-", None, refl, tt, refl)
+abbrev IsCompletion : Bool → List ℕ → Type 0
+IsCompletion granted text = (date : Option Date) × (text ≡ optional_date date) × IsAnyLimited date × (is_some date ≡ granted)
+
+a_completion : (granted : Bool) → (text : List ℕ) × IsCompletion granted text
+a_completion true = (date_text a_day, (Some a_day, refl, a_day_limited, refl))
+a_completion false = (codes "-", (None, refl, tt, refl))
 
 pub example : (before : List ℕ) (w : Wanted) → IsUsual w → (text : List ℕ) × Fits w before text
 example before (Spelled word) u = (word, refl)
