@@ -47,7 +47,7 @@ end_usual ws u = (coordinate_usual, (coordinate_usual, (number_usual, (tt, u))))
 
 -- ---- the values of some fields
 
-pub place : {x y : ℤ} → IsBetween (neg_ℤ COORDINATE_LIMIT) COORDINATE_LIMIT x → IsBetween (neg_ℤ COORDINATE_LIMIT) COORDINATE_LIMIT y → Point
+unfoldable pub place : {x y : ℤ} → IsBetween (neg_ℤ COORDINATE_LIMIT) COORDINATE_LIMIT x → IsBetween (neg_ℤ COORDINATE_LIMIT) COORDINATE_LIMIT y → Point
 place {x} {y} h k = record { x = x; y = y; on_grid = record { west = h.0; east = h.1; south = k.0; north = k.1 } }
 
 -- the fields of a structure are those of a site

@@ -10,4 +10,4 @@ pub returns-in_err-completion-clause-stops : goal.returns-in_err-completion-clau
 returns-in_err-completion-clause-stops c = stops_out _ _ c.from_residual-in_err-completion.ensures.1 (past_1 c.in_ok-case.ensures.took (past_1 c.in_ok-grant.ensures.took c.in_err-completion.ensures.stops))
 
 pub returns-clause-took : goal.returns-clause-took
-returns-clause-took c = record { took = took_1 c.in_ok-case.ensures.took (took_1 c.in_ok-grant.ensures.took c.in_ok-completion.ensures.took); form_is = refl; valid = (c.in_ok-case.ensures.good, c.in_ok-completion.ensures.limited) }
+returns-clause-took c = record { took = rw c.in_ok-completion.ensures.told (took_1 c.in_ok-case.ensures.took (took_1 c.in_ok-grant.ensures.took c.in_ok-completion.ensures.took)); form_is = refl; valid = (c.in_ok-case.ensures.good, c.in_ok-completion.ensures.limited) }
