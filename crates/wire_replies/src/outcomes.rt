@@ -40,14 +40,15 @@ fn append_lateness(text: &mut String, word: &str, days: u32) -> Result<(), NoMem
     }
 }
 
-// Appends a comma and the day up to which the form of an emergency's notice is due.
+// Appends a comma, a word and a date, a space between.
 #[tactic(auto, using(grid_exact::proofs::Extending::extending))]
-fn append_due(text: &mut String, due: Date) -> Result<(), NoMemory>
-    ensures ok { OnOk result (string_bytes text.new ≡ string_bytes text.old ++ (codes ",emergency " ++ date_word due)) }
+fn append_word_and_date(text: &mut String, word: &str, date: Date) -> Result<(), NoMemory>
+    ensures ok { OnOk result (string_bytes text.new ≡ string_bytes text.old ++ (codes "," ++ word.now ++ codes " " ++ date_word date)) }
     ensures part { OnErr result (Extends (string_bytes text.old) (string_bytes text.new)) }
 {
-    append_text(text, ",emergency ")?;
-    append_date(text, due)
+    append_next_word(text, word)?;
+    append_text(text, " ")?;
+    append_date(text, date)
 }
 
 // Appends whether a notice is in time.
@@ -58,7 +59,7 @@ fn append_timeliness(text: &mut String, timely: Timeliness) -> Result<(), NoMemo
     match timely {
         Timeliness::Timely => append_next_word(text, "timely"),
         Timeliness::Late(days) => append_late(text, days),
-        Timeliness::Emergency { due } => append_due(text, due),
+        Timeliness::Emergency { due } => append_word_and_date(text, "emergency", due),
     }
 }
 
