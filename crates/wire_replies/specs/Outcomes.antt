@@ -3,7 +3,6 @@ use Rattle.std.specs.Prelude.{ℕ, List, [], ◌∷◌, ◌++◌, Bool, Option, 
 use Rattle.std.specs.Fmt.{decimal}
 use Rattle.jiff_core.specs.declared.civil.date.Date.{Date}
 use Rattle.airfield_findings.specs.declared.finding.Finding.{Finding}
-use Rattle.determination_dates.specs.Text.{date_text}
 use Rattle.determination_dates.specs.declared.determination.Decision.{Decision}
 use Rattle.determination_dates.specs.declared.timely.Timeliness.{Timeliness}
 use Rattle.determination_dates.specs.declared.timely.Timeliness.TheVariants as timeliness
@@ -12,7 +11,7 @@ use Rattle.case_records.specs.declared.outcome.Outcome.TheVariants as outcomes
 use Rattle.wire_values.specs.Commas.{joined}
 use Rattle.wire_values.specs.Plains.{plain_word}
 use Rattle.wire_replies.specs.Entries.{list_text}
-use Rattle.wire_replies.specs.States.{decision_word, day_text}
+use Rattle.wire_replies.specs.States.{decision_word, date_word, day_text}
 
 -- so many days late
 abbrev pub late_text : ℕ → List ℕ
@@ -26,7 +25,7 @@ lateness_text word days = if days == 0 then word else late_text days
 abbrev pub timeliness_text : Timeliness → List ℕ
 timeliness_text timeliness.Timely = codes "timely"
 timeliness_text (timeliness.Late days) = late_text days
-timeliness_text (timeliness.Emergency due) = codes "emergency " ++ date_text due
+timeliness_text (timeliness.Emergency due) = codes "emergency " ++ date_word due
 
 -- how a notice stands to the application to the FCC, where there is one
 abbrev pub fcc_text : Option ℕ → List ℕ
@@ -48,7 +47,7 @@ form_text number late = joined (codes "form" ∷ decimal number ∷ lateness_tex
 -- the decision, the number of the last entry of the register that it is over, and its days; the list follows
 abbrev pub determined_fields : ℕ → Decision → ℕ → Date → Option Date → Option Date → Option Date → List (List ℕ)
 determined_fields number decision last issued deadline effective expiry =
-    codes "determine" ∷ decimal number ∷ decision_word decision ∷ decimal last ∷ date_text issued
+    codes "determine" ∷ decimal number ∷ decision_word decision ∷ decimal last ∷ date_word issued
     ∷ day_text deadline ∷ day_text effective ∷ day_text expiry ∷ []
 
 abbrev pub determined_text : ℕ → Decision → ℕ → Date → Option Date → Option Date → Option Date → List Finding → List ℕ
@@ -67,10 +66,10 @@ disposed_text number affirmed effective expiry =
     joined (codes "dispose" ∷ decimal number ∷ disposal_word affirmed ∷ disposal_day affirmed effective ∷ disposal_day affirmed expiry ∷ [])
 
 abbrev pub extended_text : ℕ → Date → Date → List ℕ
-extended_text number expiry last_day = joined (codes "extend" ∷ decimal number ∷ date_text expiry ∷ date_text last_day ∷ [])
+extended_text number expiry last_day = joined (codes "extend" ∷ decimal number ∷ date_word expiry ∷ date_word last_day ∷ [])
 
 abbrev pub fcc_act_text : ℕ → Date → List ℕ
-fcc_act_text number expiry = joined (codes "fcc" ∷ decimal number ∷ date_text expiry ∷ [])
+fcc_act_text number expiry = joined (codes "fcc" ∷ decimal number ∷ date_word expiry ∷ [])
 
 -- a form whose reply tells no more than the case
 abbrev pub case_act_text : List ℕ → ℕ → List ℕ

@@ -1,11 +1,10 @@
 -- Refusals: their numbers, their names, and what they say besides.
 use Rattle.std.specs.Prelude.{ℕ, List, [], ◌∷◌, codes}
 use Rattle.std.specs.Fmt.{decimal}
-use Rattle.determination_dates.specs.Text.{date_text}
 use Rattle.case_records.specs.declared.refusal.Refusal.{Refusal}
 use Rattle.case_records.specs.declared.refusal.Refusal.TheVariants as refusals
 use Rattle.wire_values.specs.Commas.{with_commas}
-use Rattle.wire_replies.specs.States.{status_word}
+use Rattle.wire_replies.specs.States.{status_word, date_word}
 
 abbrev pub refusal_number : Refusal → ℕ
 refusal_number refusals.PrecisionOnUtility = 2
@@ -76,10 +75,10 @@ refusal_name refusals.NoFormDue = codes "NoFormDue"
 -- what a refusal says besides its name
 abbrev pub refusal_fields : Refusal → List (List ℕ)
 refusal_fields (refusals.Malformed field) = decimal field ∷ []
-refusal_fields (refusals.DayBack kept day) = date_text kept ∷ date_text day ∷ []
+refusal_fields (refusals.DayBack kept day) = date_word kept ∷ date_word day ∷ []
 refusal_fields (refusals.NotStanding status) = status_word status ∷ []
-refusal_fields (refusals.PetitionLate deadline day) = date_text deadline ∷ date_text day ∷ []
-refusal_fields (refusals.ExtensionLate last_day day) = date_text last_day ∷ date_text day ∷ []
+refusal_fields (refusals.PetitionLate deadline day) = date_word deadline ∷ date_word day ∷ []
+refusal_fields (refusals.ExtensionLate last_day day) = date_word last_day ∷ date_word day ∷ []
 refusal_fields (refusals.KeyReused entry) = decimal entry ∷ []
 refusal_fields _ = []
 

@@ -20,7 +20,11 @@ abbrev pub decision_word : Decision → List ℕ
 decision_word decisions.NoHazard = codes "nohazard"
 decision_word decisions.Hazard = codes "hazard"
 
+-- a date as `YYYY-MM-DD`
+unfoldable pub date_word : Date → List ℕ
+date_word d = date_text d
+
 -- a date, or a dash where there is none
 abbrev pub day_text : Option Date → List ℕ
 day_text None = codes "-"
-day_text (Some day) = date_text day
+day_text (Some day) = date_word day

@@ -3,9 +3,8 @@
 ghost use Rattle.std.specs.Prelude.{◌≡◌, [], ◌∷◌, ◌++◌, OnOk, OnErr, codes, string_bytes};
 ghost use Rattle.std.specs.Fmt.{decimal};
 ghost use Rattle.grid_exact.specs.Texts.{Extends};
-ghost use Rattle.determination_dates.specs.Text.{date_text};
 ghost use Rattle.wire_values.specs.Commas.{with_commas};
-ghost use Rattle.wire_replies.specs.States.{day_text, decision_word as decided_word};
+ghost use Rattle.wire_replies.specs.States.{date_word, day_text, decision_word as decided_word};
 ghost use Rattle.wire_replies.specs.Entries.{list_text};
 ghost use Rattle.wire_replies.specs.Outcomes as spec;
 
@@ -41,14 +40,15 @@ fn append_lateness(text: &mut String, word: &str, days: u32) -> Result<(), NoMem
     }
 }
 
-// Appends a comma and the day up to which the form of an emergency's notice is due.
+// Appends a comma, a word and a date, a space between.
 #[tactic(auto, using(grid_exact::proofs::Extending::extending))]
-fn append_due(text: &mut String, due: Date) -> Result<(), NoMemory>
-    ensures ok { OnOk result (string_bytes text.new ≡ string_bytes text.old ++ (codes ",emergency " ++ date_text due)) }
+fn append_word_and_date(text: &mut String, word: &str, date: Date) -> Result<(), NoMemory>
+    ensures ok { OnOk result (string_bytes text.new ≡ string_bytes text.old ++ (codes "," ++ word.now ++ codes " " ++ date_word date)) }
     ensures part { OnErr result (Extends (string_bytes text.old) (string_bytes text.new)) }
 {
-    append_text(text, ",emergency ")?;
-    append_date(text, due)
+    append_next_word(text, word)?;
+    append_text(text, " ")?;
+    append_date(text, date)
 }
 
 // Appends whether a notice is in time.
@@ -59,7 +59,7 @@ fn append_timeliness(text: &mut String, timely: Timeliness) -> Result<(), NoMemo
     match timely {
         Timeliness::Timely => append_next_word(text, "timely"),
         Timeliness::Late(days) => append_late(text, days),
-        Timeliness::Emergency { due } => append_due(text, due),
+        Timeliness::Emergency { due } => append_word_and_date(text, "emergency", due),
     }
 }
 
@@ -130,7 +130,7 @@ fn append_issued(
     last: u64,
     issued: Date,
 ) -> Result<(), NoMemory>
-    ensures ok { OnOk result (string_bytes text.new ≡ string_bytes text.old ++ with_commas (decided_word decision ∷ decimal last ∷ date_text issued ∷ [])) }
+    ensures ok { OnOk result (string_bytes text.new ≡ string_bytes text.old ++ with_commas (decided_word decision ∷ decimal last ∷ date_word issued ∷ [])) }
     ensures part { OnErr result (Extends (string_bytes text.old) (string_bytes text.new)) }
 {
     append_next_word(text, decision_word(decision))?;

@@ -2,8 +2,8 @@
 
 ghost use Rattle.std.specs.Prelude.{◌≡◌, [], ◌∷◌, ◌++◌, OnOk, OnErr, string_bytes};
 ghost use Rattle.grid_exact.specs.Texts.{Extends};
-ghost use Rattle.determination_dates.specs.Text.{date_text};
 ghost use Rattle.wire_values.specs.Commas.{with_commas};
+ghost use Rattle.wire_replies.specs.States.{date_word};
 ghost use Rattle.wire_replies.specs.Refusals as spec;
 ghost use Rattle.wire_replies.specs.Replies.{refused_text};
 
@@ -15,8 +15,8 @@ use grid_exact::NoMemory;
 use jiff::civil::Date;
 use wire_values::append_text;
 
-fn refusal_number(refusal: Refusal) -> u64
-    ensures { result ≡ spec.refusal_number refusal }
+fn refusal_number(refusal: &Refusal) -> u64
+    ensures { result ≡ spec.refusal_number refusal.now }
 {
     match refusal {
         Refusal::PrecisionOnUtility => 2,
@@ -53,8 +53,8 @@ fn refusal_number(refusal: Refusal) -> u64
     }
 }
 
-fn refusal_name(refusal: Refusal) -> &'static str
-    ensures { result.now ≡ spec.refusal_name refusal }
+fn refusal_name(refusal: &Refusal) -> &'static str
+    ensures { result.now ≡ spec.refusal_name refusal.now }
 {
     match refusal {
         Refusal::PrecisionOnUtility => "PrecisionOnUtility",
@@ -94,7 +94,7 @@ fn refusal_name(refusal: Refusal) -> &'static str
 // Appends two dates, a comma before each.
 #[tactic(auto, using(grid_exact::proofs::Extending::extending))]
 fn append_days(text: &mut String, first: Date, second: Date) -> Result<(), NoMemory>
-    ensures ok { OnOk result (string_bytes text.new ≡ string_bytes text.old ++ with_commas (date_text first ∷ date_text second ∷ [])) }
+    ensures ok { OnOk result (string_bytes text.new ≡ string_bytes text.old ++ with_commas (date_word first ∷ date_word second ∷ [])) }
     ensures part { OnErr result (Extends (string_bytes text.old) (string_bytes text.new)) }
 {
     append_next_date(text, first)?;
@@ -103,25 +103,25 @@ fn append_days(text: &mut String, first: Date, second: Date) -> Result<(), NoMem
 
 // Appends what a refusal says besides its name.
 #[tactic(auto, using(grid_exact::proofs::Extending::extending))]
-fn append_values(text: &mut String, refusal: Refusal) -> Result<(), NoMemory>
-    ensures ok { OnOk result (string_bytes text.new ≡ string_bytes text.old ++ spec.refusal_values refusal) }
+fn append_values(text: &mut String, refusal: &Refusal) -> Result<(), NoMemory>
+    ensures ok { OnOk result (string_bytes text.new ≡ string_bytes text.old ++ spec.refusal_values refusal.now) }
     ensures part { OnErr result (Extends (string_bytes text.old) (string_bytes text.new)) }
 {
     match refusal {
-        Refusal::Malformed { field } => append_next_number(text, u64::from(field)),
-        Refusal::DayBack { kept, day } => append_days(text, kept, day),
-        Refusal::NotStanding { status } => append_next_word(text, status_word(status)),
-        Refusal::PetitionLate { deadline, day } => append_days(text, deadline, day),
-        Refusal::ExtensionLate { last_day, day } => append_days(text, last_day, day),
-        Refusal::KeyReused { entry } => append_next_number(text, entry),
+        Refusal::Malformed { field } => append_next_number(text, u64::from(*field)),
+        Refusal::DayBack { kept, day } => append_days(text, *kept, *day),
+        Refusal::NotStanding { status } => append_next_word(text, status_word(*status)),
+        Refusal::PetitionLate { deadline, day } => append_days(text, *deadline, *day),
+        Refusal::ExtensionLate { last_day, day } => append_days(text, *last_day, *day),
+        Refusal::KeyReused { entry } => append_next_number(text, *entry),
         _ => Ok(()),
     }
 }
 
 // Appends the reply of a refusal.
 #[tactic(auto, using(grid_exact::proofs::Extending::extending))]
-pub(crate) fn append_refused(text: &mut String, refusal: Refusal) -> Result<(), NoMemory>
-    ensures ok { OnOk result (string_bytes text.new ≡ string_bytes text.old ++ refused_text refusal) }
+pub(crate) fn append_refused(text: &mut String, refusal: &Refusal) -> Result<(), NoMemory>
+    ensures ok { OnOk result (string_bytes text.new ≡ string_bytes text.old ++ refused_text refusal.now) }
     ensures part { OnErr result (Extends (string_bytes text.old) (string_bytes text.new)) }
 {
     append_text(text, "no")?;

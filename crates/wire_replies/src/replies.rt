@@ -120,7 +120,7 @@ pub fn append_reply(text: &mut String, reply: &Reply) -> Result<(), NoMemory>
             published,
             outcome,
         } => append_accepted(text, *entry, *published, outcome),
-        Reply::Refused(refusal) => append_refused(text, *refusal),
+        Reply::Refused(refusal) => append_refused(text, refusal),
         Reply::Found { last, list } => append_found(text, *last, list.as_slice()),
         Reply::Verdict { last, verdict } => append_verdict(text, *last, *verdict),
         Reply::Case(view) => append_case(text, view),
