@@ -1,13 +1,13 @@
 //! Extensions (77.35).
 
-ghost use Rattle.std.specs.Prelude.{◌≡◌, ◌≤◌, IfOk};
+ghost use Rattle.std.specs.Prelude.{◌≡◌, ◌≤◌, [], IfOk};
 ghost use Rattle.determination_dates.specs.declared.determination.TheConstants.{EXTENSION_MONTHS};
 ghost use Rattle.determination_dates.specs.Days.{IsLimited};
 ghost use Rattle.determination_dates.specs.Effects.{IsKept};
 ghost use Rattle.determination_dates.specs.Computed.{with_some, extended_record};
 ghost use Rattle.case_acts.specs.Cases.{IsSound, IsSoundStep};
 ghost use Rattle.case_acts.specs.Effects.{moved};
-ghost use Rattle.case_acts.specs.Rules.{has_evidence as evidence, evidence_rules};
+ghost use Rattle.case_acts.specs.Rules.{has_evidence as evidence};
 ghost use Rattle.case_acts.specs.Rulings.{ruling, extension_ruling};
 
 use crate::effect::{Effect, Step};

@@ -4,7 +4,7 @@ ghost use Rattle.std.specs.Prelude.{◌≡◌, ◌+ℤ◌, ◌-ℤ◌, IfOk, IfS
 ghost use Rattle.jiff_core.specs.Date.{epoch_day};
 ghost use Rattle.determination_dates.specs.Days.{IsLimited};
 ghost use Rattle.determination_dates.specs.Notices.{days_over};
-ghost use Rattle.case_acts.specs.Cases.{HasLimitedDates, IsSound, IsSoundStep};
+ghost use Rattle.case_acts.specs.Cases.{HasLimitedDates, IsSoundStep};
 ghost use Rattle.case_acts.specs.Effects.{explained as is_explained, fcc_days, form_days, new_case};
 ghost use Rattle.case_acts.specs.Rulings.{file_ruling, form_ruling};
 

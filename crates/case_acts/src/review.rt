@@ -1,6 +1,6 @@
 //! Petitions for review (77.37), and how they are disposed of.
 
-ghost use Rattle.std.specs.Prelude.{◌≡◌, IfOk};
+ghost use Rattle.std.specs.Prelude.{◌≡◌, [], true, IfOk};
 ghost use Rattle.determination_dates.specs.Days.{IsLimited};
 ghost use Rattle.determination_dates.specs.Effects.{IsKept};
 ghost use Rattle.case_acts.specs.Cases.{IsSound, IsSoundStep};
