@@ -86,10 +86,14 @@ petitioned number c = on_record c (λ r. Some (effect (outcomes.Petitioned numbe
 abbrev pub affirmed : ℕ → KeptCase → Record → Effect
 affirmed number c r = effect (outcomes.Disposed number true (effective_date r) (expiry_date r)) (LifePut number (with_record c r))
 
--- an affirmation takes effect on its day at the earliest; a reversal ends the case and leaves its record as it is
+-- a reversal ends the case and leaves its record as it is
+abbrev pub reversed : ℕ → KeptCase → Effect
+reversed number c = effect (outcomes.Disposed number false None None) (LifePut number (ended c ends.Reversed))
+
+-- an affirmation takes effect on its day at the earliest
 abbrev pub settled : ℕ → Bool → Date → KeptCase → Record → Option Effect
 settled number true today c r = option_map (affirmed number c) (affirmed_record today r)
-settled number false today c r = Some (effect (outcomes.Disposed number false None None) (LifePut number (ended c ends.Reversed)))
+settled number false today c r = Some (reversed number c)
 
 abbrev pub disposed : ℕ → Bool → Date → KeptCase → Option Effect
 disposed number affirm today c = on_record c (settled number affirm today c)

@@ -3,7 +3,7 @@
 ghost use Rattle.std.specs.Prelude.{◌≡◌, ◌≢◌, Ok, Err, IfOk, MatchResult};
 ghost use Rattle.airfield_findings.specs.Verdicts.{is_obstruction as exceeds};
 ghost use Rattle.determination_dates.specs.Days.{IsLimited};
-ghost use Rattle.determination_dates.specs.Effects.{IsKept, IsWithinRange};
+ghost use Rattle.determination_dates.specs.Effects.{IsWithinRange};
 ghost use Rattle.case_acts.specs.Cases.{IsSound, IsSoundStep};
 ghost use Rattle.case_acts.specs.Decisions.{decision_by as decided, is_reviewable as reviewable};
 ghost use Rattle.case_acts.specs.Effects.{issued as issued_effect};

@@ -1,17 +1,21 @@
 //! Extensions (77.35).
 
-ghost use Rattle.std.specs.Prelude.{◌≡◌, ◌≤◌, IfOk};
+ghost use Rattle.std.specs.Prelude.{◌≡◌, ◌≤◌, [], pos, int_le, IfOk};
+ghost use Rattle.std.specs.Option.{option_to_list};
+ghost use Rattle.jiff_core.specs.Date.{epoch_day};
+ghost use Rattle.jiff_span.specs.Months.{add_months};
+ghost use Rattle.determination_dates.specs.declared.evidence.TheConstants.{EVIDENCE_MONTHS};
 ghost use Rattle.determination_dates.specs.declared.determination.TheConstants.{EXTENSION_MONTHS};
 ghost use Rattle.determination_dates.specs.Days.{IsLimited};
 ghost use Rattle.determination_dates.specs.Effects.{IsKept};
-ghost use Rattle.determination_dates.specs.Computed.{with_some, extended_record};
+ghost use Rattle.determination_dates.specs.Computed.{with_some, extended_record, last_date};
 ghost use Rattle.case_acts.specs.Cases.{IsSound, IsSoundStep};
 ghost use Rattle.case_acts.specs.Effects.{moved};
-ghost use Rattle.case_acts.specs.Rules.{has_evidence as evidence, evidence_rules};
+ghost use Rattle.case_acts.specs.Rules.{has_evidence as evidence, evidence_rules, last_day_rules};
 ghost use Rattle.case_acts.specs.Rulings.{ruling, extension_ruling};
 
 use crate::effect::{Effect, Step};
-use crate::order::is_before;
+use crate::order::{is_at_most, is_before};
 use crate::standing::is_in_force;
 use case_records::{KeptCase, Outcome, Refusal};
 use determination_dates::{Life, Record, expiry, is_filed_in_time, last_extension_day, status};
@@ -30,6 +34,15 @@ pub struct Extension {
     pub warranted: bool,
 }
 
+/// Whether an application to the FCC was filed at most 6 months after issuance (77.35(c)(1)).
+#[tactic(auto, using(crate::proofs::TestFacts::tested))]
+fn is_in_time(r: &Record, filed: Date) -> bool
+    requires { IsKept r.now }
+    ensures { result ≡ int_le (epoch_day filed) (add_months r.now.issued (pos EVIDENCE_MONTHS)) }
+{
+    is_filed_in_time(r.issued, filed)
+}
+
 /// Whether there is the evidence that a case of the FCC wants: the application was filed at most 6 months after issuance and at most
 /// today, and more time is warranted (77.35(c)).
 fn has_evidence(r: &Record, today: Date, filed: Option<Date>, warranted: bool) -> bool
@@ -39,7 +52,51 @@ fn has_evidence(r: &Record, today: Date, filed: Option<Date>, warranted: bool) -
     let Some(day) = filed else {
         return false;
     };
-    is_filed_in_time(r.issued, day) && !is_before(today, day) && warranted
+    is_in_time(r, day) && is_at_most(day, today) && warranted
+}
+
+/// The rule that a request for an extension breaks where it comes after the last day for one (77.35(a)(2)).
+fn late(r: &Record, today: Date) -> Option<Refusal>
+    requires { IsKept r.now }
+    ensures { option_to_list result ≡ last_day_rules (last_date r.now) today }
+{
+    let Some(last_day) = last_extension_day(r) else {
+        return None;
+    };
+    if is_before(last_day, today) {
+        return Some(Refusal::ExtensionLate {
+            last_day,
+            day: today,
+        });
+    }
+    None
+}
+
+/// The rule that it breaks where the FCC has no part in the case and an extension was granted (77.35(b)), or has part and the evidence is
+/// wanting (77.35(c)).
+fn unproven(
+    r: &Record,
+    application: Option<Date>,
+    asked: &Extension,
+    today: Date,
+) -> Option<Refusal>
+    requires { IsKept r.now }
+    ensures { option_to_list result ≡ evidence_rules application r.now (evidence r.now today asked.now.filed asked.now.warranted) }
+{
+    match application {
+        None => {
+            if r.extensions > 0 {
+                return Some(Refusal::AlreadyExtended);
+            }
+            None
+        }
+        Some(_) => {
+            if has_evidence(r, today, asked.filed, asked.warranted) {
+                return None;
+            }
+            Some(Refusal::FccEvidence)
+        }
+    }
 }
 
 /// What moving the expiry of a record by so many months comes to.
@@ -102,24 +159,14 @@ pub fn extend(
     let Some(record) = case.life.determination else {
         return Err(Refusal::DateRange);
     };
-    if let Some(last_day) = last_extension_day(&record) {
-        if is_before(last_day, today) {
-            return Err(Refusal::ExtensionLate {
-                last_day,
-                day: today,
-            });
-        }
+    if let Some(why) = late(&record, today) {
+        return Err(why);
     }
     if asked.started {
         return Err(Refusal::WorkStarted);
     }
-    if case.submission.fcc.is_none() && record.extensions > 0 {
-        return Err(Refusal::AlreadyExtended);
-    }
-    if case.submission.fcc.is_some()
-        && !has_evidence(&record, today, asked.filed, asked.warranted)
-    {
-        return Err(Refusal::FccEvidence);
+    if let Some(why) = unproven(&record, case.submission.fcc, asked, today) {
+        return Err(why);
     }
     moved(number, asked.months, case, record)
 }

@@ -1,10 +1,12 @@
 //! Notices, and the forms of emergencies.
 
 ghost use Rattle.std.specs.Prelude.{◌≡◌, ◌+ℤ◌, ◌-ℤ◌, IfOk, IfSome};
+ghost use Rattle.jiff_core.specs.Calendar.{IsEpochDay};
 ghost use Rattle.jiff_core.specs.Date.{epoch_day};
 ghost use Rattle.determination_dates.specs.Days.{IsLimited};
+ghost use Rattle.determination_dates.specs.declared.notice.TheConstants.{FORM_DAYS};
 ghost use Rattle.determination_dates.specs.Notices.{days_over};
-ghost use Rattle.case_acts.specs.Cases.{HasLimitedDates, IsSound, IsSoundStep};
+ghost use Rattle.case_acts.specs.Cases.{HasLimitedDates, IsSoundStep};
 ghost use Rattle.case_acts.specs.Effects.{explained as is_explained, fcc_days, form_days, new_case};
 ghost use Rattle.case_acts.specs.Rulings.{file_ruling, form_ruling};
 
@@ -88,12 +90,28 @@ fn days_over(days: i32) -> u32
     if days > 0 { days as u32 } else { 0 }
 }
 
-/// How many days the form of an emergency came after the day on which it was due (77.7(e)).
+/// The day number of a date, where 1970-01-01 is 0.
+fn number(date: Date) -> i32
+    ensures value { result ≡ epoch_day date }
+    ensures bound { IsEpochDay result }
+{
+    date.to_plain().to_unix_epoch_day()
+}
+
+/// How far a day lies after the due day of a form, whose notice was received on another (77.7(e)); both by their numbers.
+fn after_due(received: i32, today: i32) -> i32
+    requires received { IsEpochDay received }
+    requires today { IsEpochDay today }
+    ensures { result ≡ today -ℤ (received +ℤ FORM_DAYS) }
+{
+    today - (received + FORM_DAYS)
+}
+
+/// How many days the form of an emergency came after the day on which it was due.
 fn form_late(received: Date, today: Date) -> u32
     ensures { result ≡ form_days received today }
 {
-    let due = received.to_plain().to_unix_epoch_day() + FORM_DAYS;
-    days_over(today.to_plain().to_unix_epoch_day() - due)
+    days_over(after_due(number(received), number(today)))
 }
 
 /// What the form of an emergency's notice comes to that came today (77.7(e)).

@@ -1,10 +1,10 @@
 //! Petitions for review (77.37), and how they are disposed of.
 
-ghost use Rattle.std.specs.Prelude.{◌≡◌, IfOk};
+ghost use Rattle.std.specs.Prelude.{◌≡◌, [], true, IfOk};
 ghost use Rattle.determination_dates.specs.Days.{IsLimited};
 ghost use Rattle.determination_dates.specs.Effects.{IsKept};
 ghost use Rattle.case_acts.specs.Cases.{IsSound, IsSoundStep};
-ghost use Rattle.case_acts.specs.Effects.{settled};
+ghost use Rattle.case_acts.specs.Effects.{reversed, settled};
 ghost use Rattle.case_acts.specs.Rulings.{ruling, petition_ruling, disposal_ruling};
 
 use crate::effect::{Effect, Step};
@@ -86,6 +86,7 @@ fn affirm(number: u32, today: Date, case: &KeptCase, r: Record) -> Result<Effect
 /// What a reversal comes to.
 fn reverse(number: u32, case: &KeptCase) -> Effect
     requires { IsSound case.now }
+    ensures value { result ≡ reversed number case.now }
     ensures sound { IsSoundStep result.step }
 {
     let life = Life {

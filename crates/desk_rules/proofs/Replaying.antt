@@ -125,7 +125,7 @@ replayed_on : (opening s : State) (es : List Entry) (p : ℕ) (q : Asked) (given
 replayed_on opening s es p q given e step is done =
     replay-append opening es e ∙ subst (λ t. after t (decide_again t e) ≡ with_entry e (stepped step s)) is (ap (after s) (decided_again s p q given e step done))
 
-append_nothing : (es : List Entry) → es ++ [] ≡ es
+pub append_nothing : (es : List Entry) → es ++ [] ≡ es
 append_nothing [] = refl
 append_nothing (e ∷ es) = ap (λ l. e ∷ l) (append_nothing es)
 
@@ -166,7 +166,7 @@ kept_by q s e v basis same there =
     ap (λ w. decide_by w s q basis) there ∙ ap (λ b. cond b (Kept e) (No (refusals.KeyReused e.number))) alike
 
 -- a step leaves the entries as they are
-same_entries : (t : Step) (s : State) → (stepped t s).entries ≡ s.entries
+pub same_entries : (t : Step) (s : State) → (stepped t s).entries ≡ s.entries
 same_entries (steps.Amended a) s = refl
 same_entries (steps.DaySet d) s = refl
 same_entries (steps.DayClosed d) s = refl

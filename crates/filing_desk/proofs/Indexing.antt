@@ -4,6 +4,7 @@ use Rattle.std.proofs.lemmas.Grind.{common_steps}
 use Rattle.std.proofs.lemmas.Bool.{and_parts}
 use Rattle.std.specs.Cmp.Lexicographic.{pointwise}
 use Rattle.std.specs.BTreeMap.{BTreeMap, get, is_at, Updates}
+use Rattle.std.specs.Map.{lookup}
 use Rattle.determination_dates.specs.Computed.{with_some}
 use Rattle.desk_rules.specs.declared.entry.Entry.{Entry}
 use Rattle.desk_rules.specs.States.{entry_of}
@@ -105,8 +106,11 @@ indexed_on m n es e index new updates =
 nothing : (p : Option ℕ) → p ≡ None → None ≡ with_some p (slice_get [])
 nothing p e = rw e refl
 
-pub indexed_none : (m : BTreeMap ReceiptKey ℕ) → ((k : ReceiptKey) → get keys.ghosts.cmp m k ≡ None) → IsIndex m []
-indexed_none m none = record { found = λ q. nothing _ (none q); below = λ q. subst (λ p. IfSome p (λ i. i < 0)) (sym (none q)) tt }
+pub indexed_none : (m : BTreeMap ReceiptKey ℕ) → m.entries ≡ [] → IsIndex m []
+indexed_none m e = record { found = λ q. nothing _ (none q); below = λ q. subst (λ p. IfSome p (λ i. i < 0)) (sym (none q)) tt }
+  where
+    none : (q : ReceiptKey) → get keys.ghosts.cmp m q ≡ None
+    none q = ap (lookup (is_at (keys.ghosts.cmp q))) e
 
 -- ---- a place is taken away again
 

@@ -17,5 +17,8 @@ told (Done e step) = answers.Accepted e.number e.outcome
 abbrev pub decision : State → Asked → Decided
 decision s q = decide s (last_number s) q None
 
-abbrev pub no_memory : Answer
-no_memory = answers.Refused refusals.NoMemory
+-- a request is accepted as it is decided, and the state s becomes the state t; it is refused as it is decided, or where memory was
+-- refused, and nothing is changed
+abbrev pub Answers : Decided → State → State → Answer → Type 0
+Answers d s t (answers.Accepted number outcome) = (told d ≡ answers.Accepted number outcome) × (t ≡ after s d)
+Answers d s t (answers.Refused why) = (why ≢ refusals.NoMemory → d ≡ No why) × (t ≡ s)

@@ -1,10 +1,10 @@
 //! How the desk decides a changing request.
 
-ghost use Rattle.std.specs.Prelude.{◌≡◌, ◌≢◌, None, Ok};
+ghost use Rattle.std.specs.Prelude.{◌≡◌, None, Ok};
 ghost use Rattle.case_acts.specs.Cases.{IsSoundStep};
-ghost use Rattle.desk_rules.specs.States.{entry_of};
-ghost use Rattle.desk_rules.specs.Machine.{after, decide_new, registered, repeated as repeat};
-ghost use Rattle.filing_desk.specs.Answers.{told, decision, no_memory};
+ghost use Rattle.desk_rules.specs.States.{State, entry_of};
+ghost use Rattle.desk_rules.specs.Machine.{decide_new, registered, repeated as repeat};
+ghost use Rattle.filing_desk.specs.Answers.{Answers, decision};
 
 use crate::answer::Answer;
 use crate::desk::Desk;
@@ -16,7 +16,7 @@ use wire_requests::Change;
 
 /// What a request is answered whose caller's key stands for an entry.
 fn repeated(alloc: Global, entry: &Entry, c: &Change) -> Answer
-    ensures { result ≢ no_memory → result ≡ told (repeat entry.now c.now) }
+    ensures { (s : State) → Answers (repeat entry.now c.now) s s result }
 {
     if entry.change.act != c.act {
         return Answer::Refused(Refusal::KeyReused {
@@ -37,9 +37,7 @@ impl Desk {
     fn accept(&mut self, alloc: Global, c: &Change, effect: Effect) -> Answer
         requires new { entry_of c.now.caller c.now.key self.old.entries ≡ None }
         requires sound { IsSoundStep effect.step }
-        ensures answer { result ≢ no_memory → result ≡ told (decide_new self.old c.now (registered self.old.register (Ok effect))) }
-        ensures after { result ≢ no_memory → self.new ≡ after self.old (decide_new self.old c.now (registered self.old.register (Ok effect))) }
-        ensures same { result ≡ no_memory → self.new ≡ self.old }
+        ensures { Answers (decide_new self.old c.now (registered self.old.register (Ok effect))) self.old self.new result }
     {
         let number = self.receipts.len() as u64 + 1;
         let Ok(outcome) = effect.outcome.copy(alloc) else {
@@ -60,10 +58,9 @@ impl Desk {
     }
 
     /// Decides a changing request.
+    #[tactic(auto, using(crate::proofs::Deciding::known_as, crate::proofs::Deciding::refused_as, crate::proofs::Deciding::accepted_as))]
     pub(crate) fn apply(&mut self, alloc: Global, c: &Change) -> Answer
-        ensures answer { result ≢ no_memory → result ≡ told (decision self.old c.now) }
-        ensures after { result ≢ no_memory → self.new ≡ after self.old (decision self.old c.now) }
-        ensures same { result ≡ no_memory → self.new ≡ self.old }
+        ensures { Answers (decision self.old c.now) self.old self.new result }
     {
         match self.receipts.find(c.caller, c.key) {
             Some(entry) => return repeated(alloc, entry, c),

@@ -1,11 +1,11 @@
 //! The clerk of the desk.
 
-ghost use Rattle.std.specs.Prelude.{◌≡◌, ◌≢◌, option_map};
+ghost use Rattle.std.specs.Prelude.{◌≡◌, option_map};
 ghost use Rattle.desk_rules.specs.States.{case_at, last_number};
 ghost use Rattle.desk_rules.specs.Evaluations.{site_of};
 ghost use Rattle.desk_rules.specs.Views.{case_view};
-ghost use Rattle.filing_desk.specs.Answers.{told, decision, no_memory};
-ghost use Rattle.filing_desk.specs.Clerks.{advanced};
+ghost use Rattle.filing_desk.specs.Answers.{decision};
+ghost use Rattle.filing_desk.specs.Clerks.{Advances};
 
 use crate::answer::Answer;
 use crate::desk::Desk;
@@ -42,10 +42,9 @@ impl Clerk {
     /// # Errors
     ///
     /// The first rule that the request breaks, in the order of the rules, or `NoMemory` where memory was refused; nothing is changed then.
+    #[tactic(auto, using(crate::proofs::Deciding::goes_on, crate::proofs::Deciding::advances))]
     pub fn apply(&mut self, alloc: Global, c: &Change) -> Answer
-        ensures answer { result ≢ no_memory → result ≡ told (decision self.old.state c.now) }
-        ensures after { result ≢ no_memory → self.new ≡ advanced self.old (decision self.old.state c.now) }
-        ensures same { result ≡ no_memory → self.new ≡ self.old }
+        ensures { Advances (decision self.old.state c.now) self.old self.new result }
     {
         self.desk.apply(alloc, c)
     }
