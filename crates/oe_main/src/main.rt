@@ -19,6 +19,8 @@ use std::process::ExitCode;
 pub use words::Words;
 
 #[cfg(test)]
+mod case_tests;
+#[cfg(test)]
 mod tests;
 
 /// The words after the program's name.
