@@ -9,7 +9,16 @@ use grid_exact::NoMemory;
 use std::alloc::Global;
 
 impl Clerk {
-    /// A clerk of a desk that holds nothing.
+    /// A clerk of a desk that holds nothing. It takes no memory.
+    pub fn empty(alloc: Global) -> Clerk
+        ensures { result ≡ record { state = empty; accepted = [] } }
+    {
+        Clerk {
+            desk: Desk::empty(alloc),
+        }
+    }
+
+    /// The same.
     ///
     /// # Errors
     ///
@@ -17,8 +26,6 @@ impl Clerk {
     pub fn fresh(alloc: Global) -> Result<Clerk, NoMemory>
         ensures { IfOk result (λ c. c ≡ record { state = empty; accepted = [] }) }
     {
-        Ok(Clerk {
-            desk: Desk::empty(alloc),
-        })
+        Ok(Clerk::empty(alloc))
     }
 }

@@ -6,24 +6,24 @@ use Rattle.oe_session.specs.Machine.{Starts}
 use Rattle.oe_session.specs.Session.{Begun, Answered, WritesWhole, HasCauses}
 use Rattle.oe_session.specs.declared.session.Ended.{Ended}
 use Rattle.oe_session.specs.declared.session.Ended.TheVariants as endings
-use Rattle.oe_main.specs.declared.state.DeskState.{DeskState}
+use Rattle.desk_rules.specs.States.{State, empty}
 use Rattle.oe_main.specs.declared.status.Status.{Status}
 use Rattle.oe_main.specs.declared.status.Status.TheVariants as statuses
 use Rattle.oe_main.specs.Statuses.{status_of}
-use Rattle.oe_main.specs.Desk.{Step, opening}
+use Rattle.oe_main.specs.Desk.{Step}
 use Rattle.oe_main.specs.Runs.{AllAnswered, RunWrites, RunCauses}
 
 appends_nothing : (h : Option (List ℕ)) → Appends h h []
 appends_nothing None = tt
 appends_nothing (Some hs) = sym (append-nil hs)
 
-starts_nothing : (s : DeskState) (ls : List (List ℕ)) → Starts Step s ls []
+starts_nothing : (s : State) (ls : List (List ℕ)) → Starts Step s ls []
 starts_nothing s [] = refl
 starts_nothing s (l ∷ ls) = inl refl
 
-pub begun_nothing : (x h : Option (List ℕ)) → Begun Step opening x h h
+pub begun_nothing : (x h : Option (List ℕ)) → Begun Step empty x h h
 begun_nothing None h = tt
-begun_nothing (Some xs) h = ([], appends_nothing h, starts_nothing opening (lines xs))
+begun_nothing (Some xs) h = ([], appends_nothing h, starts_nothing empty (lines xs))
 
 -- the end of the session that a status tells of
 abbrev pub ending : Status → Ended
@@ -55,10 +55,10 @@ fault_or_long : (e : Ended) → (status_of e ≡ statuses.ReadFault) ⊎ (status
 fault_or_long e (inl h) = inl (told_by e statuses.ReadFault h)
 fault_or_long e (inr h) = inr (told_by e statuses.InputLong h)
 
-pub run_answered : (e : Ended) (x h k : Option (List ℕ)) → (e ≡ endings.Closed → (after : DeskState) × Answered Step opening after x h k) → status_of e ≡ statuses.Done → AllAnswered x h k
+pub run_answered : (e : Ended) (x h k : Option (List ℕ)) → (e ≡ endings.Closed → (after : State) × Answered Step empty after x h k) → status_of e ≡ statuses.Done → AllAnswered x h k
 run_answered e x h k closed s = closed (told_by e statuses.Done s)
 
-pub run_writes : (e : Ended) (x y h k : Option (List ℕ)) → ((after : DeskState) × WritesWhole Step opening after e x y h k) → RunWrites (status_of e) x y h k
+pub run_writes : (e : Ended) (x y h k : Option (List ℕ)) → ((after : State) × WritesWhole Step empty after e x y h k) → RunWrites (status_of e) x y h k
 run_writes e x y h k (after, w) = record {
   read_to_end = λ s. w.read_to_end (told_by e statuses.Done s);
   whole = λ s. (after, w.whole (fault_or_long e s));

@@ -4,27 +4,27 @@ use Rattle.grid_exact.specs.declared.text.TheConstants.{LINE_LIMIT}
 use Rattle.wire_requests.specs.Requests.{IsRecord, IsMalformed, Long}
 use Rattle.wire_replies.specs.Replies.{reply_text}
 use Rattle.wire_requests.specs.declared.request.Request.{Request}
-use Rattle.wire_replies.specs.declared.reply.Refusal.TheVariants as refusals
+use Rattle.case_records.specs.declared.refusal.Refusal.TheVariants as refusals
 use Rattle.wire_replies.specs.declared.reply.Reply.TheVariants as replies
-use Rattle.oe_main.specs.declared.state.DeskState.{DeskState}
+use Rattle.desk_rules.specs.States.{State}
 use Rattle.oe_main.specs.Desk.{Answers, Step, Blank, Told, Refused, Wanting, Tells, Decided, NoRoom, no_memory, reply_to}
 
 not_blank : (line : List ℕ) → 0 < length line → line ≢ []
 not_blank line some e = omega (arith, some, ap length e)
 
-pub blank : (s : DeskState) (line text : List ℕ) → length line ≡ 0 → Answers s line text text s
+pub blank : (s : State) (line text : List ℕ) → length line ≡ 0 → Answers s line text text s
 blank s [] text e = record { reply = []; step = Blank refl refl refl; appended = sym (append-nil text) }
 blank s (b ∷ bs) text e = absurd (omega (arith, e))
 
-pub told : (before after : DeskState) (r : Request) (line old new : List ℕ) → 0 < length line → IsRecord line r → Tells before r old new after → Answers before line old new after
+pub told : (before after : State) (r : Request) (line old new : List ℕ) → 0 < length line → IsRecord line r → Tells before r old new after → Answers before line old new after
 told before after r line old new some is (Decided t s) = record { reply = reply_text (reply_to before r); step = Told r is refl s; appended = t }
 told before after r line old new some is (NoRoom t s) = record { reply = reply_text no_memory; step = Wanting (not_blank line some) refl s; appended = t }
 
-pub refused : (s : DeskState) (line old new : List ℕ) (field : ℕ) → 0 < length line → IsMalformed line field → new ≡ old ++ reply_text (replies.Refused (refusals.Malformed field)) → Answers s line old new s
+pub refused : (s : State) (line old new : List ℕ) (field : ℕ) → 0 < length line → IsMalformed line field → new ≡ old ++ reply_text (replies.Refused (refusals.Malformed field)) → Answers s line old new s
 refused s line old new field some is t = record { reply = reply_text (replies.Refused (refusals.Malformed field)); step = Refused (not_blank line some) field is refl refl; appended = t }
 
-pub wanting : (s : DeskState) (line old new : List ℕ) → 0 < length line → new ≡ old ++ reply_text no_memory → Answers s line old new s
+pub wanting : (s : State) (line old new : List ℕ) → 0 < length line → new ≡ old ++ reply_text no_memory → Answers s line old new s
 wanting s line old new some t = record { reply = reply_text no_memory; step = Wanting (not_blank line some) refl refl; appended = t }
 
-pub refused_long : (s : DeskState) (line : List ℕ) → LINE_LIMIT < length line → Step s line (reply_text (replies.Refused (refusals.Malformed 0))) s
+pub refused_long : (s : State) (line : List ℕ) → LINE_LIMIT < length line → Step s line (reply_text (replies.Refused (refusals.Malformed 0))) s
 refused_long s line long = Refused (not_blank line (omega (arith, long))) 0 (Long long refl) refl refl

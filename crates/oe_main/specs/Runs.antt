@@ -3,18 +3,18 @@ use Rattle.std.specs.Prelude.{ℕ, List, [], ◌∷◌, ◌≡◌, ◌≢◌, �
 use Rattle.oe_http.specs.Causes.{Rose}
 use Rattle.oe_http.specs.declared.lines.TheConstants.{INPUT_LIMIT}
 use Rattle.oe_session.specs.Session.{Answered, AnsweredFront, AnsweredRead, ReadToEnd, TookAtLeast}
-use Rattle.oe_main.specs.declared.state.DeskState.{DeskState}
+use Rattle.desk_rules.specs.States.{State, empty}
 use Rattle.oe_main.specs.declared.status.Status.{Status}
 use Rattle.oe_main.specs.declared.status.Status.TheVariants as statuses
-use Rattle.oe_main.specs.Desk.{Step, opening}
+use Rattle.oe_main.specs.Desk.{Step}
 
--- the replies to all lines of an input were written, from the opening state on, where both streams tell
+-- the replies to all lines of an input were written, from the desk that holds nothing on, where both streams tell
 abbrev pub AllAnswered : Option (List ℕ) → Option (List ℕ) → Option (List ℕ) → Type 0
-AllAnswered input held_old held_new = (after : DeskState) × Answered Step opening after input held_old held_new
+AllAnswered input held_old held_new = (after : State) × Answered Step empty after input held_old held_new
 
 -- the replies to all lines that were read whole were written
 abbrev pub ReadAnswered : Option (List ℕ) → Option (List ℕ) → Option (List ℕ) → Option (List ℕ) → Type 0
-ReadAnswered input left held_old held_new = (after : DeskState) × AnsweredRead Step opening after input left held_old held_new
+ReadAnswered input left held_old held_new = (after : State) × AnsweredRead Step empty after input left held_old held_new
 
 -- what was read and written, by the status
 pub record RunWrites (status : Status) (input left held_old held_new : Option (List ℕ)) : Type 0 where
@@ -23,7 +23,7 @@ pub record RunWrites (status : Status) (input left held_old held_new : Option (L
   -- at a fault of the input, or past its limit, each line that was read whole has its reply
   pub whole : (status ≡ statuses.ReadFault) ⊎ (status ≡ statuses.InputLong) → ReadAnswered input left held_old held_new
   -- where memory is wanting, no part of a reply was written
-  pub memory : status ≡ statuses.NoMemory → AnsweredFront Step opening input held_old held_new
+  pub memory : status ≡ statuses.NoMemory → AnsweredFront Step empty input held_old held_new
 
 -- Usage is the status exactly where the words are not the one word `desk`
 pub record TellsUsage (words : List (List ℕ)) (status : Status) : Type 0 where

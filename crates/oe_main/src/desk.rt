@@ -2,56 +2,56 @@
 
 ghost use Rattle.std.specs.Prelude.{◌≡◌, ◌≤◌, ◌<◌, ◌+◌, ◌^◌, ◌++◌, length, List, ℕ, OnOk, OnErr, string_bytes};
 ghost use Rattle.grid_exact.specs.Texts.{Extends};
-ghost use Rattle.oe_main.specs.declared.state.DeskState.{DeskState as DeskStateOf};
-ghost use Rattle.oe_main.specs.Desk.{Answers, Step, opening};
+ghost use Rattle.desk_rules.specs.States.{State, empty, last_number};
+ghost use Rattle.oe_main.specs.Desk.{Answers, Step};
 
-use crate::state::{DeskState, fulfil};
+use crate::fulfil::fulfil;
+use filing_desk::Clerk;
 use grid_exact::{LINE_LIMIT, NoMemory, Steps};
-use oe_findings::{Findings, Sky};
+use oe_findings::Findings;
 use oe_session::Answering;
 use oe_wire::{ReadRefusal, RecordReader, Refusal, Reply, append_reply};
 use std::alloc::Global;
 use std::marker::Model;
 use std::sync::ledger::{Blank, Ledger};
 
-/// A desk over a register, seen as what it keeps from record to record.
+/// A desk, seen as all that it holds: the airfields, the day, the closed days, the cases and the accepted requests.
 #[derive(Drop)]
 pub struct Desk<L: Ledger> {
     alloc: Global,
-    state: DeskState,
+    clerk: Clerk,
     records: RecordReader,
     list: Findings,
     steps: Steps<L>,
 }
 
 impl<L: Ledger> Model for Desk<L> {
-    ghost use Rattle.oe_main.specs.declared.state.DeskState.{DeskState};
+    ghost use Rattle.desk_rules.specs.States.{State};
 
-    ghost Value = { DeskState };
+    ghost Value = { State };
 
-    ghost view = { λ d. d.state };
+    ghost view = { λ d. d.clerk.state };
 }
 
 /// Appends the reply to a line; an empty line has none.
 fn append_answer<L: Ledger>(
     alloc: Global,
-    state: &mut DeskState,
+    clerk: &mut Clerk,
     records: &mut RecordReader,
     list: &mut Findings,
     steps: &mut Steps<L>,
     line: &[u8],
     text: &mut String,
 ) -> Result<(), NoMemory>
-    requires room { state.old.accepted < 2 ^ 41 }
-    ensures ok { OnOk result (Answers state.old line.now (string_bytes text.old) (string_bytes text.new) state.new) }
+    ensures ok { OnOk result (Answers clerk.old.state line.now (string_bytes text.old) (string_bytes text.new) clerk.new.state) }
     ensures part { OnErr result (Extends (string_bytes text.old) (string_bytes text.new)) }
-    ensures count { state.new.accepted ≤ state.old.accepted + 1 }
+    ensures count { last_number clerk.new.state ≤ last_number clerk.old.state + 1 }
 {
     if line.is_empty() {
         return Ok(());
     }
     match records.read(line) {
-        Ok(request) => fulfil(alloc, state, list, steps, &request, text),
+        Ok(request) => fulfil(alloc, clerk, list, steps, &request, text),
         Err(ReadRefusal::Malformed { field }) => {
             append_reply(text, &Reply::Refused(Refusal::Malformed { field }))
         }
@@ -61,26 +61,23 @@ fn append_answer<L: Ledger>(
 
 /// Appends the reply to a line that is too long.
 fn append_too_long(text: &mut String) -> Result<(), NoMemory>
-    ensures ok { OnOk result ((reply : List ℕ) × ((s : DeskStateOf) (line : List ℕ) → LINE_LIMIT < length line → Step s line reply s) × (string_bytes text.new ≡ string_bytes text.old ++ reply)) }
+    ensures ok { OnOk result ((reply : List ℕ) × ((s : State) (line : List ℕ) → LINE_LIMIT < length line → Step s line reply s) × (string_bytes text.new ≡ string_bytes text.old ++ reply)) }
     ensures part { OnErr result (Extends (string_bytes text.old) (string_bytes text.new)) }
 {
     append_reply(text, &Reply::Refused(Refusal::Malformed { field: 0 }))
 }
 
 impl<L: Ledger> Desk<L> {
-    /// A desk with an empty register, whose steps are counted in the ledger that `blank` opens. It takes no memory.
+    /// A desk that holds nothing, whose steps are counted in the ledger that `blank` opens. It takes no memory.
     pub fn new(alloc: Global, blank: Blank) -> Desk<L>
         requires name { blank.name ≡ L.name }
         requires parts { blank.parts ≡ L.parts }
         requires some { 0 < L.parts }
-        ensures { result ≡ opening }
+        ensures { result ≡ empty }
     {
         Desk {
             alloc,
-            state: DeskState {
-                sky: Sky::empty(alloc),
-                accepted: 0,
-            },
+            clerk: Clerk::empty(alloc),
             records: RecordReader::new(alloc),
             list: Findings::new(alloc),
             steps: Steps::new(blank),
@@ -89,16 +86,17 @@ impl<L: Ledger> Desk<L> {
 }
 
 impl<L: Ledger> Answering for Desk<L> {
+    ghost use Rattle.desk_rules.specs.States.{last_number};
     ghost use Rattle.oe_main.specs.Desk.{Step};
 
     ghost step = { Step };
 
-    ghost count = { λ s. s.accepted };
+    ghost count = { last_number };
 
     fn answer(&mut self, line: &[u8], text: &mut String) -> Result<(), NoMemory> {
         append_answer(
             self.alloc,
-            &mut self.state,
+            &mut self.clerk,
             &mut self.records,
             &mut self.list,
             &mut self.steps,

@@ -4,21 +4,22 @@
 #![tactic(auto)]
 
 mod desk;
+mod fulfil;
 mod run;
-mod state;
 mod status;
 mod words;
 
 pub use desk::Desk;
 use oe_http::{ReadSource, WriteSink};
 pub use run::run;
-pub use state::DeskState;
 pub use status::Status;
 use std::env;
 use std::io::ErrorKind;
 use std::process::ExitCode;
 pub use words::Words;
 
+#[cfg(test)]
+mod case_tests;
 #[cfg(test)]
 mod tests;
 

@@ -2,8 +2,8 @@
 
 ghost use Rattle.std.specs.Prelude.{◌≡◌, ◌≢◌, ◌<◌, List, ℕ};
 ghost use Rattle.oe_session.specs.Session.{Answered, Begun, WritesWhole, HasCauses};
-ghost use Rattle.oe_main.specs.declared.state.DeskState.{DeskState};
-ghost use Rattle.oe_main.specs.Desk.{Step, opening};
+ghost use Rattle.desk_rules.specs.States.{State, empty};
+ghost use Rattle.oe_main.specs.Desk.{Step};
 ghost use Rattle.oe_main.specs.Runs.{AllAnswered, RunCauses, RunWrites, TellsUsage};
 
 use crate::desk::Desk;
@@ -25,9 +25,9 @@ fn session<L: Ledger, S: Source, O: Sink>(
     requires name { blank.name ≡ L.name }
     requires parts { blank.parts ≡ L.parts }
     requires some { 0 < L.parts }
-    ensures closed { result ≡ Ended.Closed → (after : DeskState) × Answered Step opening after (S.left input.old) (O.held output.old) (O.held output.new) }
-    ensures begun { Begun Step opening (S.left input.old) (O.held output.old) (O.held output.new) }
-    ensures written { (after : DeskState) × WritesWhole Step opening after result (S.left input.old) (S.left input.new) (O.held output.old) (O.held output.new) }
+    ensures closed { result ≡ Ended.Closed → (after : State) × Answered Step empty after (S.left input.old) (O.held output.old) (O.held output.new) }
+    ensures begun { Begun Step empty (S.left input.old) (O.held output.old) (O.held output.new) }
+    ensures written { (after : State) × WritesWhole Step empty after result (S.left input.old) (S.left input.new) (O.held output.old) (O.held output.new) }
     ensures causes { HasCauses result (S.left input.old) (S.left input.new) (S.faults input.old) (S.faults input.new) (O.faults output.old) (O.faults output.new) }
 {
     records(alloc, &mut Desk::<L>::new(alloc, blank), input, output)
@@ -46,7 +46,7 @@ pub fn run<S: Source, O: Sink>(
     // At `Done` the output is what it held before and the reply to each line of the input, in order.
     ensures done { result ≡ Status.Done → AllAnswered (S.left input.old) (O.held output.old) (O.held output.new) }
     // Under every status it is what it held before and a beginning of these replies.
-    ensures begun { Begun Step opening (S.left input.old) (O.held output.old) (O.held output.new) }
+    ensures begun { Begun Step empty (S.left input.old) (O.held output.old) (O.held output.new) }
     // How much of the input was read then, and which replies were written whole.
     ensures written { RunWrites result (S.left input.old) (S.left input.new) (O.held output.old) (O.held output.new) }
     // Usage is told exactly where the words are no command.

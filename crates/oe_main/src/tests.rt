@@ -5,11 +5,11 @@ use std::alloc::Global;
 use std::process::Abort;
 use std::test::Fail;
 
-const AIRPORT: &str = "airport,u,1,AAA,public,0,0,1000\n";
+pub(crate) const AIRPORT: &str = "airport,u,1,AAA,public,0,0,1000\n";
 
-const RUNWAY: &str = "runway,u,2,AAA,09/27,other,hard,-50000,0,1000,P,50000,0,1000,NA\n";
+pub(crate) const RUNWAY: &str = "runway,u,2,AAA,09/27,other,hard,-50000,0,1000,P,50000,0,1000,NA\n";
 
-const PUBLISHED: &str = "ok,1,published,airport\nok,2,published,runway\n";
+pub(crate) const PUBLISHED: &str = "ok,1,published,airport\nok,2,published,runway\n";
 
 fn words(alloc: Global, list: &[&str]) -> Result<Words, Fail> {
     let mut words = Words::new(alloc);
@@ -30,7 +30,7 @@ fn desk(alloc: Global, text: &str, most: usize) -> Result<(Status, FakeSink), Fa
 }
 
 /// Each text, after the records before, is answered with its replies, after the replies before.
-fn answers(
+pub(crate) fn answers(
     rt: &impl Abort,
     alloc: Global,
     before: &str,
@@ -101,7 +101,7 @@ fn records_without_a_register(rt: HostRuntime) -> Result<(), Fail> {
             "found,0,1,9c-a - - 2991\n",
         ),
         ("\n\r\n", ""),
-        ("day,u,3,2026-01-15", "no,13,Malformed,1\n"),
+        ("day,u,3,2026-02-30", "no,13,Malformed,4\n"),
         (
             "screen,20000001,0,0,0,object,0,-,-\n",
             "no,13,Malformed,2\n",
@@ -133,8 +133,13 @@ fn records_over_one_airport(rt: HostRuntime) -> Result<(), Fail> {
             "runway,u,3,AAA,01/19,other,soft,0,0,1000,V,999,0,1000,V\n",
             "no,5,RunwayLength\n",
         ),
-        ("day,u,3,2026-01-15\n", "no,13,Malformed,1\n"),
-        (AIRPORT, "ok,3,published,airport\n"),
+        ("days,u,3,2026-01-15\n", "no,13,Malformed,1\n"),
+        (AIRPORT, "ok,1,published,airport\n"),
+        ("airport,u,1,AAA,public,0,0,1001\n", "no,28,KeyReused,1\n"),
+        (
+            "airport,u,3,AAA,public,0,0,1000\n",
+            "ok,3,published,airport\n",
+        ),
     ];
     answers_at_one_airport(&rt, rt.alloc(), &table)
 }

@@ -1,0 +1,129 @@
+//! The replies of the desk to requests.
+
+ghost use Rattle.std.specs.Prelude.{◌≡◌, ◌≤◌, ◌<◌, ◌+◌, ◌^◌, OnOk, OnErr, string_bytes};
+ghost use Rattle.grid_exact.specs.Texts.{Extends};
+ghost use Rattle.desk_rules.specs.States.{last_number};
+ghost use Rattle.oe_main.specs.Desk.{Tells, change_reply};
+ghost use Rattle.wire_requests.specs.declared.request.Request.TheVariants as requests;
+ghost use Rattle.wire_requests.specs.declared.request.Query.TheVariants as queries;
+
+use airfields::{FieldId, Filing};
+use filing_desk::{Answer, Clerk};
+use grid_exact::{NoMemory, Steps};
+use oe_findings::Findings;
+use oe_wire::{
+    Change, Query, Refusal, Reply, Request, append_airfield, append_found, append_reply,
+};
+use std::alloc::Global;
+use std::sync::ledger::Ledger;
+
+/// Appends the reply with the findings of a structure. The list is some list, whose room is used.
+fn append_findings<L: Ledger>(
+    alloc: Global,
+    clerk: &Clerk,
+    list: &mut Findings,
+    steps: &mut Steps<L>,
+    filing: &Filing,
+    text: &mut String,
+) -> Result<(), NoMemory>
+    ensures ok { OnOk result (Tells clerk.now.state (requests.Query (queries.Screen filing.now)) (string_bytes text.old) (string_bytes text.new) clerk.now.state) }
+    ensures part { OnErr result (Extends (string_bytes text.old) (string_bytes text.new)) }
+{
+    if clerk.sky().find(alloc, list, filing, steps).is_err() {
+        return append_reply(text, &Reply::Refused(Refusal::NoMemory));
+    }
+    append_found(text, clerk.accepted(), list.as_slice())
+}
+
+/// Appends the reply with what the findings of a structure come to.
+fn append_verdict<L: Ledger>(
+    clerk: &Clerk,
+    steps: &mut Steps<L>,
+    filing: &Filing,
+    text: &mut String,
+) -> Result<(), NoMemory>
+    ensures ok { OnOk result (Tells clerk.now.state (requests.Query (queries.Verdict filing.now)) (string_bytes text.old) (string_bytes text.new) clerk.now.state) }
+    ensures part { OnErr result (Extends (string_bytes text.old) (string_bytes text.new)) }
+{
+    append_reply(
+        text,
+        &Reply::Verdict {
+            last: clerk.accepted(),
+            verdict: clerk.sky().verdict(filing, steps),
+        },
+    )
+}
+
+/// Appends the reply with how a case stands. No case is marked for review, since marks are not built yet.
+fn append_case(clerk: &Clerk, number: u32, text: &mut String) -> Result<(), NoMemory>
+    ensures ok { OnOk result (Tells clerk.now.state (requests.Query (queries.Case number)) (string_bytes text.old) (string_bytes text.new) clerk.now.state) }
+    ensures part { OnErr result (Extends (string_bytes text.old) (string_bytes text.new)) }
+{
+    match clerk.case_view(number, false) {
+        Some(view) => append_reply(text, &Reply::Case(view)),
+        None => append_reply(text, &Reply::Refused(Refusal::UnknownCase)),
+    }
+}
+
+/// Appends the reply with the airfield of a name.
+fn append_named(clerk: &Clerk, id: &FieldId, text: &mut String) -> Result<(), NoMemory>
+    ensures ok { OnOk result (Tells clerk.now.state (requests.Query (queries.Airfield id.now)) (string_bytes text.old) (string_bytes text.new) clerk.now.state) }
+    ensures part { OnErr result (Extends (string_bytes text.old) (string_bytes text.new)) }
+{
+    match clerk.sky().register().get(id) {
+        Some(airfield) => append_airfield(text, airfield),
+        None => append_reply(text, &Reply::Refused(Refusal::UnknownAirfield)),
+    }
+}
+
+/// The reply to a change.
+fn reply_of(answer: Answer) -> Reply
+    ensures { result ≡ change_reply answer }
+{
+    match answer {
+        Answer::Accepted { entry, outcome } => Reply::Accepted {
+            entry,
+            published: true,
+            outcome,
+        },
+        Answer::Refused(refusal) => Reply::Refused(refusal),
+    }
+}
+
+/// Makes a change, or refuses it, and appends the reply.
+fn make_change(
+    alloc: Global,
+    clerk: &mut Clerk,
+    change: &Change,
+    text: &mut String,
+) -> Result<(), NoMemory>
+    ensures ok { OnOk result (Tells clerk.old.state (requests.Change change.now) (string_bytes text.old) (string_bytes text.new) clerk.new.state) }
+    ensures part { OnErr result (Extends (string_bytes text.old) (string_bytes text.new)) }
+    ensures count { last_number clerk.new.state ≤ last_number clerk.old.state + 1 }
+{
+    append_reply(text, &reply_of(clerk.apply(alloc, change)))
+}
+
+/// Does what a request asks for, and appends the reply.
+pub(crate) fn fulfil<L: Ledger>(
+    alloc: Global,
+    clerk: &mut Clerk,
+    list: &mut Findings,
+    steps: &mut Steps<L>,
+    request: &Request,
+    text: &mut String,
+) -> Result<(), NoMemory>
+    ensures ok { OnOk result (Tells clerk.old.state request.now (string_bytes text.old) (string_bytes text.new) clerk.new.state) }
+    ensures part { OnErr result (Extends (string_bytes text.old) (string_bytes text.new)) }
+    ensures count { last_number clerk.new.state ≤ last_number clerk.old.state + 1 }
+{
+    match request {
+        Request::Query(Query::Screen(filing)) => append_findings(
+            alloc, clerk, list, steps, filing, text,
+        ),
+        Request::Query(Query::Verdict(filing)) => append_verdict(clerk, steps, filing, text),
+        Request::Query(Query::Case(number)) => append_case(clerk, *number, text),
+        Request::Query(Query::Airfield(id)) => append_named(clerk, id, text),
+        Request::Change(change) => make_change(alloc, clerk, change, text),
+    }
+}
