@@ -44,7 +44,7 @@ impl Findings {
         ensures pushed { OnOk result (self.new ≡ self.old ++ finding ∷ []) }
         ensures kept { OnErr result (self.new ≡ self.old) }
     {
-        self.items.push(finding)?;
+        self.items.extend_from_slice(&[finding])?;
         Ok(())
     }
 
