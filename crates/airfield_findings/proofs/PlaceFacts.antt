@@ -34,13 +34,13 @@ placed p core a b c e i = record {
   north = omega (arith, ints, clamps, i.north);
 }
 
-wide : (p : Point) (core a b : Area) → IsAbout p core → Encloses a core → IsInPlane a b → pos 65536 <ℤ (b.x1 -ℤ b.x0)
+wide : (p : Point) (core a b : Area) → IsAbout p core → Encloses a core → IsInPlane a b → pos 131072 <ℤ (b.x1 -ℤ b.x0)
 wide p core a b c e i = omega (arith, ints, clamps, c.west, c.east, e.west, e.east, i.west, i.east, p.on_grid)
 
 greater_first : (a b : ℤ) → a ≤ℤ greater a b
 greater_first a b = grind (arith, ints)
 
-pub one_level : (p : Point) (core a b : Area) → IsAbout p core → Encloses a core → IsInPlane a b → cell_level b ≡ 5
+pub one_level : (p : Point) (core a b : Area) → IsAbout p core → Encloses a core → IsInPlane a b → cell_level b ≡ 6
 one_level p core a b c e i = cell_middle b (omega (arith, ints, wide p core a b c e i, greater_first (b.x1 -ℤ b.x0) (b.y1 -ℤ b.y0)))
 
 pub still_has : (a b : Area) (x : Point) → IsInPlane a b → Has a x → Has b x

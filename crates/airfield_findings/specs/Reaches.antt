@@ -10,6 +10,7 @@ use Rattle.airfields.specs.declared.airfield.Airfield.{Airfield}
 use Rattle.airfields.specs.declared.airfield.Airport.{Airport}
 use Rattle.airfields.specs.declared.runway.Runway.{Runway}
 use Rattle.height_rules.specs.NearAirport.{near_excess}
+use Rattle.height_rules.specs.NearAreas.{HasLimit}
 use Rattle.height_rules.specs.Heights.{notice_top, standards_top}
 use Rattle.runway_notice.specs.Notices.{notice_slope}
 use Rattle.imaginary_surfaces.specs.Areas.{HullHas}
@@ -34,8 +35,9 @@ pub record IsInPlace (area : Area) (f : Airfield) : Type 0 where
 abbrev pub IsOver : Option Area → Point → Type 0
 IsOver area x = IsSomeAnd area (λ a. Has a x)
 
--- the boxes of the parts of an airport: 77.17(a)(2), 77.9(b), and the surfaces of 77.19
+-- the boxes of the parts of an airport: 77.17(a)(2), which is there where the airport has that limit, 77.9(b), and the surfaces of 77.19
 pub record IsAirportReach (a : Airport) (near notice surfaces : Option Area) : Type 0 where
+  pub near_limit : (x : Point) → IsOver near x → HasLimit a
   pub near_none : (site : Site) → ¬ IsOver near site.at → near_excess a site ≡ None
   pub notice_none : (x : Point) (top : ℤ) → IsLevel top → ¬ IsOver notice x → notice_slope a x top ≡ None
   pub surfaces_none : (x : Point) (top : ℤ) → IsLevel top → ¬ IsOver surfaces x → of_surfaces x top a ≡ []

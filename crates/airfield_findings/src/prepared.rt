@@ -14,8 +14,8 @@ use surface_tree::Placed;
 /// An airfield with its surfaces, and an area outside of which it gives no findings.
 #[derive(Drop)]
 pub struct Prepared {
-    pub(crate) area: Area,
     pub(crate) surfaces: Surfaces,
+    pub(crate) area: Area,
     ghost in_place: { IsInPlace area (airfield_with surfaces) },
 }
 

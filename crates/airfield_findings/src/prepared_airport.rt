@@ -15,7 +15,7 @@ ghost use Rattle.airfield_findings.specs.Reaches.{IsInPlace};
 use crate::reach::{is_over, place, surfaces_area};
 use airfields::{Airport, Filing, Runway};
 use grid_exact::{Area, NoMemory, Point};
-use height_rules::{excess_near_airport, near_area};
+use height_rules::{excess_near_limited, near_area};
 use horizontal_hull::Hull;
 use imaginary_surfaces::Strip;
 use runway_notice::{Slope, excess_notice, notice_area};
@@ -26,14 +26,15 @@ use std::marker::Model;
 #[derive(Drop)]
 pub struct PreparedAirport {
     airport: Airport,
-    hull: Hull,
-    strips: Vec<Strip>,
-    /// The box of 77.17(a)(2), where the airport has such a limit.
+    /// The box of 77.17(a)(2), where the airport has such a limit. The boxes stand beside the airport, since each structure near it asks
+    /// for them, and for more only where one of them has its point.
     near: Option<Area>,
     /// The box of 77.9(b), where notice is asked about the airport.
     notice: Option<Area>,
     /// The box of the surfaces of 77.19, where the airport has them.
     surfaces: Option<Area>,
+    hull: Hull,
+    strips: Vec<Strip>,
 }
 
 impl Model for PreparedAirport {
@@ -116,7 +117,7 @@ impl PreparedAirport {
         if !is_over(&self.near, &filing.at) {
             return None;
         }
-        excess_near_airport(&self.airport, filing)
+        excess_near_limited(&self.airport, filing)
     }
 
     /// The slope of 77.9(b) that the top of a structure is above at a point.

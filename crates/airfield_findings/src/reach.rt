@@ -25,7 +25,7 @@ use surface_tree::PLANE_LIMIT;
 
 /// How far an area reaches at least about an airport's reference point or an end of a heliport's axis, so that squares of one size hold
 /// the areas of all airfields; every surface that reaches as far as this is larger.
-pub const LEAST_REACH: i64 = 50_000;
+pub const LEAST_REACH: i64 = 70_000;
 
 /// The least box of several.
 pub(crate) fn joined_all(areas: &[Area]) -> Area

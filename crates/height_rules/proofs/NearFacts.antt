@@ -47,8 +47,8 @@ pub low_top : (d2 : ℕ) (base z : ℤ) → z ≤ℤ base → IsAboveLimit d2 ba
 low_top d2 base z low h = let k = floor_of d2 base z (above_reaches d2 base z h) in omega (arith, ints, k, low)
 
 -- where a level is not at the limit, none up to it is
-pub none_under : (d2 : ℕ) (base g z : ℤ) → (IsAtLimit d2 base (g -ℤ pos 2) → ⊥) → IsAtLimit d2 base z → (g -ℤ pos 1) ≤ℤ z
-none_under d2 base g z missed h = by_lt_z (g -ℤ pos 2) z (λ l. omega (arith, ints, l)) (λ l. absurd (missed (limit_rises d2 base z (g -ℤ pos 2) l h)))
+pub none_under : (d2 : ℕ) (base g z : ℤ) → (IsAtLimit d2 base (g -ℤ pos 1) → ⊥) → IsAtLimit d2 base z → g ≤ℤ z
+none_under d2 base g z missed h = by_lt_z (g -ℤ pos 1) z (λ l. omega (arith, ints, l)) (λ l. absurd (missed (limit_rises d2 base z (g -ℤ pos 1) l h)))
 
 max_left : (x y : ℤ) → x ≤ℤ int_max x y
 max_left x y = elim (cases_Bool (int_lt y x)) [ inl t ↦ rw t (omega (arith, ints)) | inr t ↦ rw t (grind (arith, ints)) ]

@@ -17,7 +17,7 @@ use grid_exact::{Area, Point};
 pub const OUTER_REACH: i64 = OUTER_HUNDREDTHS * NAUTICAL_MILE / 100;
 
 /// Whether the limit is asked of structures near the airport.
-fn has_limit(airport: &Airport) -> bool
+pub(crate) fn has_limit(airport: &Airport) -> bool
     ensures { IsTrue result ↔ HasLimit airport.now }
 {
     airport.category.described() && airport.runways.has_long()

@@ -7,26 +7,18 @@ ghost use Rattle.height_rules.specs.Limits.{IsAboveLimit, IsAtLimit};
 
 use crate::limit::{INNER_RADIUS, NAUTICAL_MILE, NearLimit, RISE_PER_MILE};
 use grid_exact::{Rising, Sloping, least_reached};
-
-/// About the root of a square whose root is from one radius of the level limit to two: near to a line, and then two steps of Newton's
-/// method.
-fn about_root(square: u64) -> u64
-    requires { square ≤ 2 ^ 55 }
-    ensures { result ≤ 2 ^ 50 }
-{
-    let line = INNER_RADIUS * 17 / 24 + square / (3 * INNER_RADIUS);
-    let nearer = (line + square / line) / 2;
-    (nearer + square / nearer) / 2
-}
+use std::num::{nearest_i64_to_f64, nearest_u64_to_f64, saturating_f64_to_u32};
 
 impl NearLimit {
-    /// About how far above its lowest level it is, and a little more.
+    /// About how far above its lowest level it is, rounded down, and one more.
     fn about_rise(&self) -> i64
         ensures least { pos 0 ≤ℤ result }
         ensures most { result ≤ℤ pos (2 ^ 50) }
     {
-        let beyond = about_root(self.square_distance as u64).saturating_sub(INNER_RADIUS);
-        (beyond * RISE_PER_MILE as u64 / NAUTICAL_MILE as u64) as i64 + 1
+        let distance = nearest_u64_to_f64(self.square_distance as u64).sqrt();
+        let miles = (distance - nearest_u64_to_f64(INNER_RADIUS))
+            / nearest_i64_to_f64(NAUTICAL_MILE);
+        i64::from(saturating_f64_to_u32(miles * nearest_i64_to_f64(RISE_PER_MILE))) + 1
     }
 
     /// About the least level that reaches it, and none above `top`.
@@ -49,17 +41,17 @@ impl NearLimit {
         if self.is_reached(guess) { guess } else { top }
     }
 
-    /// A level under which none reaches it: close to the guess, where none does there, and else the lowest.
+    /// A level under which none reaches it: the guess, where none below it does, and else the lowest.
     fn least_possible(&self, guess: i64) -> i64
         requires guess { IsLevel guess }
         ensures level { IsLevel result }
         ensures lowest { (z : ℤ) → IsAtLimit self.now.square_distance self.now.base z → result ≤ℤ z }
     {
         let lowest = self.lowest();
-        if guess < lowest + 2 || self.is_reached(guess - 2) {
+        if guess <= lowest || self.is_reached(guess - 1) {
             return lowest;
         }
-        guess - 1
+        guess
     }
 
     /// The least level that reaches it, where `top` does.

@@ -1,60 +1,41 @@
 //! A guess of how far a point is beyond two arcs joined by their tangents. It says nearly always what is found, so that little is asked;
-//! what is found does not rest on it. Numbers may wrap: the guess is then a bad one.
+//! what is found does not rest on it.
 
 use crate::arc::Arc;
 use crate::sizes::{CONICAL_RISE, CONICAL_SLOPE};
 use grid_exact::{Point, Vector};
+use std::num::{nearest_i64_to_f64, nearest_u64_to_f64, saturating_f64_to_u32};
 
-/// `a / b`, and `a` where `b` is not positive.
-fn over(a: i64, b: i64) -> i64 {
-    a / b.max(1)
-}
-
-/// About the root of `n`, from a number that is not far from it.
-fn root_near(n: i64, start: i64) -> i64 {
-    let mut root = start;
-    for _ in 0..3 {
-        root = root.wrapping_add(over(n, root)) / 2;
-    }
-    root
-}
-
-/// The greater coordinate of a way.
-fn reach(way: &Vector) -> i64 {
-    way.x.wrapping_abs().max(way.y.wrapping_abs())
+/// The square of the length of a way.
+fn square_of(way: &Vector) -> f64 {
+    nearest_u64_to_f64(way.square_length() as u64)
 }
 
 /// How far a point is beyond the arc about its center.
-fn beyond_disc(a: &Arc, x: &Point) -> i64 {
-    let seen = a.to_point(x);
-    let away = root_near(seen.square_length() as i64, reach(&seen));
-    away.wrapping_sub(i64::from(a.radius()))
+fn beyond_disc(a: &Arc, x: &Point) -> f64 {
+    square_of(&a.to_point(x)).sqrt() - f64::from(a.radius())
 }
 
 /// How far a point is beyond two arcs, the second not the smaller one: beyond one of them, or beyond the tangent between them.
-fn beyond_tapered(a: &Arc, b: &Arc, x: &Point) -> i64 {
+fn beyond_tapered(a: &Arc, b: &Arc, x: &Point) -> f64 {
     let way = a.to_arc(b);
     let seen = a.to_point(x);
-    let square = way.square_length() as i64;
-    let growth = i64::from(b.radius()).wrapping_sub(i64::from(a.radius()));
-    let tangent = square.wrapping_sub(growth.wrapping_mul(growth));
-    if tangent <= 0 {
+    let square = square_of(&way);
+    let growth = f64::from(b.radius()) - f64::from(a.radius());
+    let tangent = square - growth * growth;
+    if tangent <= 0.0 {
         return beyond_disc(b, x);
     }
-    // In sixteenths, for a root that is small.
-    let root = root_near(tangent.wrapping_mul(256), reach(&way).wrapping_mul(16));
-    let along = way.dot(&seen) as i64;
-    let across = way.cross(&seen).unsigned_abs() as i64;
-    let tilt = growth.wrapping_mul(across);
-    if along.wrapping_mul(root / 16) < tilt.wrapping_neg() {
+    let root = tangent.sqrt();
+    let along = nearest_i64_to_f64(way.dot(&seen) as i64);
+    let across = nearest_i64_to_f64(way.cross(&seen) as i64).abs();
+    if along * root < -growth * across {
         return beyond_disc(a, x);
     }
-    if square.wrapping_sub(along).wrapping_mul(root / 16) < tilt {
+    if (square - along) * root < growth * across {
         return beyond_disc(b, x);
     }
-    let beside = across.wrapping_mul(root) / 16;
-    let lean = growth.wrapping_mul(along);
-    over(beside.wrapping_sub(lean), square).wrapping_sub(i64::from(a.radius()))
+    (across * root - growth * along) / square - f64::from(a.radius())
 }
 
 /// A guess of how much higher than the horizontal surface the conical one is at a point, by two arcs alone.
@@ -64,7 +45,5 @@ pub(crate) fn guess_rise(a: &Arc, b: &Arc, x: &Point) -> u32 {
     } else {
         beyond_tapered(b, a, x)
     };
-    let slope = i64::from(CONICAL_SLOPE);
-    let rise = beyond.wrapping_add(slope - 1) / slope;
-    rise.clamp(0, i64::from(CONICAL_RISE)) as u32
+    saturating_f64_to_u32(beyond / f64::from(CONICAL_SLOPE)).min(CONICAL_RISE - 1) + 1
 }

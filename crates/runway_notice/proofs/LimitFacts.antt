@@ -14,5 +14,5 @@ run_size ratio base level s l =
     omega (arith, abs_mul_le ratio (level -ℤ base) (unsigned_abs RATIO_B1) (2 ^ 26) a b)
 
 -- where a level does not reach the slope, none up to it does
-pub none_under : (d : Fraction) (ratio base g z : ℤ) → pos 0 <ℤ ratio → (IsAtLeastRootOf d (run_of ratio base (g -ℤ pos 2)) → ⊥) → IsAtLeastRootOf d (run_of ratio base z) → (g -ℤ pos 1) ≤ℤ z
-none_under d ratio base g z p missed h = by_lt_z (g -ℤ pos 2) z (λ l. omega (arith, ints, l)) (λ l. absurd (missed (slope_rises d ratio base z (g -ℤ pos 2) p l h)))
+pub none_under : (d : Fraction) (ratio base g z : ℤ) → pos 0 <ℤ ratio → (IsAtLeastRootOf d (run_of ratio base (g -ℤ pos 1)) → ⊥) → IsAtLeastRootOf d (run_of ratio base z) → g ≤ℤ z
+none_under d ratio base g z p missed h = by_lt_z (g -ℤ pos 1) z (λ l. omega (arith, ints, l)) (λ l. absurd (missed (slope_rises d ratio base z (g -ℤ pos 1) p l h)))

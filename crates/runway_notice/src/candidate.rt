@@ -11,6 +11,7 @@ use airfields::Runway;
 use grid_exact::{Offset, Point, Vector};
 use runway_lines::Centerline;
 use std::cmp::Ordering;
+use std::num::nearest_u64_to_f64;
 
 /// A runway with its centerline, and where one point lies by that.
 #[derive(Clone, Copy)]
@@ -20,15 +21,11 @@ pub(crate) struct Candidate<'a> {
     pub(crate) at: Offset,
 }
 
-/// About the length of a vector: two steps of Newton's method from a sum that is near to it.
-fn about_length(vector: &Vector) -> u32 {
+/// About the length of a vector.
+fn about_length(vector: &Vector) -> f64 {
     let x = vector.x.unsigned_abs();
     let y = vector.y.unsigned_abs();
-    let square = x * x + y * y;
-    let near = x.max(y) + x.min(y) * 3 / 8 + 1;
-    let nearer = (near + square / near) / 2 + 1;
-    let nearest = (nearer + square / nearer) / 2;
-    nearest.min(u64::from(u32::MAX)) as u32
+    nearest_u64_to_f64(x * x + y * y).sqrt()
 }
 
 impl<'a> Candidate<'a> {
@@ -75,7 +72,7 @@ impl<'a> Candidate<'a> {
     }
 
     /// About how far the point is from the centerline, in tenths of a foot: a guess, of which nothing is asked.
-    pub(crate) fn about_distance(&self, point: &Point) -> u32 {
+    pub(crate) fn about_distance(&self, point: &Point) -> f64 {
         let (from, to) = (&self.runway.end1.at, &self.runway.end2.at);
         let along = self.at.along();
         if along < 0 {
@@ -85,8 +82,7 @@ impl<'a> Candidate<'a> {
             return about_length(&Vector::between(to, point));
         }
         let aside = self.at.aside().unsigned_abs() as u64;
-        let length = about_length(&Vector::between(from, to));
-        (aside / (u64::from(length) + 1)).min(u64::from(u32::MAX)) as u32
+        nearest_u64_to_f64(aside) / about_length(&Vector::between(from, to))
     }
 
     /// Compares how high its centerline and the other's are, each where it is nearest to the point.

@@ -30,17 +30,17 @@ impl SlopeLimit {
         if self.is_reached(guess) { guess } else { top }
     }
 
-    /// A level under which none reaches it: close to the guess, where none does there, and else the lowest.
+    /// A level under which none reaches it: the guess, where none below it does, and else the lowest.
     fn least_possible(&self, guess: i64) -> i64
         requires guess { IsLevel guess }
         ensures level { IsLevel result }
         ensures lowest { (z : ℤ) → IsAtLeastRootOf (fraction self.now.distance) (run_of self.now.ratio self.now.base z) → result ≤ℤ z }
     {
         let lowest = self.lowest();
-        if guess < lowest + 2 || self.is_reached(guess - 2) {
+        if guess <= lowest || self.is_reached(guess - 1) {
             return lowest;
         }
-        guess - 1
+        guess
     }
 
     /// The least level that reaches it, where `top` does.

@@ -1,6 +1,7 @@
 //! The slopes of 77.9(b)(1) and (2).
 
 use airfields::RunwayName;
+use std::num::{nearest_i64_to_f64, saturating_f64_to_u32};
 
 /// How far the slope of 77.9(b)(1) goes out, in tenths of a foot: 20,000 feet.
 pub const RANGE_B1: i64 = 200_000;
@@ -58,11 +59,8 @@ impl Sub {
         }
     }
 
-    /// How far it has risen at a distance, rounded down.
-    pub(crate) fn rise_at(self, distance: u32) -> u32 {
-        match self {
-            Sub::B1 => distance / RATIO_B1 as u32,
-            Sub::B2 => distance / RATIO_B2 as u32,
-        }
+    /// About how far it has risen at a distance, rounded down.
+    pub(crate) fn rise_at(self, distance: f64) -> u32 {
+        saturating_f64_to_u32(distance / nearest_i64_to_f64(self.ratio()))
     }
 }

@@ -102,7 +102,7 @@ placed_short a h =
 -- squares are no larger than the boxes' size
 squares_most : (l : ℕ) → squares_for l ≤ l
 squares_most l =
-    elim (cases_Bool (nat_lt l 5)) [
+    elim (cases_Bool (nat_lt l 6)) [
       | inl y ↦ rw y (omega arith)
       | inr n ↦ rw n (grind (arith, n))
     ]

@@ -64,15 +64,15 @@ level_low (suc n) m e l h =
       ]
     ]
 
-middle_squares : (l : ℕ) → 4 < l → squares_for l ≡ 5
-middle_squares l a = let n : nat_lt l 5 ≡ false = grind (arith, a) in rw n refl
+middle_squares : (l : ℕ) → 5 < l → squares_for l ≡ 6
+middle_squares l a = let n : nat_lt l 6 ≡ false = grind (arith, a) in rw n refl
 
-level_middle : (a : Area) → pos (side_of 4) <ℤ greater (a.x1 -ℤ a.x0) (a.y1 -ℤ a.y0) → 4 < level_of a
+level_middle : (a : Area) → pos (side_of 5) <ℤ greater (a.x1 -ℤ a.x0) (a.y1 -ℤ a.y0) → 5 < level_of a
 unfolding level_of
-level_middle a h = level_low 14 4 (greater (a.x1 -ℤ a.x0) (a.y1 -ℤ a.y0)) (omega arith) h
+level_middle a h = level_low 14 5 (greater (a.x1 -ℤ a.x0) (a.y1 -ℤ a.y0)) (omega arith) h
 
--- an area that is longer than 65,536 stands in squares of 2^17
-pub cell_middle : (a : Area) → pos 65536 <ℤ greater (a.x1 -ℤ a.x0) (a.y1 -ℤ a.y0) → cell_level a ≡ 5
+-- an area that is longer than 131,072 stands in squares of 2^18
+pub cell_middle : (a : Area) → pos 131072 <ℤ greater (a.x1 -ℤ a.x0) (a.y1 -ℤ a.y0) → cell_level a ≡ 6
 unfolding cell_level
 cell_middle a h = middle_squares (level_of a) (level_middle a h)
 

@@ -7,10 +7,10 @@ ghost use Rattle.surface_tree.specs.declared.square.TheConstants.{PLANE_LIMIT, T
 use crate::square::{PLANE_LIMIT, TOP_LEVEL};
 use grid_exact::Area;
 
-/// The level of the largest squares that hold areas, of 2^17 tenths of a foot. Smaller squares mean fewer items to look at in a visit,
+/// The level of the largest squares that hold areas, of 2^18 tenths of a foot. Smaller squares mean fewer items to look at in a visit,
 /// and more squares that a change has to copy. These hold the areas of heliports and of airports alike, so that a visit gives all of
 /// them in one order.
-pub const MIDDLE_LEVEL: u32 = 5;
+pub const MIDDLE_LEVEL: u32 = 6;
 
 /// The greater of the two.
 #[tactic(auto, using(crate::proofs::Sides::casts))]

@@ -177,7 +177,7 @@ impl<T: Placed + Drop> Tree<T> {
     /// Gives the visitor each item whose area has the point, once, and no other. It takes no memory.
     ///
     /// The items come in the order of their keys where squares of one size hold them all, as they do areas with an extent above
-    /// 65,536 tenths of a foot. Otherwise those of larger squares come first.
+    /// 131,072 tenths of a foot. Otherwise those of larger squares come first.
     ///
     /// A step is counted for each square, of which there is at most one of each level, and for each item that is looked at.
     pub fn visit<L: Ledger, W: Visitor<T>>(&self, x: &Point, visitor: &mut W, steps: &mut Steps<L>)

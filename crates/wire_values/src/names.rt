@@ -1,6 +1,6 @@
 //! Names as values of fields.
 
-ghost use Rattle.std.specs.Prelude.{refl};
+ghost use Rattle.std.specs.Prelude.{◌≡◌, refl};
 ghost use Rattle.airfields.specs.Names.{IsFieldId, IsRunwayName};
 ghost use Rattle.wire_values.specs.Words.{IsWord, name_text, IsAirfieldName};
 ghost use Rattle.wire_values.specs.Wanted.{WordWanted, FieldIdWanted, RunwayNameWanted, AirfieldWanted};
@@ -9,6 +9,20 @@ use crate::field_value::{FieldValue, append_text};
 use crate::word::Word;
 use airfields::{FieldId, RunwayName};
 use grid_exact::NoMemory;
+
+/// The name of an airfield as text. Its bytes are ASCII, so that they need no test.
+fn field_text(name: &FieldId) -> &str
+    ensures { result.now ≡ name.now }
+{
+    unsafe { str::from_utf8_unchecked(name.as_bytes()) }
+}
+
+/// The name of a runway as text.
+fn runway_text(name: &RunwayName) -> &str
+    ensures { result.now ≡ name.now }
+{
+    unsafe { str::from_utf8_unchecked(name.as_bytes()) }
+}
 
 impl FieldValue for Word {
     ghost wanted = { WordWanted };
@@ -46,7 +60,7 @@ impl FieldValue for FieldId {
     }
 
     fn append(&self, text: &mut String) -> Result<(), NoMemory> {
-        append_text(text, self.as_str())
+        append_text(text, field_text(self))
     }
 
     ghost fits = { λ v h _. h };
@@ -70,7 +84,7 @@ impl FieldValue for RunwayName {
     }
 
     fn append(&self, text: &mut String) -> Result<(), NoMemory> {
-        append_text(text, self.as_str())
+        append_text(text, runway_text(self))
     }
 
     ghost fits = { λ v h _. h };
@@ -99,7 +113,7 @@ impl FieldValue for Option<FieldId> {
 
     fn append(&self, text: &mut String) -> Result<(), NoMemory> {
         match self {
-            Some(name) => append_text(text, name.as_str()),
+            Some(name) => append_text(text, field_text(name)),
             None => append_text(text, "-"),
         }
     }

@@ -1,5 +1,10 @@
-use Rattle.std.proofs.Common.{◌≡◌, ℤ, List, ap, sym, ◌∙◌, subst, FitsSigned, w64, to_z, of_z, to_z-of_z, arith}
+use Rattle.std.proofs.Common.{◌≡◌, ℤ, List, Option, Some, None, ap, sym, ◌∙◌, subst, FitsSigned, w64, to_z, of_z, to_z-of_z, arith}
 use Rattle.std.proofs.lemmas.Int.{ints}
+use Rattle.std.specs.Option.{MatchOption}
+use Rattle.grid_exact.specs.declared.area.Area.{Area}
+use Rattle.grid_exact.specs.declared.point.Point.{Point}
+use Rattle.height_rules.specs.NearAreas.{HasLimit, IsNearArea}
+use Rattle.airfield_findings.specs.Reaches.{IsOver}
 use Rattle.airfields.specs.declared.runway.Runway.{Runway}
 use Rattle.airfields.specs.declared.airfield.Airport.{Airport}
 use Rattle.airfield_findings.specs.PreparedAirports.{IsPreparedAirport}
@@ -10,6 +15,10 @@ made a z rs = record { id = a.id; category = a.category; arp = a.arp; elevation 
 
 same : (a : Airport) (z : ℤ) (rs : List Runway) → z ≡ a.elevation → rs ≡ a.runways → a ≡ made a z rs
 same a z rs p q = sym (ap (λ (y : ℤ). made a y rs) p ∙ ap (λ (ys : List Runway). made a a.elevation ys) q)
+
+limited : (a : Airport) (area : Option Area) → MatchOption area (¬ HasLimit a) (IsNearArea a) → (x : Point) → IsOver area x → HasLimit a
+limited a None h x k = absurd k
+limited a (Some box) h x k = h.has_limit
 
 pub invariant_of-result : goal.invariant_of-result
 invariant_of-result c =
@@ -24,6 +33,7 @@ invariant_of-result c =
       hull_is = c.in_ok-hull.ensures.dome;
       strips_are = c.in_ok-strips.ensures.strips ∙ c.as_slice.ensures.value;
       reach = record {
+        near_limit = limited a c.near_area-near.result c.near_area-near.ensures.exact;
         near_none = c.near_area-near.ensures.skips;
         notice_none = λ x top level n. c.notice_area-notice.ensures.skips x top n;
         surfaces_none = c.surfaces_area-surfaces.ensures a held c.in_ok-hull.ensures.dome (c.as_slice-2.ensures.value ∙ c.in_ok-strips.ensures.strips ∙ c.as_slice.ensures.value);

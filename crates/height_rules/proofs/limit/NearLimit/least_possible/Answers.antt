@@ -12,6 +12,5 @@ returns-clause-lowest c =
     let g = c.args.guess in
     let fg : FitsSigned w64 g = c.ranges.guess in
     let f1 : FitsSigned w64 (g -ℤ pos 1) = omega (arith, ints, c.requires.guess.low, c.requires.guess.high) in
-    let f2 : FitsSigned w64 (g -ℤ pos 2) = omega (arith, ints, c.requires.guess.low, c.requires.guess.high) in
-    let unreached : IsAtLimit d2 base (g -ℤ pos 2) → ⊥ = λ q. not_from_false c.is_reached.result c.is_reached.ensures.1 c.if-is_reached.false (simp to_z-of_z q) in
+    let unreached : IsAtLimit d2 base (g -ℤ pos 1) → ⊥ = λ q. not_from_false c.is_reached.result c.is_reached.ensures.1 c.if-is_reached.false (simp to_z-of_z q) in
     λ z h. simp to_z-of_z (none_under d2 base g z unreached h)
