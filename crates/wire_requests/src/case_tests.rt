@@ -36,28 +36,58 @@ const DAYS: [(&[u8], u32); 26] = [
 
 const FILINGS: [(&[u8], u32); 36] = [
     (b"file", 2),
-    (b"file,u v,1,2026-03-01,-,-,normal,-,0,0,0,0,object,0,-,-", 2),
+    (
+        b"file,u v,1,2026-03-01,-,-,normal,-,0,0,0,0,object,0,-,-",
+        2,
+    ),
     (b"file,u,-,2026-03-01,-,-,normal,-,0,0,0,0,object,0,-,-", 3),
     (b"file,u,1,-,-,-,normal,-,0,0,0,0,object,0,-,-", 4),
     (b"file,u,1,2026-02-30,-,-,normal,-,0,0,0,0,object,0,-,-", 4),
     (b"file,u,1,2026-03-01,,-,normal,-,0,0,0,0,object,0,-,-", 5),
-    (b"file,u,1,2026-03-01,2026-04-31,-,normal,-,0,0,0,0,object,0,-,-", 5),
+    (
+        b"file,u,1,2026-03-01,2026-04-31,-,normal,-,0,0,0,0,object,0,-,-",
+        5,
+    ),
     (b"file,u,1,2026-03-01,-,--,normal,-,0,0,0,0,object,0,-,-", 6),
-    (b"file,u,1,2026-03-01,-,3000-01-01,normal,-,0,0,0,0,object,0,-,-", 6),
+    (
+        b"file,u,1,2026-03-01,-,3000-01-01,normal,-,0,0,0,0,object,0,-,-",
+        6,
+    ),
     (b"file,u,1,2026-03-01,-,-,Normal,-,0,0,0,0,object,0,-,-", 7),
     (b"file,u,1,2026-03-01,-,-,-,-,0,0,0,0,object,0,-,-", 7),
     (b"file,u,1,2026-03-01,-,-,normal,no,0,0,0,0,object,0,-,-", 8),
     (b"file,u,1,2026-03-01,-,-,normal,,0,0,0,0,object,0,-,-", 8),
-    (b"file,u,1,2026-03-01,-,-,normal,-,20000001,0,0,0,object,0,-,-", 9),
-    (b"file,u,1,2026-03-01,-,-,normal,-,0,-20000001,0,0,object,0,-,-", 10),
-    (b"file,u,1,2026-03-01,-,-,normal,-,0,0,200001,0,object,0,-,-", 11),
-    (b"file,u,1,2026-03-01,-,-,normal,-,0,0,0,100001,object,0,-,-", 12),
+    (
+        b"file,u,1,2026-03-01,-,-,normal,-,20000001,0,0,0,object,0,-,-",
+        9,
+    ),
+    (
+        b"file,u,1,2026-03-01,-,-,normal,-,0,-20000001,0,0,object,0,-,-",
+        10,
+    ),
+    (
+        b"file,u,1,2026-03-01,-,-,normal,-,0,0,200001,0,object,0,-,-",
+        11,
+    ),
+    (
+        b"file,u,1,2026-03-01,-,-,normal,-,0,0,0,100001,object,0,-,-",
+        12,
+    ),
     (b"file,u,1,2026-03-01,-,-,normal,-,0,0,0,0,normal,0,-,-", 13),
     (b"file,u,1,2026-03-01,-,-,normal,-,0,0,0,0,road,1,-,-", 14),
-    (b"file,u,1,2026-03-01,-,-,normal,-,0,0,0,0,object,0,DS,-", 15),
-    (b"file,u,1,2026-03-01,-,-,normal,-,0,0,0,0,object,0,-,aaa", 16),
+    (
+        b"file,u,1,2026-03-01,-,-,normal,-,0,0,0,0,object,0,DS,-",
+        15,
+    ),
+    (
+        b"file,u,1,2026-03-01,-,-,normal,-,0,0,0,0,object,0,-,aaa",
+        16,
+    ),
     (b"file,u,1,2026-03-01,-,-,normal,-,0,0,0,0,object,0,-", 16),
-    (b"file,u,1,2026-03-01,-,-,normal,-,0,0,0,0,object,0,-,-,", 17),
+    (
+        b"file,u,1,2026-03-01,-,-,normal,-,0,0,0,0,object,0,-,-,",
+        17,
+    ),
     (b"filed,u,1,2026-03-01,-,-,normal,-,0,0,0,0,object,0,-,-", 1),
     (b"form", 2),
     (b"form,u-,1,7", 2),
@@ -154,7 +184,12 @@ fn malformed_lines_of_cases(rt: HostRuntime) {
     let tables: [&[(&[u8], u32)]; 4] = [&DAYS, &FILINGS, &DETERMINATIONS, &EXTENSIONS];
     for table in tables {
         for (line, field) in table {
-            assert_eq!(rt; bad_field(rt.alloc(), line), Some(*field), "at {}", line.escape_ascii());
+            assert_eq!(rt;
+                bad_field(rt.alloc(), line),
+                Some(*field),
+                "at {}",
+                line.escape_ascii()
+            );
         }
     }
 }
@@ -175,18 +210,73 @@ fn date(year: i16, month: i8, day: i8) -> Option<Date> {
 fn acts_on_cases(rt: HostRuntime) {
     let table: [(&[u8], Act); 10] = [
         (b"form,u,k,1", Act::Form(1)),
-        (b"determine,u,k,7,-", Act::Determine { case: 7, finding: None }),
-        (b"determine,u,k,7,none", Act::Determine { case: 7, finding: Some(Impact::NotSubstantial) }),
-        (b"determine,u,k,7,substantial", Act::Determine { case: 7, finding: Some(Impact::Substantial) }),
-        (b"petition,u,k,8,latecomment", Act::Petition { case: 8, party: Party::LateComment }),
-        (b"dispose,u,k,9,affirm", Act::Dispose { case: 9, affirm: true }),
-        (b"dispose,u,k,9,reverse", Act::Dispose { case: 9, affirm: false }),
-        (b"extend,u,k,10,18,unstarted,2026-01-15,no", Act::Extend { case: 10, months: 18, started: false, filed: date(2026, 1, 15), warranted: false }),
-        (b"fcc,u,k,11,granted,2027-01-01", Act::Fcc { case: 11, completion: date(2027, 1, 1) }),
+        (
+            b"determine,u,k,7,-",
+            Act::Determine {
+                case: 7,
+                finding: None,
+            },
+        ),
+        (
+            b"determine,u,k,7,none",
+            Act::Determine {
+                case: 7,
+                finding: Some(Impact::NotSubstantial),
+            },
+        ),
+        (
+            b"determine,u,k,7,substantial",
+            Act::Determine {
+                case: 7,
+                finding: Some(Impact::Substantial),
+            },
+        ),
+        (
+            b"petition,u,k,8,latecomment",
+            Act::Petition {
+                case: 8,
+                party: Party::LateComment,
+            },
+        ),
+        (
+            b"dispose,u,k,9,affirm",
+            Act::Dispose {
+                case: 9,
+                affirm: true,
+            },
+        ),
+        (
+            b"dispose,u,k,9,reverse",
+            Act::Dispose {
+                case: 9,
+                affirm: false,
+            },
+        ),
+        (
+            b"extend,u,k,10,18,unstarted,2026-01-15,no",
+            Act::Extend {
+                case: 10,
+                months: 18,
+                started: false,
+                filed: date(2026, 1, 15),
+                warranted: false,
+            },
+        ),
+        (
+            b"fcc,u,k,11,granted,2027-01-01",
+            Act::Fcc {
+                case: 11,
+                completion: date(2027, 1, 1),
+            },
+        ),
         (b"abandon,u,k,999999", Act::Abandon(999_999)),
     ];
     for (line, act) in table {
-        assert!(rt; act_of(rt.alloc(), line) == Some(act), "at {}", line.escape_ascii());
+        assert!(rt;
+            act_of(rt.alloc(), line) == Some(act),
+            "at {}",
+            line.escape_ascii()
+        );
     }
 }
 
@@ -207,7 +297,15 @@ fn a_notice(rt: HostRuntime) {
     assert!(rt; notice.fcc == date(2026, 4, 1));
     assert!(rt; notice.emergency);
     assert!(rt; !notice.statement);
-    assert_eq!(rt; [notice.filing.at.x, notice.filing.at.y, notice.filing.ground, notice.filing.height], [-5, 7, 100, 2001]);
+    assert_eq!(rt;
+        [
+            notice.filing.at.x,
+            notice.filing.at.y,
+            notice.filing.ground,
+            notice.filing.height
+        ],
+        [-5, 7, 100, 2001]
+    );
 }
 
 #[test]

@@ -66,7 +66,10 @@ fn spellings_of_cases(rt: HostRuntime) {
         (again::<Date>(alloc, b"2026-02-30"), None),
         (again::<Date>(alloc, b"1899-12-31"), None),
         (again::<Date>(alloc, b"-"), None),
-        (again::<Option<Date>>(alloc, b"2999-12-31"), Some(b",2999-12-31")),
+        (
+            again::<Option<Date>>(alloc, b"2999-12-31"),
+            Some(b",2999-12-31"),
+        ),
         (again::<Option<Date>>(alloc, b"-"), Some(b",-")),
         (again::<Option<Date>>(alloc, b""), None),
         (again::<Option<Date>>(alloc, b"3000-01-01"), None),
@@ -90,7 +93,10 @@ fn spellings_of_cases(rt: HostRuntime) {
         (again::<Warrant>(alloc, b"-"), None),
         (again::<Grant>(alloc, b"granted"), Some(b",granted")),
         (again::<Option<Impact>>(alloc, b"-"), Some(b",-")),
-        (again::<Option<Impact>>(alloc, b"substantial"), Some(b",substantial")),
+        (
+            again::<Option<Impact>>(alloc, b"substantial"),
+            Some(b",substantial"),
+        ),
         (again::<Party>(alloc, b"latecomment"), Some(b",latecomment")),
         (again::<Party>(alloc, b"none"), None),
     ];
