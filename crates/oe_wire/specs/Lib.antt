@@ -4,7 +4,8 @@ pub use Rattle.wire_values.specs.Wanted
 pub use Rattle.wire_values.specs.Commas
 pub use Rattle.wire_values.specs.Plains
 pub use Rattle.wire_requests.specs.Fields
-pub use Rattle.wire_requests.specs.Shape
+pub use Rattle.wire_cursor.specs.Shape
+pub use Rattle.wire_cursor.specs.Groups
 pub use Rattle.wire_requests.specs.Forms
 pub use Rattle.wire_requests.specs.Changes
 pub use Rattle.wire_requests.specs.Spellings

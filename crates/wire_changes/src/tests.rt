@@ -124,7 +124,10 @@ const ACTS: [(&[u8], &str); 26] = [
     (b"fcc,u,k,10000,refused,-", "fcc"),
     (b"abandon,u,k,1", "abandon"),
     (b"abandon,u,k,99999", "abandon"),
-    (b"abandon,abcdefgh.90_ABCD,abcdefgh.90_ABCD,999999", "abandon"),
+    (
+        b"abandon,abcdefgh.90_ABCD,abcdefgh.90_ABCD,999999",
+        "abandon",
+    ),
 ];
 
 #[test]

@@ -115,13 +115,22 @@ fn append_amendment(text: &mut String, amendment: &Amendment) -> Result<(), NoMe
     }
 }
 
-// Appends a structure.
-fn append_structure(text: &mut String, filing: &Filing) -> Result<(), NoMemory>
-    ensures { OnOk result (string_bytes text.new ≡ string_bytes text.old ++ with_commas (site_fields filing.now)) }
+// Appends the place and the height of a structure.
+fn append_place(text: &mut String, filing: &Filing) -> Result<(), NoMemory>
+    ensures { OnOk result (string_bytes text.new ≡ string_bytes text.old ++ with_commas (
+        signed_decimal filing.now.at.x ∷ signed_decimal filing.now.at.y ∷ signed_decimal filing.now.terrain ∷ signed_decimal filing.now.height ∷ [])) }
 {
     append_point(text, &filing.at)?;
     append_number(text, &filing.ground)?;
     append_number(text, &filing.height)?;
+    Ok(())
+}
+
+// Appends a structure.
+fn append_structure(text: &mut String, filing: &Filing) -> Result<(), NoMemory>
+    ensures { OnOk result (string_bytes text.new ≡ string_bytes text.old ++ with_commas (site_fields filing.now)) }
+{
+    append_place(text, filing)?;
     append_next(text, &filing.kind)?;
     append_number(text, &filing.mobile)?;
     append_next(text, &filing.flags)?;

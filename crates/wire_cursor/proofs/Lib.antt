@@ -1,3 +1,4 @@
 pub mod ShapeFacts
 pub mod ShapeLaws
 pub mod ExitFacts
+pub mod GroupFacts

@@ -39,6 +39,11 @@ fn fields_are_taken(rt: HostRuntime) {
         (b"-5,7,9,", Err(3)),
     ];
     for (line, want) in table {
-        assert_eq!(rt; taken(rt.alloc(), line), Some(want), "at {}", line.escape_ascii());
+        assert_eq!(rt;
+            taken(rt.alloc(), line),
+            Some(want),
+            "at {}",
+            line.escape_ascii()
+        );
     }
 }

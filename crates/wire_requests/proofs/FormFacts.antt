@@ -7,21 +7,34 @@ use Rattle.wire_requests.specs.Forms.{form_word, fields_of_form, shape_of, Begin
 use Rattle.wire_requests.specs.Readings.{IsReading}
 use Rattle.wire_requests.specs.Requests.{spelling}
 use Rattle.wire_cursor.specs.declared.cursor.BadField.{BadField}
+use Rattle.wire_requests.specs.declared.form.ActForm.TheVariants as act_forms
 use Rattle.wire_requests.specs.declared.form.Form.{Form}
 use Rattle.wire_requests.specs.declared.form.Form.TheVariants as forms
 use Rattle.wire_requests.specs.declared.request.Request.{Request}
 
 -- a word that is that of no form
 pub no_form : (word : List ℕ) → word ≢ codes "screen" → word ≢ codes "airport" → word ≢ codes "runway" → word ≢ codes "droprunway" → word ≢ codes "heliport"
-    → word ≢ codes "drop" → word ≢ codes "verdict" → word ≢ codes "airfield" → (form : Form) → word ≢ form_word form
-no_form word s a r d h o v f (forms.Plain plains.Airport) = a
-no_form word s a r d h o v f (forms.Plain plains.Runway) = r
-no_form word s a r d h o v f (forms.Plain plains.DropRunway) = d
-no_form word s a r d h o v f (forms.Plain plains.Heliport) = h
-no_form word s a r d h o v f (forms.Plain plains.Drop) = o
-no_form word s a r d h o v f forms.Screen = s
-no_form word s a r d h o v f forms.Verdict = v
-no_form word s a r d h o v f forms.Airfield = f
+    → word ≢ codes "drop" → word ≢ codes "day" → word ≢ codes "closed" → word ≢ codes "file" → word ≢ codes "form" → word ≢ codes "determine" → word ≢ codes "petition"
+    → word ≢ codes "dispose" → word ≢ codes "extend" → word ≢ codes "fcc" → word ≢ codes "abandon" → word ≢ codes "verdict" → word ≢ codes "case" → word ≢ codes "airfield" → (form : Form) → word ≢ form_word form
+no_form word n0 n1 n2 n3 n4 n5 n6 n7 n8 n9 n10 n11 n12 n13 n14 n15 n16 n17 n18 forms.Screen = n0
+no_form word n0 n1 n2 n3 n4 n5 n6 n7 n8 n9 n10 n11 n12 n13 n14 n15 n16 n17 n18 (forms.Act (act_forms.Plain plains.Airport)) = n1
+no_form word n0 n1 n2 n3 n4 n5 n6 n7 n8 n9 n10 n11 n12 n13 n14 n15 n16 n17 n18 (forms.Act (act_forms.Plain plains.Runway)) = n2
+no_form word n0 n1 n2 n3 n4 n5 n6 n7 n8 n9 n10 n11 n12 n13 n14 n15 n16 n17 n18 (forms.Act (act_forms.Plain plains.DropRunway)) = n3
+no_form word n0 n1 n2 n3 n4 n5 n6 n7 n8 n9 n10 n11 n12 n13 n14 n15 n16 n17 n18 (forms.Act (act_forms.Plain plains.Heliport)) = n4
+no_form word n0 n1 n2 n3 n4 n5 n6 n7 n8 n9 n10 n11 n12 n13 n14 n15 n16 n17 n18 (forms.Act (act_forms.Plain plains.Drop)) = n5
+no_form word n0 n1 n2 n3 n4 n5 n6 n7 n8 n9 n10 n11 n12 n13 n14 n15 n16 n17 n18 (forms.Act (act_forms.Plain plains.Day)) = n6
+no_form word n0 n1 n2 n3 n4 n5 n6 n7 n8 n9 n10 n11 n12 n13 n14 n15 n16 n17 n18 (forms.Act (act_forms.Plain plains.Closed)) = n7
+no_form word n0 n1 n2 n3 n4 n5 n6 n7 n8 n9 n10 n11 n12 n13 n14 n15 n16 n17 n18 (forms.Act act_forms.File) = n8
+no_form word n0 n1 n2 n3 n4 n5 n6 n7 n8 n9 n10 n11 n12 n13 n14 n15 n16 n17 n18 (forms.Act act_forms.Form) = n9
+no_form word n0 n1 n2 n3 n4 n5 n6 n7 n8 n9 n10 n11 n12 n13 n14 n15 n16 n17 n18 (forms.Act act_forms.Determine) = n10
+no_form word n0 n1 n2 n3 n4 n5 n6 n7 n8 n9 n10 n11 n12 n13 n14 n15 n16 n17 n18 (forms.Act act_forms.Petition) = n11
+no_form word n0 n1 n2 n3 n4 n5 n6 n7 n8 n9 n10 n11 n12 n13 n14 n15 n16 n17 n18 (forms.Act act_forms.Dispose) = n12
+no_form word n0 n1 n2 n3 n4 n5 n6 n7 n8 n9 n10 n11 n12 n13 n14 n15 n16 n17 n18 (forms.Act act_forms.Extend) = n13
+no_form word n0 n1 n2 n3 n4 n5 n6 n7 n8 n9 n10 n11 n12 n13 n14 n15 n16 n17 n18 (forms.Act act_forms.Fcc) = n14
+no_form word n0 n1 n2 n3 n4 n5 n6 n7 n8 n9 n10 n11 n12 n13 n14 n15 n16 n17 n18 (forms.Act act_forms.Abandon) = n15
+no_form word n0 n1 n2 n3 n4 n5 n6 n7 n8 n9 n10 n11 n12 n13 n14 n15 n16 n17 n18 forms.Verdict = n16
+no_form word n0 n1 n2 n3 n4 n5 n6 n7 n8 n9 n10 n11 n12 n13 n14 n15 n16 n17 n18 forms.Case = n17
+no_form word n0 n1 n2 n3 n4 n5 n6 n7 n8 n9 n10 n11 n12 n13 n14 n15 n16 n17 n18 forms.Airfield = n18
 
 -- the reader took the first field, the word of this form
 abbrev TookForm : Form → Place → Place → Type 0
@@ -55,17 +68,28 @@ bad_early (w ∷ ws) before [] number n h = omega (arith, h)
 bad_early (w ∷ ws) before (f ∷ fs) number n (inl h) = omega (arith, bad_early ws f fs (number + 1) n h.1)
 bad_early (w ∷ ws) before (f ∷ fs) number n (inr h) = omega (arith, h.1)
 
-pub short_shape : (form : Form) → length (shape_of form) ≤ 15
-short_shape (forms.Plain plains.Airport) = omega arith
-short_shape (forms.Plain plains.Runway) = omega arith
-short_shape (forms.Plain plains.DropRunway) = omega arith
-short_shape (forms.Plain plains.Heliport) = omega arith
-short_shape (forms.Plain plains.Drop) = omega arith
+pub short_shape : (form : Form) → length (shape_of form) ≤ 16
 short_shape forms.Screen = omega arith
+short_shape (forms.Act (act_forms.Plain plains.Airport)) = omega arith
+short_shape (forms.Act (act_forms.Plain plains.Runway)) = omega arith
+short_shape (forms.Act (act_forms.Plain plains.DropRunway)) = omega arith
+short_shape (forms.Act (act_forms.Plain plains.Heliport)) = omega arith
+short_shape (forms.Act (act_forms.Plain plains.Drop)) = omega arith
+short_shape (forms.Act (act_forms.Plain plains.Day)) = omega arith
+short_shape (forms.Act (act_forms.Plain plains.Closed)) = omega arith
+short_shape (forms.Act act_forms.File) = omega arith
+short_shape (forms.Act act_forms.Form) = omega arith
+short_shape (forms.Act act_forms.Determine) = omega arith
+short_shape (forms.Act act_forms.Petition) = omega arith
+short_shape (forms.Act act_forms.Dispose) = omega arith
+short_shape (forms.Act act_forms.Extend) = omega arith
+short_shape (forms.Act act_forms.Fcc) = omega arith
+short_shape (forms.Act act_forms.Abandon) = omega arith
 short_shape forms.Verdict = omega arith
+short_shape forms.Case = omega arith
 short_shape forms.Airfield = omega arith
 
 -- so the number of a wrong field is small
-pub wrong_early : (fields : List (List ℕ)) (n : ℕ) → FirstWrong fields n → n ≤ 16
+pub wrong_early : (fields : List (List ℕ)) (n : ℕ) → FirstWrong fields n → n ≤ 17
 wrong_early fields n (NoForm h e) = omega arith
 wrong_early fields n (InForm form f b) = omega (arith, bad_early (shape_of form) [] fields 1 n b, short_shape form)

@@ -1,43 +1,40 @@
 -- A request is known by its spelling.
-use Rattle.std.proofs.Common.{arith, ℕ, ◌≡◌, ◌≤ℤ◌, ℤ, pos, List, [], Option, Bool, true, false, get_or, drop, refl, ap, sym, subst, ◌∙◌, if◌then◌else◌}
-use Rattle.std.proofs.lemmas.Int.{ints}
-use Rattle.std.specs.Fmt.{signed_decimal}
+use Rattle.std.proofs.Common.{arith, ℕ, ◌≡◌, ℤ, List, [], ◌∷◌, Option, Bool, true, false, drop, refl, ap, sym, ◌∙◌, if◌then◌else◌}
+use Rattle.std.specs.Fmt.{decimal}
 use Rattle.std.specs.Str.{bytes_eq}
-use lib.Dec.{T}
-use lib.Signed.{le_z}
-use Rattle.whole_number.specs.Whole.{HasNineDigits}
-use Rattle.grid_exact.specs.Grid.{OnGrid}
 use Rattle.grid_exact.specs.declared.point.Point.{Point}
-use Rattle.runway_classes.specs.declared.ApproachKind.{ApproachKind}
-use Rattle.airfields.specs.Sites.{Site, IsSite, greatest_mobile}
+use Rattle.airfields.specs.Sites.{Site}
 use Rattle.airfields.specs.declared.category.Category.{Category}
-use Rattle.airfields.specs.declared.structure.StructureKind.{StructureKind}
-use Rattle.airfields.specs.declared.structure.Flags.{Flags}
 use Rattle.airfields.specs.declared.airfield.Heliport.{Heliport}
 use Rattle.airfields.specs.declared.runway.RunwayEnd.{RunwayEnd}
 use Rattle.airfields.specs.declared.runway.Runway.{Runway}
 use Rattle.airport_register.specs.declared.amendment.Amendment.{Amendment}
 use Rattle.airport_register.specs.declared.amendment.Amendment.TheVariants.{PutAirport, PutRunway, DropRunway, PutHeliport, Drop}
-use Rattle.wire_values.specs.Words.{approach_word}
+use Rattle.jiff_core.specs.declared.civil.date.Date.{Date}
+use Rattle.determination_dates.proofs.Texts.{one_date}
+use Rattle.case_values.specs.declared.act.Act.{Act}
+use Rattle.case_values.specs.declared.act.Act.TheVariants as acts
+use Rattle.case_values.specs.declared.submission.Submission.{Submission}
+use Rattle.wire_values.specs.Words.{weight_word, pavement_word, urgency_word, statement_word, disposal_word, progress_word, warrant_word}
 use Rattle.wire_values.specs.Plains.{plain_word}
 use Rattle.wire_values.specs.declared.plain.Plain.{Plain}
 use Rattle.wire_values.specs.declared.plain.Plain.TheVariants as plains
-use Rattle.wire_values.proofs.LetterFacts.{one_flags}
-use Rattle.wire_values.proofs.LimitFacts.{between_short, mobile_short}
-use Rattle.wire_values.proofs.Named.{one_category, one_approach, one_weight, one_pavement, one_kind, one_number, one_name}
+use Rattle.wire_values.proofs.DateNames.{one_optional}
+use Rattle.wire_values.proofs.Named.{one_category, one_choice, one_number, one_count, one_impact, one_party}
+use Rattle.wire_cursor.proofs.GroupFacts.{at, one_point, one_end, one_site}
 use Rattle.wire_requests.specs.Changes.{Asked}
-use Rattle.wire_requests.specs.Forms.{form_word, BeginsWith}
-use Rattle.wire_requests.specs.Spellings.{site_fields, amendment_fields, plain_of, act_form, act_fields, change_spelling, query_form, query_spelling}
-use Rattle.wire_requests.specs.Limits.{IsValidSite, IsValidAmendment, IsValidAct, IsValidQuery}
+use Rattle.wire_requests.specs.Forms.{act_word, form_word, BeginsWith}
+use Rattle.wire_requests.specs.Spellings.{amendment_fields, submission_fields, plain_of, act_form, act_fields, change_spelling, query_form, query_spelling}
+use Rattle.wire_requests.specs.Limits.{IsCase, IsValidAmendment, IsValidSubmission, IsValidAct, IsValidQuery}
 use Rattle.wire_requests.specs.Requests.{spelling, form_of, IsGood}
+use Rattle.wire_requests.specs.declared.form.ActForm.{ActForm}
+use Rattle.wire_requests.specs.declared.form.ActForm.TheVariants as act_forms
 use Rattle.wire_requests.specs.declared.form.Form.{Form}
 use Rattle.wire_requests.specs.declared.form.Form.TheVariants as forms
 use Rattle.wire_requests.specs.declared.request.Request.{Request}
 use Rattle.wire_requests.specs.declared.request.Request.TheVariants as requests
 use Rattle.wire_requests.specs.declared.request.Query.{Query}
 use Rattle.wire_requests.specs.declared.request.Query.TheVariants as queries
-use Rattle.wire_requests.specs.declared.request.Act.{Act}
-use Rattle.wire_requests.specs.declared.request.Act.TheVariants as acts
 
 -- ---- a form is known by its word
 
@@ -45,22 +42,46 @@ plain_named : List ℕ → Plain
 plain_named word = if bytes_eq word (plain_word plains.Airport) then plains.Airport
     else if bytes_eq word (plain_word plains.Runway) then plains.Runway
     else if bytes_eq word (plain_word plains.DropRunway) then plains.DropRunway
-    else if bytes_eq word (plain_word plains.Heliport) then plains.Heliport else plains.Drop
+    else if bytes_eq word (plain_word plains.Heliport) then plains.Heliport
+    else if bytes_eq word (plain_word plains.Drop) then plains.Drop
+    else if bytes_eq word (plain_word plains.Day) then plains.Day else plains.Closed
+
+act_named : List ℕ → ActForm
+act_named word = if bytes_eq word (act_word act_forms.File) then act_forms.File
+    else if bytes_eq word (act_word act_forms.Form) then act_forms.Form
+    else if bytes_eq word (act_word act_forms.Determine) then act_forms.Determine
+    else if bytes_eq word (act_word act_forms.Petition) then act_forms.Petition
+    else if bytes_eq word (act_word act_forms.Dispose) then act_forms.Dispose
+    else if bytes_eq word (act_word act_forms.Extend) then act_forms.Extend
+    else if bytes_eq word (act_word act_forms.Fcc) then act_forms.Fcc
+    else if bytes_eq word (act_word act_forms.Abandon) then act_forms.Abandon else act_forms.Plain (plain_named word)
 
 pub form_named : List ℕ → Form
 form_named word = if bytes_eq word (form_word forms.Screen) then forms.Screen
     else if bytes_eq word (form_word forms.Verdict) then forms.Verdict
-    else if bytes_eq word (form_word forms.Airfield) then forms.Airfield else forms.Plain (plain_named word)
+    else if bytes_eq word (form_word forms.Case) then forms.Case
+    else if bytes_eq word (form_word forms.Airfield) then forms.Airfield else forms.Act (act_named word)
 
 pub form_again : (form : Form) → form_named (form_word form) ≡ form
-unfolding form_named plain_named
-form_again (forms.Plain plains.Airport) = refl
-form_again (forms.Plain plains.Runway) = refl
-form_again (forms.Plain plains.DropRunway) = refl
-form_again (forms.Plain plains.Heliport) = refl
-form_again (forms.Plain plains.Drop) = refl
+unfolding form_named act_named plain_named
+form_again (forms.Act (act_forms.Plain plains.Airport)) = refl
+form_again (forms.Act (act_forms.Plain plains.Runway)) = refl
+form_again (forms.Act (act_forms.Plain plains.DropRunway)) = refl
+form_again (forms.Act (act_forms.Plain plains.Heliport)) = refl
+form_again (forms.Act (act_forms.Plain plains.Drop)) = refl
+form_again (forms.Act (act_forms.Plain plains.Day)) = refl
+form_again (forms.Act (act_forms.Plain plains.Closed)) = refl
+form_again (forms.Act act_forms.File) = refl
+form_again (forms.Act act_forms.Form) = refl
+form_again (forms.Act act_forms.Determine) = refl
+form_again (forms.Act act_forms.Petition) = refl
+form_again (forms.Act act_forms.Dispose) = refl
+form_again (forms.Act act_forms.Extend) = refl
+form_again (forms.Act act_forms.Fcc) = refl
+form_again (forms.Act act_forms.Abandon) = refl
 form_again forms.Screen = refl
 form_again forms.Verdict = refl
+form_again forms.Case = refl
 form_again forms.Airfield = refl
 
 pub one_form : (f g : Form) → form_word f ≡ form_word g → f ≡ g
@@ -72,81 +93,6 @@ begins (requests.Query query) = refl
 begins (requests.Change change) = refl
 
 -- ---- values of one spelling are one
-
--- a field of two equal lists
-at : (i : ℕ) {xs ys : List (List ℕ)} → xs ≡ ys → get_or xs i [] ≡ get_or ys i []
-at i e = ap (λ l. get_or l i []) e
-
--- two proofs of one limit are one
-truth_prop : (b : Bool) (p q : T b) → p ≡ q
-truth_prop true p q = refl
-truth_prop false p q = absurd p
-
-le_prop : (a b : ℤ) (p q : a ≤ℤ b) → p ≡ q
-le_prop a b p q = ap (λ (t : T (le_z a b)). let r : a ≤ℤ b = record { le = t } in r) (truth_prop (le_z a b) p.le q.le)
-
-grid_prop : (x y : ℤ) (p q : OnGrid x y) → p ≡ q
-grid_prop x y p q = λ i. record {
-  west = le_prop _ _ p.west q.west i;
-  east = le_prop _ _ p.east q.east i;
-  south = le_prop _ _ p.south q.south i;
-  north = le_prop _ _ p.north q.north i;
-}
-
-made_point : (x y : ℤ) → OnGrid x y → Point
-made_point x y g = record { x = x; y = y; on_grid = g }
-
-one_place : (x y u v : ℤ) (g : OnGrid x y) (h : OnGrid u v) → x ≡ u → y ≡ v → made_point x y g ≡ made_point u v h
-one_place x y u v g h p q =
-    subst (λ u. (h : OnGrid u v) → made_point x y g ≡ made_point u v h) p
-    (subst (λ v. (h : OnGrid x v) → made_point x y g ≡ made_point x v h) q (λ h. ap (made_point x y) (grid_prop x y g h))) h
-
-one_point : (p q : Point) → signed_decimal p.x ≡ signed_decimal q.x → signed_decimal p.y ≡ signed_decimal q.y → p ≡ q
-unfolding made_point
-one_point p q e f =
-    let px : HasNineDigits p.x = (let g = p.on_grid in omega (arith, ints)) in
-    let qx : HasNineDigits q.x = (let g = q.on_grid in omega (arith, ints)) in
-    let py : HasNineDigits p.y = (let g = p.on_grid in omega (arith, ints)) in
-    let qy : HasNineDigits q.y = (let g = q.on_grid in omega (arith, ints)) in
-    one_place p.x p.y q.x q.y p.on_grid q.on_grid (one_number p.x q.x px qx e) (one_number p.y q.y py qy f)
-
-made_site : Point → (terrain height : ℤ) → StructureKind → ℤ → Flags → Option (List ℕ) → Site
-made_site at terrain height kind mobile flags on = record { at = at; terrain = terrain; height = height; kind = kind; mobile = mobile; flags = flags; on = on }
-
-same_site : (a b : Site) → a.at ≡ b.at → a.terrain ≡ b.terrain → a.height ≡ b.height → a.kind ≡ b.kind → a.mobile ≡ b.mobile → a.flags ≡ b.flags → a.on ≡ b.on
-    → made_site a.at a.terrain a.height a.kind a.mobile a.flags a.on ≡ made_site b.at b.terrain b.height b.kind b.mobile b.flags b.on
-same_site a b p t h k m f o = cc
-
--- the numbers of a structure have nine digits
-record HasShortNumbers (s : Site) : Type 0 where
-  terrain : HasNineDigits s.terrain
-  height : HasNineDigits s.height
-  mobile : HasNineDigits s.mobile
-
-short_numbers : (s : Site) → IsSite s → HasShortNumbers s
-short_numbers s h = record {
-  terrain = omega (arith, ints, h.terrain_least, h.terrain_most);
-  height = omega (arith, ints, h.height_least, h.height_most);
-  mobile = between_short (pos 0) (greatest_mobile s.kind) s.mobile (omega (arith, ints)) (mobile_short s.kind) (h.mobile_least, h.mobile_most);
-}
-
-one_site : (a b : Site) → IsValidSite a → IsValidSite b → site_fields a ≡ site_fields b → a ≡ b
-unfolding made_site
-one_site a b h k e =
-    let p = short_numbers a h.0 in
-    let q = short_numbers b k.0 in
-    same_site a b (one_point a.at b.at (at 0 e) (at 1 e)) (one_number a.terrain b.terrain p.terrain q.terrain (at 2 e))
-    (one_number a.height b.height p.height q.height (at 3 e)) (one_kind a.kind b.kind (at 4 e)) (one_number a.mobile b.mobile p.mobile q.mobile (at 5 e))
-    (one_flags a.flags b.flags (at 6 e)) (one_name a.on b.on h.1 k.1 (at 7 e))
-
-made_end : Point → ℤ → ApproachKind → RunwayEnd
-made_end at z kind = record { at = at; z = z; kind = kind }
-
-one_end : (a b : RunwayEnd) → HasNineDigits a.z → HasNineDigits b.z → signed_decimal a.at.x ≡ signed_decimal b.at.x → signed_decimal a.at.y ≡ signed_decimal b.at.y
-    → signed_decimal a.z ≡ signed_decimal b.z → approach_word a.kind ≡ approach_word b.kind → a ≡ b
-unfolding made_end
-one_end a b h k x y z w =
-    ap (λ p. made_end p a.z a.kind) (one_point a.at b.at x y) ∙ ap (λ n. made_end b.at n a.kind) (one_number a.z b.z h k z) ∙ ap (made_end b.at b.z) (one_approach a.kind b.kind w)
 
 made_runway : List ℕ → Bool → Bool → RunwayEnd → RunwayEnd → Runway
 made_runway name utility hard end1 end2 = record { name = name; utility = utility; hard = hard; end1 = end1; end2 = end2 }
@@ -172,7 +118,7 @@ one_amendment (PutAirport id c p z) (PutAirport id' c' p' z') h k f e =
     cc
 one_amendment (PutRunway id r) (PutRunway id' s) h k f e =
     let i : id ≡ id' = at 0 e in
-    let rs : r ≡ s = same_runway r s (at 1 e) (one_weight r.utility s.utility (at 2 e)) (one_pavement r.hard s.hard (at 3 e))
+    let rs : r ≡ s = same_runway r s (at 1 e) (one_choice weight_word refl refl r.utility s.utility (at 2 e)) (one_choice pavement_word refl refl r.hard s.hard (at 3 e))
     (one_end r.end1 s.end1 h.0 k.0 (at 4 e) (at 5 e) (at 6 e) (at 7 e)) (one_end r.end2 s.end2 h.1 k.1 (at 8 e) (at 9 e) (at 10 e) (at 11 e)) in
     cc
 one_amendment (DropRunway id n) (DropRunway id' m) h k f e =
@@ -186,10 +132,80 @@ one_amendment (PutHeliport p) (PutHeliport q) h k f e =
 one_amendment (Drop id) (Drop id') h k f e = let i : id ≡ id' = at 0 e in cc
 one_amendment _ _ h k f e = absurd (cc)
 
+made_submission : Date → Option Date → Option Date → Bool → Bool → Site → Submission
+made_submission start permit fcc emergency statement filing =
+    record { start = start; permit = permit; fcc = fcc; emergency = emergency; statement = statement; filing = filing }
+
+same_submission : (a b : Submission) → a.start ≡ b.start → a.permit ≡ b.permit → a.fcc ≡ b.fcc → a.emergency ≡ b.emergency → a.statement ≡ b.statement → a.filing ≡ b.filing
+    → made_submission a.start a.permit a.fcc a.emergency a.statement a.filing ≡ made_submission b.start b.permit b.fcc b.emergency b.statement b.filing
+same_submission a b s p f e t g = cc
+
+one_submission : (a b : Submission) → IsValidSubmission a → IsValidSubmission b → submission_fields a ≡ submission_fields b → a ≡ b
+unfolding made_submission
+one_submission a b h k e =
+    same_submission a b (one_date a.start b.start h.start k.start (at 0 e)) (one_optional a.permit b.permit h.permit k.permit (at 1 e))
+    (one_optional a.fcc b.fcc h.fcc k.fcc (at 2 e)) (one_choice urgency_word refl refl a.emergency b.emergency (at 3 e))
+    (one_choice statement_word refl refl a.statement b.statement (at 4 e)) (one_site a.filing b.filing h.filing k.filing (ap (drop 5) e))
+
+one_case : (m n : ℕ) {fields more : List (List ℕ)} → IsCase m → IsCase n → decimal m ∷ fields ≡ decimal n ∷ more → m ≡ n
+one_case m n h k e = one_count m n (omega (arith, h)) (omega (arith, k)) (at 0 e)
+
+-- amendments change the register, and days do not
+in_register : Plain → Bool
+in_register plains.Day = false
+in_register plains.Closed = false
+in_register _ = true
+
+amends : (a : Amendment) → in_register (plain_of a) ≡ true
+unfolding in_register
+amends (PutAirport id c p z) = refl
+amends (PutRunway id r) = refl
+amends (DropRunway id n) = refl
+amends (PutHeliport h) = refl
+amends (Drop id) = refl
+
+plain_same : {p q : Plain} → act_forms.Plain p ≡ act_forms.Plain q → p ≡ q
+plain_same e = cc
+
+no_day : (a : Amendment) (p : Plain) → in_register p ≡ false → plain_of a ≡ p → ⊥
+no_day a p out e = let same : true ≡ false = sym (amends a) ∙ ap in_register e ∙ out in cc
+
 one_act : (a b : Act) → IsValidAct a → IsValidAct b → act_form a ≡ act_form b → act_fields a ≡ act_fields b → a ≡ b
-one_act (acts.Amend a) (acts.Amend b) h k f e =
-    let plain : plain_of a ≡ plain_of b = cc in
-    ap (λ x. acts.Amend x) (one_amendment a b h k plain e)
+unfolding in_register
+one_act (acts.Amend a) (acts.Amend b) h k f e = ap (λ x. acts.Amend x) (one_amendment a b h k (plain_same f) e)
+one_act (acts.Amend a) (acts.Day b) h k f e = absurd (no_day a plains.Day refl (plain_same f))
+one_act (acts.Amend a) (acts.Closed b) h k f e = absurd (no_day a plains.Closed refl (plain_same f))
+one_act (acts.Day a) (acts.Amend b) h k f e = absurd (no_day b plains.Day refl (sym (plain_same f)))
+one_act (acts.Closed a) (acts.Amend b) h k f e = absurd (no_day b plains.Closed refl (sym (plain_same f)))
+one_act (acts.Day a) (acts.Day b) h k f e = ap (λ x. acts.Day x) (one_date a b h k (at 0 e))
+one_act (acts.Closed a) (acts.Closed b) h k f e = ap (λ x. acts.Closed x) (one_date a b h k (at 0 e))
+one_act (acts.File a) (acts.File b) h k f e = ap (λ x. acts.File x) (one_submission a b h k e)
+one_act (acts.Form a) (acts.Form b) h k f e = ap (λ x. acts.Form x) (one_case a b h k e)
+one_act (acts.Determine a i) (acts.Determine b j) h k f e =
+    let ns = one_case a b h k e in
+    let is = one_impact i j (at 1 e) in
+    cc
+one_act (acts.Petition a p) (acts.Petition b q) h k f e =
+    let ns = one_case a b h k e in
+    let ps = one_party p q (at 1 e) in
+    cc
+one_act (acts.Dispose a p) (acts.Dispose b q) h k f e =
+    let ns = one_case a b h k e in
+    let ps = one_choice disposal_word refl refl p q (at 1 e) in
+    cc
+one_act (acts.Extend a m s d w) (acts.Extend b n t c v) h k f e =
+    let ns = one_case a b h.0 k.0 e in
+    let ms = one_count m n (omega (arith, h.2)) (omega (arith, k.2)) (at 1 e) in
+    let ss = one_choice progress_word refl refl s t (at 2 e) in
+    let ds = one_optional d c h.3 k.3 (at 3 e) in
+    let ws = one_choice warrant_word refl refl w v (at 4 e) in
+    cc
+one_act (acts.Fcc a d) (acts.Fcc b c) h k f e =
+    let ns = one_case a b h.0 k.0 e in
+    let ds = one_optional d c h.1 k.1 (at 2 e) in
+    cc
+one_act (acts.Abandon a) (acts.Abandon b) h k f e = ap (λ x. acts.Abandon x) (one_case a b h k e)
+one_act _ _ h k f e = absurd (cc)
 
 made_change : List ℕ → List ℕ → Act → Asked
 made_change caller key act = record { caller = caller; key = key; act = act }
@@ -203,43 +219,33 @@ one_change c d h k f e =
 one_query : (a b : Query) → IsValidQuery a → IsValidQuery b → query_form a ≡ query_form b → query_spelling a ≡ query_spelling b → a ≡ b
 one_query (queries.Screen a) (queries.Screen b) h k f e = ap (λ x. queries.Screen x) (one_site a b h k (ap (drop 1) e))
 one_query (queries.Verdict a) (queries.Verdict b) h k f e = ap (λ x. queries.Verdict x) (one_site a b h k (ap (drop 1) e))
+one_query (queries.Case a) (queries.Case b) h k f e = ap (λ x. queries.Case x) (one_count a b (omega (arith, h)) (omega (arith, k)) (at 1 e))
 one_query (queries.Airfield a) (queries.Airfield b) h k f e = ap (λ x. queries.Airfield x) (at 1 e)
 one_query _ _ h k f e = absurd (cc)
 
 -- ---- requests
 
--- whether the requests of a form change what the desk holds
-changes : Form → Bool
-changes (forms.Plain plain) = true
-changes forms.Screen = false
-changes forms.Verdict = false
-changes forms.Airfield = false
-
-act_changes : (a : Act) → changes (act_form a) ≡ true
-unfolding changes
-act_changes (acts.Amend a) = refl
-
-query_keeps : (q : Query) → changes (query_form q) ≡ false
-unfolding changes
-query_keeps (queries.Screen s) = refl
-query_keeps (queries.Verdict s) = refl
-query_keeps (queries.Airfield id) = refl
-
 -- a changing request is no query
-no_query : (q : Query) (a : Act) → query_form q ≡ act_form a → ⊥
-no_query q a e = let same : false ≡ true = sym (query_keeps q) ∙ ap changes e ∙ act_changes a in cc
+no_query : (q : Query) (form : ActForm) → query_form q ≡ forms.Act form → ⊥
+no_query (queries.Screen s) form e = cc
+no_query (queries.Verdict s) form e = cc
+no_query (queries.Case n) form e = cc
+no_query (queries.Airfield id) form e = cc
 
 same_form : (r s : Request) → spelling r ≡ spelling s → form_of r ≡ form_of s
 same_form (requests.Query a) (requests.Query b) e = one_form (query_form a) (query_form b) (at 0 e)
-same_form (requests.Query a) (requests.Change d) e = one_form (query_form a) (act_form d.act) (at 0 e)
-same_form (requests.Change c) (requests.Query b) e = one_form (act_form c.act) (query_form b) (at 0 e)
-same_form (requests.Change c) (requests.Change d) e = one_form (act_form c.act) (act_form d.act) (at 0 e)
+same_form (requests.Query a) (requests.Change d) e = one_form (query_form a) (forms.Act (act_form d.act)) (at 0 e)
+same_form (requests.Change c) (requests.Query b) e = one_form (forms.Act (act_form c.act)) (query_form b) (at 0 e)
+same_form (requests.Change c) (requests.Change d) e = one_form (forms.Act (act_form c.act)) (forms.Act (act_form d.act)) (at 0 e)
+
+act_same : {f g : ActForm} → forms.Act f ≡ forms.Act g → f ≡ g
+act_same e = cc
 
 -- requests of one spelling are one
 pub one_request : (r s : Request) → IsGood r → IsGood s → spelling r ≡ spelling s → r ≡ s
 one_request (requests.Query a) (requests.Query b) g h e =
     ap (λ x. requests.Query x) (one_query a b g.valid h.valid (same_form (requests.Query a) (requests.Query b) e) e)
-one_request (requests.Query a) (requests.Change d) g h e = absurd (no_query a d.act (same_form (requests.Query a) (requests.Change d) e))
-one_request (requests.Change c) (requests.Query b) g h e = absurd (no_query b c.act (sym (same_form (requests.Change c) (requests.Query b) e)))
+one_request (requests.Query a) (requests.Change d) g h e = absurd (no_query a (act_form d.act) (same_form (requests.Query a) (requests.Change d) e))
+one_request (requests.Change c) (requests.Query b) g h e = absurd (no_query b (act_form c.act) (sym (same_form (requests.Change c) (requests.Query b) e)))
 one_request (requests.Change c) (requests.Change d) g h e =
-    ap (λ x. requests.Change x) (one_change c d g.valid h.valid (same_form (requests.Change c) (requests.Change d) e) e)
+    ap (λ x. requests.Change x) (one_change c d g.valid h.valid (act_same (same_form (requests.Change c) (requests.Change d) e)) e)

@@ -23,6 +23,8 @@ pub use read::{RecordReader, read_record};
 pub use request::{Change, Query, ReadRefusal, Request};
 
 #[cfg(test)]
+mod case_tests;
+#[cfg(test)]
 mod question_tests;
 #[cfg(test)]
 mod tests;

@@ -164,7 +164,7 @@ const STRUCTURES: [(&[u8], u32); 35] = [
 ];
 
 // The field at which a line is malformed.
-fn bad_field(alloc: Global, line: &[u8]) -> Option<u32> {
+pub(crate) fn bad_field(alloc: Global, line: &[u8]) -> Option<u32> {
     match read_record(alloc, line) {
         Err(ReadRefusal::Malformed { field }) => Some(field),
         _ => None,

@@ -1,5 +1,6 @@
 -- What fits a wanted field: it can be told whether a text does, such a text is short and plain, and there is one.
-use Rattle.std.proofs.Common.{arith, ℕ, suc, ◌<◌, ◌≤◌, ◌^◌, ◌≡◌, ◌+◌, ℤ, ◌≤ℤ◌, pos, negsuc, ◌||◌, Bool, true, false, List, [], ◌∷◌, ◌++◌, Option, Some, None, length, All, refl, ap, sym, ◌∙◌, subst, codes, if◌then◌else◌, inl, inr}
+use Rattle.std.proofs.Common.{arith, ℕ, suc, ◌<◌, ◌≤◌, ◌^◌, ◌≡◌, ◌≢◌, ◌+◌, ℤ, ◌≤ℤ◌, pos, negsuc, ◌||◌, Bool, true, false, List, [], ◌∷◌, ◌++◌, Option, Some, None, length, All, refl, ap, sym, ◌∙◌, subst, codes, if◌then◌else◌, inl, inr}
+use Rattle.std.specs.Prelude.{is_some}
 use Rattle.std.specs.List.{list_all}
 use Rattle.std.specs.Fmt.{decimal, signed_decimal}
 use Rattle.std.specs.Str.{bytes_eq}
@@ -21,11 +22,18 @@ use Rattle.airfields.specs.declared.structure.StructureKind.{StructureKind}
 use Rattle.airfields.specs.declared.structure.StructureKind.TheVariants as kinds
 use Rattle.airfields.specs.declared.structure.Flags.{Flags}
 use Rattle.airfields.specs.declared.filing.TheConstants.{MOBILE_LIMIT}
-use Rattle.wire_values.specs.Words.{IsWordByte, IsWord, category_word, approach_word, weight_word, pavement_word, kind_word, marked, flag_letters, flags_text, or_dash, name_text, IsAirfieldName, IsBetween}
-use Rattle.wire_values.specs.Wanted.{Wanted, Fits, mobile_limit, Spelled, Between, FieldIdWanted, RunwayNameWanted, WordWanted, CategoryWanted, WeightWanted, PavementWanted, ApproachWanted, KindWanted, MobileWanted, FlagsWanted, AirfieldWanted}
+use Rattle.jiff_core.specs.declared.civil.date.Date.{Date}
+use Rattle.determination_dates.specs.Text.{last_digit, year_of, date_text}
+use Rattle.case_values.specs.declared.act.Impact.{Impact}
+use Rattle.case_values.specs.declared.act.Impact.TheVariants as impacts
+use Rattle.case_values.specs.declared.act.Party.{Party}
+use Rattle.case_values.specs.declared.act.Party.TheVariants as parties
+use Rattle.wire_values.specs.Words.{IsWordByte, IsWord, category_word, approach_word, kind_word, marked, flag_letters, flags_text, or_dash, name_text, IsAirfieldName, IsBetween, impact_word, party_word, optional_date, IsAnyLimited}
+use Rattle.wire_values.specs.Wanted.{Wanted, Fits, mobile_limit, is_granted, Spelled, Between, Counted, Choice, FieldIdWanted, RunwayNameWanted, WordWanted, CategoryWanted, ApproachWanted, KindWanted, MobileWanted, FlagsWanted, AirfieldWanted, DateWanted, OptionalDateWanted, CompletionWanted, ImpactWanted, PartyWanted}
 use Rattle.wire_values.specs.Plainness.{is_field_byte, IsShortField, IsUsual}
 use Rattle.wire_values.proofs.Decisions.{Decided, decided_by, both_decided, either_decided, same_text, le_decided, same_decided, whole_le_decided, all_decided, spelling_decided}
-use Rattle.wire_values.proofs.Named.{own, category_named, category_again, approach_named, approach_again, weight_named, weight_again, pavement_named, pavement_again, kind_named, kind_again, number_named, number_again}
+use Rattle.wire_values.proofs.Named.{own, category_named, category_again, approach_named, approach_again, kind_named, kind_again, impact_named, impact_again, party_named, party_again, number_named, number_again}
+use Rattle.wire_values.proofs.DateNames.{date_decided, optional_decided, completion_decided, a_day, a_day_limited, date_bytes}
 use Rattle.wire_values.proofs.LetterFacts.{flags_read, flags_again}
 use Rattle.wire_values.proofs.LimitFacts.{between_short}
 
@@ -86,20 +94,47 @@ airfield_decided text = elim (same_text text (codes "-")) [
       (λ (h : (on : Option (List ℕ)) × (text ≡ name_text on) × IsAirfieldName on). is_name text no_dash h.0 h.1 h.2) (field_id_decided text)
 ]
 
+-- a count within limits
+a_count : (low high : ℕ) (text : List ℕ) (z : ℤ) → text ≡ signed_decimal z → IsBetween (pos low) (pos high) z → (n : ℕ) × (text ≡ decimal n) × (low ≤ n) × (n ≤ high)
+a_count low high text (pos n) e h = (n, e, omega (arith, ints, h), omega (arith, ints, h))
+a_count low high text (negsuc n) e h = absurd (omega (arith, ints, h))
+
+count_decided : (low high : ℕ) → low ≤ high → high < 1000000000 → (text : List ℕ) → Decided ((n : ℕ) × (text ≡ decimal n) × (low ≤ n) × (n ≤ high))
+count_decided low high p q text =
+    decided_by (λ (h : (z : ℤ) × (text ≡ signed_decimal z) × IsBetween (pos low) (pos high) z). a_count low high text h.0 h.1 h.2)
+    (λ (h : (n : ℕ) × (text ≡ decimal n) × (low ≤ n) × (n ≤ high)). (pos h.0, h.1, (omega (arith, ints, h.2), omega (arith, ints, h.3))))
+    (number_decided (pos low) (pos high) (omega (arith, ints, p, q), omega (arith, ints, p, q)) (omega (arith, ints, q), omega (arith, ints, q)) text)
+
+-- one of two words
+neither : (word : Bool → List ℕ) (text : List ℕ) → text ≢ word true → text ≢ word false → (b : Bool) → text ≢ word b
+neither word text t f true = t
+neither word text t f false = f
+
+choice_decided : (word : Bool → List ℕ) (text : List ℕ) → Decided ((b : Bool) × (text ≡ word b))
+choice_decided word text = elim (same_text text (word true)) [
+  | inl e ↦ inl (true, e)
+  | inr t ↦ elim (same_text text (word false)) [ inl e ↦ inl (false, e) | inr f ↦ inr (λ h. neither word text t f h.0 h.1) ]
+]
+
 pub fits_decided : (w : Wanted) → IsUsual w → (before text : List ℕ) → Decided (Fits w before text)
 fits_decided (Spelled word) u before text = same_text text word
 fits_decided (Between low high) u before text = number_decided low high u.0 u.1 text
+fits_decided (Counted low high) u before text = count_decided low high u.0 u.1 text
+fits_decided (Choice word) u before text = choice_decided word text
 fits_decided FieldIdWanted u before text = field_id_decided text
 fits_decided RunwayNameWanted u before text = runway_name_decided text
 fits_decided WordWanted u before text = word_decided text
 fits_decided CategoryWanted u before text = spelling_decided category_word category_named category_again text
-fits_decided WeightWanted u before text = spelling_decided weight_word weight_named weight_again text
-fits_decided PavementWanted u before text = spelling_decided pavement_word pavement_named pavement_again text
 fits_decided ApproachWanted u before text = spelling_decided approach_word approach_named approach_again text
 fits_decided KindWanted u before text = spelling_decided kind_word kind_named kind_again text
 fits_decided MobileWanted u before text = number_decided (pos 0) (mobile_limit before) (omega (arith, ints)) (mobile_limit_short before) text
 fits_decided FlagsWanted u before text = spelling_decided flags_text flags_read flags_again text
 fits_decided AirfieldWanted u before text = airfield_decided text
+fits_decided DateWanted u before text = date_decided text
+fits_decided OptionalDateWanted u before text = optional_decided text
+fits_decided CompletionWanted u before text = completion_decided (is_granted before) text
+fits_decided ImpactWanted u before text = spelling_decided impact_word impact_named impact_again text
+fits_decided PartyWanted u before text = spelling_decided party_word party_named party_again text
 
 -- ---- what fits is short and plain
 
@@ -133,14 +168,6 @@ category_short categories.Dod = short_word _ (omega arith) (omega arith) refl
 category_short categories.Procedure = short_word _ (omega arith) (omega arith) refl
 category_short categories.OtherPrivate = short_word _ (omega arith) (omega arith) refl
 
-weight_short : (u : Bool) → IsShortField (weight_word u)
-weight_short true = short_word _ (omega arith) (omega arith) refl
-weight_short false = short_word _ (omega arith) (omega arith) refl
-
-pavement_short : (h : Bool) → IsShortField (pavement_word h)
-pavement_short true = short_word _ (omega arith) (omega arith) refl
-pavement_short false = short_word _ (omega arith) (omega arith) refl
-
 approach_short : (k : ApproachKind) → IsShortField (approach_word k)
 approach_short approaches.Visual = short_word _ (omega arith) (omega arith) refl
 approach_short approaches.NonprecisionAbove = short_word _ (omega arith) (omega arith) refl
@@ -155,6 +182,33 @@ kind_short kinds.Road = short_word _ (omega arith) (omega arith) refl
 kind_short kinds.Private = short_word _ (omega arith) (omega arith) refl
 kind_short kinds.Rail = short_word _ (omega arith) (omega arith) refl
 kind_short kinds.Water = short_word _ (omega arith) (omega arith) refl
+
+impact_short : (i : Option Impact) → IsShortField (impact_word i)
+impact_short None = short_word _ (omega arith) (omega arith) refl
+impact_short (Some impacts.NotSubstantial) = short_word _ (omega arith) (omega arith) refl
+impact_short (Some impacts.Substantial) = short_word _ (omega arith) (omega arith) refl
+
+party_short : (p : Party) → IsShortField (party_word p)
+party_short parties.Sponsor = short_word _ (omega arith) (omega arith) refl
+party_short parties.Commenter = short_word _ (omega arith) (omega arith) refl
+party_short parties.LateComment = short_word _ (omega arith) (omega arith) refl
+
+choice_short : (word : Bool → List ℕ) → IsShortField (word true) → IsShortField (word false) → (b : Bool) → IsShortField (word b)
+choice_short word t f true = t
+choice_short word t f false = f
+
+digit_plain : (n : ℕ) → is_field_byte (last_digit n) ≡ true
+digit_plain n =
+    let low : 45 ≤ last_digit n = omega arith in
+    let high : last_digit n ≤ 122 = omega arith in
+    grind (arith, nat_tests)
+
+date_short : (d : Date) → IsShortField (date_text d)
+date_short d = record { least = omega arith; most = omega arith; bytes = date_bytes (λ b. is_field_byte b ≡ true) digit_plain refl (year_of d.year) d.month d.day }
+
+optional_short : (d : Option Date) → IsShortField (optional_date d)
+optional_short None = short_word _ (omega arith) (omega arith) refl
+optional_short (Some d) = date_short d
 
 -- letters of flags, not more than `most`
 abbrev AreLetters : ℕ → List ℕ → Type 0
@@ -198,18 +252,23 @@ name_short (Some name) h = field_id_short name h
 pub fits_short : (w : Wanted) → IsUsual w → (before text : List ℕ) → Fits w before text → IsShortField text
 fits_short (Spelled word) u before text e = subst IsShortField (sym e) u
 fits_short (Between low high) u before text h = subst IsShortField (sym h.1) (number_short h.0 (between_short low high h.0 u.0 u.1 h.2))
+fits_short (Counted low high) u before text h = subst IsShortField (sym h.1) (number_short (pos h.0) (omega (arith, ints), omega (arith, ints, h.3, u.1)))
+fits_short (Choice word) u before text h = subst IsShortField (sym h.1) (choice_short word u.0 u.1 h.0)
 fits_short FieldIdWanted u before text h = field_id_short text h
 fits_short RunwayNameWanted u before text h = record { least = h.least; most = omega (arith, h.most); bytes = All-weaker IsRunwayByte (λ b. is_field_byte b ≡ true) stroke_plain text h.bytes }
 fits_short WordWanted u before text h = record { least = h.least; most = h.most; bytes = All-weaker IsWordByte (λ b. is_field_byte b ≡ true) word_byte_plain text h.bytes }
 fits_short CategoryWanted u before text h = subst IsShortField (sym h.1) (category_short h.0)
-fits_short WeightWanted u before text h = subst IsShortField (sym h.1) (weight_short h.0)
-fits_short PavementWanted u before text h = subst IsShortField (sym h.1) (pavement_short h.0)
 fits_short ApproachWanted u before text h = subst IsShortField (sym h.1) (approach_short h.0)
 fits_short KindWanted u before text h = subst IsShortField (sym h.1) (kind_short h.0)
 fits_short MobileWanted u before text h =
     subst IsShortField (sym h.1) (number_short h.0 (between_short (pos 0) (mobile_limit before) h.0 (omega (arith, ints)) (mobile_limit_short before) h.2))
 fits_short FlagsWanted u before text h = subst IsShortField (sym h.1) (flags_short h.0)
 fits_short AirfieldWanted u before text h = subst IsShortField (sym h.1) (name_short h.0 h.2)
+fits_short DateWanted u before text h = subst IsShortField (sym h.1) (date_short h.0)
+fits_short OptionalDateWanted u before text h = subst IsShortField (sym h.1) (optional_short h.0)
+fits_short CompletionWanted u before text h = subst IsShortField (sym h.1) (optional_short h.0)
+fits_short ImpactWanted u before text h = subst IsShortField (sym h.1) (impact_short h.0)
+fits_short PartyWanted u before text h = subst IsShortField (sym h.1) (party_short h.0)
 
 -- ---- there is a text that fits
 
@@ -220,15 +279,22 @@ no_less : (b : Bool) → pos 0 ≤ℤ (if b then MOBILE_LIMIT else pos 0)
 no_less true = omega (arith, ints)
 no_less false = omega (arith, ints)
 
+abbrev IsCompletion : Bool → List ℕ → Type 0
+IsCompletion granted text = (date : Option Date) × (text ≡ optional_date date) × IsAnyLimited date × (is_some date ≡ granted)
+
+a_completion : (granted : Bool) → (text : List ℕ) × IsCompletion granted text
+a_completion true = (date_text a_day, (Some a_day, refl, a_day_limited, refl))
+a_completion false = (codes "-", (None, refl, tt, refl))
+
 pub example : (before : List ℕ) (w : Wanted) → IsUsual w → (text : List ℕ) × Fits w before text
 example before (Spelled word) u = (word, refl)
 example before (Between low high) u = (signed_decimal low, (low, refl, (omega (arith, ints), u.2)))
+example before (Counted low high) u = (decimal low, (low, refl, omega arith, u.0))
+example before (Choice word) u = (word true, (true, refl))
 example before FieldIdWanted u = (65 ∷ [], record { least = omega arith; most = omega arith; bytes = All-cons IsLetterOrDigit 65 [] letter_a (All-nil IsLetterOrDigit) })
 example before RunwayNameWanted u = (65 ∷ [], record { least = omega arith; most = omega arith; bytes = All-cons IsRunwayByte 65 [] (inl letter_a) (All-nil IsRunwayByte) })
 example before WordWanted u = (65 ∷ [], record { least = omega arith; most = omega arith; bytes = All-cons IsWordByte 65 [] (inl (omega arith, omega arith)) (All-nil IsWordByte) })
 example before CategoryWanted u = (category_word categories.PublicUse, (categories.PublicUse, refl))
-example before WeightWanted u = (weight_word true, (true, refl))
-example before PavementWanted u = (pavement_word true, (true, refl))
 example before ApproachWanted u = (approach_word approaches.Visual, (approaches.Visual, refl))
 example before KindWanted u = (kind_word kinds.Object, (kinds.Object, refl))
 example before MobileWanted u =
@@ -236,3 +302,8 @@ example before MobileWanted u =
 example before FlagsWanted u =
     (codes "-", (record { shielded = false; device = false; other_rule = false; increases = false; controlled = false; temporary = false }, refl))
 example before AirfieldWanted u = (codes "-", (None, refl, tt))
+example before DateWanted u = (date_text a_day, (a_day, refl, a_day_limited))
+example before OptionalDateWanted u = (codes "-", (None, refl, tt))
+example before CompletionWanted u = a_completion (is_granted before)
+example before ImpactWanted u = (codes "-", (None, refl))
+example before PartyWanted u = (party_word parties.Sponsor, (parties.Sponsor, refl))

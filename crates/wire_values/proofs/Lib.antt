@@ -4,4 +4,5 @@ pub mod LimitFacts
 pub mod TextFacts
 pub mod Decisions
 pub mod Named
+pub mod DateNames
 pub mod FieldFacts

@@ -1,6 +1,6 @@
 -- Numbers within limits.
-use Rattle.std.proofs.Common.{arith, w64, ℤ, ℕ, to_z, of_z, subst, pos, negsuc, ◌<ℤ◌, ◌≡◌, ◌≢◌, ◌^◌, ◌<◌, List, Some, refl, sym, ◌∙◌, FitsSigned}
-use Rattle.std.specs.Fmt.{signed_decimal}
+use Rattle.std.proofs.Common.{arith, w64, ℤ, ℕ, to_z, of_z, subst, pos, negsuc, ◌<ℤ◌, ◌≡◌, ◌≢◌, ◌^◌, ◌<◌, ◌≤◌, List, Some, refl, sym, ◌∙◌, FitsSigned}
+use Rattle.std.specs.Fmt.{decimal, signed_decimal}
 use Rattle.std.proofs.lemmas.Int.{ints, to_z-of_z}
 use Rattle.whole_number.specs.Whole.{HasNineDigits}
 use Rattle.airfields.specs.Sites.{greatest_mobile}
@@ -46,3 +46,8 @@ pub above_limit : (low high z : ℤ) (text : List ℕ) → HasNineDigits low →
     → (y : ℤ) → IsBetween low high y → text ≢ signed_decimal y
 above_limit low high z text p q e s t y b f =
     let k = one_number z y s (between_short low high y p q b) (sym e ∙ f) in let b' : IsBetween low high z = subst (IsBetween low high) (sym k) b in omega (arith, ints)
+
+-- no count within the limits is spelled where no number within them is
+pub no_count : {low high : ℤ} (least most : ℕ) (text : List ℕ) → low ≡ pos least → high ≡ pos most
+    → ((z : ℤ) → IsBetween low high z → text ≢ signed_decimal z) → (n : ℕ) → least ≤ n → n ≤ most → text ≢ decimal n
+no_count least most text l m none n h k = none (pos n) (rw l (omega (arith, ints, h)), rw m (omega (arith, ints, k)))

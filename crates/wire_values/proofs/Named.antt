@@ -16,8 +16,12 @@ use Rattle.airfields.specs.declared.category.Category.TheVariants as categories
 use Rattle.airfields.specs.declared.structure.StructureKind.{StructureKind}
 use Rattle.airfields.specs.declared.structure.StructureKind.TheVariants as kinds
 use Rattle.airfields.specs.declared.structure.Flags.{Flags}
+use Rattle.case_values.specs.declared.act.Impact.{Impact}
+use Rattle.case_values.specs.declared.act.Impact.TheVariants as impacts
+use Rattle.case_values.specs.declared.act.Party.{Party}
+use Rattle.case_values.specs.declared.act.Party.TheVariants as parties
 use Rattle.wire_values.specs.Letters.{begins_with}
-use Rattle.wire_values.specs.Words.{category_word, approach_word, weight_word, pavement_word, kind_word, flags_text, name_text, IsAirfieldName}
+use Rattle.wire_values.specs.Words.{category_word, approach_word, kind_word, flags_text, name_text, IsAirfieldName, impact_word, party_word}
 
 -- ---- values of a list of words
 
@@ -51,22 +55,6 @@ approach_again approaches.NonprecisionAbove = refl
 approach_again approaches.NonprecisionLow = refl
 approach_again approaches.Precision = refl
 
-pub weight_named : List ℕ → Bool
-weight_named word = bytes_eq word (weight_word true)
-
-pub weight_again : (u : Bool) → weight_named (weight_word u) ≡ u
-unfolding weight_named
-weight_again true = refl
-weight_again false = refl
-
-pub pavement_named : List ℕ → Bool
-pavement_named word = bytes_eq word (pavement_word true)
-
-pub pavement_again : (h : Bool) → pavement_named (pavement_word h) ≡ h
-unfolding pavement_named
-pavement_again true = refl
-pavement_again false = refl
-
 pub kind_named : List ℕ → StructureKind
 kind_named word = if bytes_eq word (kind_word kinds.Object) then kinds.Object
     else if bytes_eq word (kind_word kinds.Antenna) then kinds.Antenna
@@ -84,6 +72,26 @@ kind_again kinds.Road = refl
 kind_again kinds.Private = refl
 kind_again kinds.Rail = refl
 kind_again kinds.Water = refl
+
+pub impact_named : List ℕ → Option Impact
+impact_named word = if bytes_eq word (impact_word None) then None
+    else if bytes_eq word (impact_word (Some impacts.NotSubstantial)) then Some impacts.NotSubstantial else Some impacts.Substantial
+
+pub impact_again : (i : Option Impact) → impact_named (impact_word i) ≡ i
+unfolding impact_named
+impact_again None = refl
+impact_again (Some impacts.NotSubstantial) = refl
+impact_again (Some impacts.Substantial) = refl
+
+pub party_named : List ℕ → Party
+party_named word = if bytes_eq word (party_word parties.Sponsor) then parties.Sponsor
+    else if bytes_eq word (party_word parties.Commenter) then parties.Commenter else parties.LateComment
+
+pub party_again : (p : Party) → party_named (party_word p) ≡ p
+unfolding party_named
+party_again parties.Sponsor = refl
+party_again parties.Commenter = refl
+party_again parties.LateComment = refl
 
 -- ---- whole numbers
 
@@ -117,17 +125,28 @@ one_category = one category_word category_named category_again
 pub one_approach : (a b : ApproachKind) → approach_word a ≡ approach_word b → a ≡ b
 one_approach = one approach_word approach_named approach_again
 
-pub one_weight : (a b : Bool) → weight_word a ≡ weight_word b → a ≡ b
-one_weight = one weight_word weight_named weight_again
+-- a value that holds or does not
+choice_again : (word : Bool → List ℕ) → bytes_eq (word true) (word true) ≡ true → bytes_eq (word false) (word true) ≡ false → (b : Bool) → bytes_eq (word b) (word true) ≡ b
+choice_again word t f true = t
+choice_again word t f false = f
 
-pub one_pavement : (a b : Bool) → pavement_word a ≡ pavement_word b → a ≡ b
-one_pavement = one pavement_word pavement_named pavement_again
+pub one_choice : (word : Bool → List ℕ) → bytes_eq (word true) (word true) ≡ true → bytes_eq (word false) (word true) ≡ false → (a b : Bool) → word a ≡ word b → a ≡ b
+one_choice word t f = one word (λ w. bytes_eq w (word true)) (choice_again word t f)
 
 pub one_kind : (a b : StructureKind) → kind_word a ≡ kind_word b → a ≡ b
 one_kind = one kind_word kind_named kind_again
 
+pub one_impact : (a b : Option Impact) → impact_word a ≡ impact_word b → a ≡ b
+one_impact = one impact_word impact_named impact_again
+
+pub one_party : (a b : Party) → party_word a ≡ party_word b → a ≡ b
+one_party = one party_word party_named party_again
+
 pub one_number : (a b : ℤ) → HasNineDigits a → HasNineDigits b → signed_decimal a ≡ signed_decimal b → a ≡ b
 one_number a b h k e = sym (number_again a h) ∙ ap number_named e ∙ number_again b k
+
+pub one_count : (m n : ℕ) → m < 1000000000 → n < 1000000000 → decimal m ≡ decimal n → m ≡ n
+one_count m n h k e = let same : pos m ≡ pos n = one_number (pos m) (pos n) (omega (arith, ints, h), omega (arith, ints, h)) (omega (arith, ints, k), omega (arith, ints, k)) e in cc
 
 -- the name of an airfield is no dash
 dash_is_none : IsFieldId (codes "-") → ⊥

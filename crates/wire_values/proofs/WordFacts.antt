@@ -38,10 +38,13 @@ no_kind word o a i r p l w kinds.Private = p
 no_kind word o a i r p l w kinds.Rail = l
 no_kind word o a i r p l w kinds.Water = w
 
-pub no_impact : (word : List ℕ) → word ≢ codes "-" → word ≢ codes "none" → word ≢ codes "substantial" → (impact : Option Impact) → word ≢ impact_word impact
-no_impact word d n s None = d
-no_impact word d n s (Some impacts.NotSubstantial) = n
-no_impact word d n s (Some impacts.Substantial) = s
+pub no_impact : (word : List ℕ) → word ≢ codes "none" → word ≢ codes "substantial" → (impact : Impact) → word ≢ impact_word (Some impact)
+no_impact word n s impacts.NotSubstantial = n
+no_impact word n s impacts.Substantial = s
+
+pub no_meaning : (word : List ℕ) → word ≢ codes "-" → ((impact : Impact) → word ≢ impact_word (Some impact)) → (impact : Option Impact) → word ≢ impact_word impact
+no_meaning word d n None = d
+no_meaning word d n (Some impact) = n impact
 
 pub no_party : (word : List ℕ) → word ≢ codes "sponsor" → word ≢ codes "commenter" → word ≢ codes "latecomment" → (party : Party) → word ≢ party_word party
 no_party word s c l parties.Sponsor = s

@@ -4,6 +4,7 @@ ghost use Rattle.std.specs.Prelude.{◌≡◌, ◌≢◌, ◌≤◌, ◌<◌, �
 ghost use Rattle.std.specs.Fmt.{decimal};
 ghost use Rattle.determination_dates.specs.declared.determination.TheConstants.{EXTENSION_MONTHS};
 ghost use Rattle.wire_values.specs.Wanted.{case_wanted, months_wanted};
+ghost use Rattle.wire_values.specs.declared.counts.TheConstants.{CASE_LIMIT};
 
 use crate::field_value::{FieldValue, append_text};
 use crate::numbers::number_within;
@@ -30,7 +31,7 @@ pub struct Months {
 
 // The count within the limits that the text spells; `None` exactly where it spells none.
 fn count_within(text: &[u8], low: u32, high: u32) -> Option<u32>
-    requires { high < 1000000000 }
+    requires { (low ≤ high) × (high < 1000000000) }
     ensures some { IfSome result (λ n. text.now ≡ decimal n) }
     ensures within { IfSome result (λ n. (low ≤ n) × (n ≤ high)) }
     ensures none { IfNone result ((n : ℕ) → low ≤ n → n ≤ high → text.now ≢ decimal n) }
@@ -60,7 +61,7 @@ impl FieldValue for CaseNumber {
         append_text(text, buffer.format(self.number))
     }
 
-    ghost fits = { λ v h _. (v.number, refl, h) };
+    ghost fits = { λ v h _. (v.number, refl, h.0, h.1) };
 }
 
 impl FieldValue for Months {
@@ -82,5 +83,5 @@ impl FieldValue for Months {
         append_text(text, buffer.format(self.count))
     }
 
-    ghost fits = { λ v h _. (v.count, refl, h) };
+    ghost fits = { λ v h _. (v.count, refl, h.0, h.1) };
 }

@@ -24,6 +24,7 @@ impl FieldValue for Date {
         read_date(text)
     }
 
+    #[tactic(auto, using(crate::proofs::DateNames::date_utf8))]
     fn append(&self, text: &mut String) -> Result<(), NoMemory> {
         let bytes = date_bytes(*self);
         match str::from_utf8(&bytes) {
@@ -43,6 +44,7 @@ impl FieldValue for Option<Date> {
 
     ghost good = { IsAnyLimited };
 
+    #[tactic(auto, using(crate::proofs::DateNames::none_optional))]
     fn parse(text: &[u8]) -> Option<Option<Date>> {
         if text == b"-".as_slice() {
             return Some(None);
@@ -64,6 +66,7 @@ impl FieldValue for Option<Date> {
 }
 
 /// The completion date of a permit that is granted; a dash stands for none where it is refused.
+#[tactic(auto, using(crate::proofs::DateNames::none_granted, crate::proofs::DateNames::none_refused))]
 pub fn completion_date(text: &[u8], granted: bool) -> Option<Option<Date>>
     ensures some { IfSome result (λ d. text.now ≡ optional_date d) }
     ensures limited { IfSome result (λ d. IsAnyLimited d) }

@@ -1,7 +1,12 @@
 //! Each kind of value, read and appended.
 
-use crate::{FieldValue, Pavement, Plain, Weight, WholeNumber, Word, append_next, number_within};
+use crate::{
+    CaseNumber, Disposal, FieldValue, Grant, Months, Pavement, Plain, Progress, Statement, Urgency,
+    Warrant, Weight, WholeNumber, Word, append_next, completion_date, number_within,
+};
 use airfields::{Category, FieldId, Flags, RunwayName, StructureKind};
+use case_values::{Impact, Party};
+use jiff::civil::Date;
 use runway_classes::ApproachKind;
 use std::alloc::Global;
 
@@ -50,6 +55,63 @@ fn spellings(rt: HostRuntime) {
     for (text, want) in &table {
         assert_eq!(rt; text.as_deref(), *want);
     }
+}
+
+#[test]
+fn spellings_of_cases(rt: HostRuntime) {
+    let alloc = rt.alloc();
+    let table: [(Option<Vec<u8>>, Option<&[u8]>); 32] = [
+        (again::<Date>(alloc, b"2024-02-29"), Some(b",2024-02-29")),
+        (again::<Date>(alloc, b"1900-01-01"), Some(b",1900-01-01")),
+        (again::<Date>(alloc, b"2026-02-30"), None),
+        (again::<Date>(alloc, b"1899-12-31"), None),
+        (again::<Date>(alloc, b"-"), None),
+        (
+            again::<Option<Date>>(alloc, b"2999-12-31"),
+            Some(b",2999-12-31"),
+        ),
+        (again::<Option<Date>>(alloc, b"-"), Some(b",-")),
+        (again::<Option<Date>>(alloc, b""), None),
+        (again::<Option<Date>>(alloc, b"3000-01-01"), None),
+        (again::<CaseNumber>(alloc, b"1"), Some(b",1")),
+        (again::<CaseNumber>(alloc, b"999999"), Some(b",999999")),
+        (again::<CaseNumber>(alloc, b"0"), None),
+        (again::<CaseNumber>(alloc, b"1000000"), None),
+        (again::<CaseNumber>(alloc, b"07"), None),
+        (again::<Months>(alloc, b"1"), Some(b",1")),
+        (again::<Months>(alloc, b"18"), Some(b",18")),
+        (again::<Months>(alloc, b"0"), None),
+        (again::<Months>(alloc, b"19"), None),
+        (again::<Urgency>(alloc, b"emergency"), Some(b",emergency")),
+        (again::<Urgency>(alloc, b"normal"), Some(b",normal")),
+        (again::<Urgency>(alloc, b"urgent"), None),
+        (again::<Statement>(alloc, b"-"), Some(b",-")),
+        (again::<Statement>(alloc, b"no"), None),
+        (again::<Disposal>(alloc, b"reverse"), Some(b",reverse")),
+        (again::<Progress>(alloc, b"unstarted"), Some(b",unstarted")),
+        (again::<Warrant>(alloc, b"yes"), Some(b",yes")),
+        (again::<Warrant>(alloc, b"-"), None),
+        (again::<Grant>(alloc, b"granted"), Some(b",granted")),
+        (again::<Option<Impact>>(alloc, b"-"), Some(b",-")),
+        (
+            again::<Option<Impact>>(alloc, b"substantial"),
+            Some(b",substantial"),
+        ),
+        (again::<Party>(alloc, b"latecomment"), Some(b",latecomment")),
+        (again::<Party>(alloc, b"none"), None),
+    ];
+    for (text, want) in &table {
+        assert_eq!(rt; text.as_deref(), *want);
+    }
+}
+
+#[test]
+fn completion_dates(rt: HostRuntime) {
+    let date = Date::new(2027, 1, 1).ok();
+    assert!(rt; completion_date(b"2027-01-01", true) == Some(date));
+    assert!(rt; completion_date(b"-", true).is_none());
+    assert!(rt; completion_date(b"-", false) == Some(None));
+    assert!(rt; completion_date(b"2027-01-01", false).is_none());
 }
 
 #[test]

@@ -1,8 +1,9 @@
 //! Values that one word of a list spells.
 
-ghost use Rattle.std.specs.Prelude.{◌≡◌, refl};
+ghost use Rattle.std.specs.Prelude.{◌≡◌, ◌≢◌, Some, IfSome, IfNone, refl};
 ghost use Rattle.runway_classes.specs.declared.ApproachKind.{ApproachKind};
 ghost use Rattle.airfields.specs.declared.category.Category.{Category};
+ghost use Rattle.case_values.specs.declared.act.Impact.{Impact as SomeImpact};
 ghost use Rattle.wire_values.specs.Words.{category_word, approach_word, kind_word, impact_word, party_word};
 ghost use Rattle.wire_values.specs.Wanted.{CategoryWanted, ApproachWanted, KindWanted, ImpactWanted, PartyWanted};
 
@@ -142,6 +143,21 @@ fn text_of_impact(finding: Option<Impact>) -> &'static str
     }
 }
 
+// The meaning that a word tells.
+#[tactic(auto, using(crate::proofs::WordFacts::no_impact))]
+fn impact_of(text: &[u8]) -> Option<Impact>
+    ensures some { IfSome result (λ i. text.now ≡ impact_word (Some i)) }
+    ensures none { IfNone result ((i : SomeImpact) → text.now ≢ impact_word (Some i)) }
+{
+    if text == b"none".as_slice() {
+        return Some(Impact::NotSubstantial);
+    }
+    if text == b"substantial".as_slice() {
+        return Some(Impact::Substantial);
+    }
+    None
+}
+
 /// What it means that a standard is exceeded; a dash where none is.
 impl FieldValue for Option<Impact> {
     ghost wanted = { ImpactWanted };
@@ -150,13 +166,14 @@ impl FieldValue for Option<Impact> {
 
     ghost good = { λ _. Unit {0} };
 
-    #[tactic(auto, using(crate::proofs::WordFacts::no_impact))]
+    #[tactic(auto, using(crate::proofs::WordFacts::no_meaning))]
     fn parse(text: &[u8]) -> Option<Option<Impact>> {
-        match text {
-            b"-" => Some(None),
-            b"none" => Some(Some(Impact::NotSubstantial)),
-            b"substantial" => Some(Some(Impact::Substantial)),
-            _ => None,
+        if text == b"-".as_slice() {
+            return Some(None);
+        }
+        match impact_of(text) {
+            Some(impact) => Some(Some(impact)),
+            None => None,
         }
     }
 

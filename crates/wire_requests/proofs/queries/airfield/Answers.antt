@@ -1,6 +1,6 @@
 use Rattle.wire_cursor.proofs.ShapeFacts.{bad_here, bad_after}
 use Rattle.wire_cursor.proofs.ExitFacts.{bad_out}
-use Rattle.wire_requests.proofs.structures.airfield.Goals as goal
+use Rattle.wire_requests.proofs.queries.airfield.Goals as goal
 
 pub returns-in_err-id-clause-bad : goal.returns-in_err-id-clause-bad
 returns-in_err-id-clause-bad c = bad_out _ _ c.from_residual.ensures.1 (bad_here c.in_err-id.ensures.stops)

@@ -16,6 +16,6 @@ returns-in_err-elevation-clause-stops c = stops_out _ _ c.from_residual-in_err-e
 pub returns-clause-took : goal.returns-clause-took
 returns-clause-took c = rw (raw_short c.in_ok-elevation.elevation c.in_ok-elevation.ensures.short) record {
   took = took_1 c.in_ok-id.ensures.took (took_1 c.in_ok-category.ensures.took (took_2 c.in_ok-arp.ensures.took c.in_ok-elevation.ensures.took));
-  form = refl;
+  form_is = refl;
   valid = c.in_ok-elevation.ensures.short;
 }

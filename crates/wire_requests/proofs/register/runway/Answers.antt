@@ -21,6 +21,6 @@ returns-in_err-end2-clause-stops c = stops_out _ _ c.from_residual-in_err-end2.e
 pub returns-clause-took : goal.returns-clause-took
 returns-clause-took c = record {
   took = took_1 c.in_ok-id.ensures.took (took_1 c.in_ok-name.ensures.took (took_1 c.in_ok-weight.ensures.took (took_1 c.in_ok-pavement.ensures.took (took_4 c.in_ok-end1.ensures.took.took c.in_ok-end2.ensures.took.took))));
-  form = refl;
+  form_is = refl;
   valid = (c.in_ok-end1.ensures.took.short, c.in_ok-end2.ensures.took.short);
 }

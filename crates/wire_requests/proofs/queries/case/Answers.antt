@@ -1,0 +1,9 @@
+use Rattle.wire_cursor.proofs.ShapeFacts.{bad_here, bad_after}
+use Rattle.wire_cursor.proofs.ExitFacts.{bad_out}
+use Rattle.wire_requests.proofs.queries.case.Goals as goal
+
+pub returns-in_err-case-clause-bad : goal.returns-in_err-case-clause-bad
+returns-in_err-case-clause-bad c = bad_out _ _ c.from_residual.ensures.1 (bad_here c.in_err-case.ensures.stops)
+
+pub returns-in_err-end-clause-bad : goal.returns-in_err-end-clause-bad
+returns-in_err-end-clause-bad c = bad_out _ _ c.from_residual-in_err-end.ensures.1 (bad_after c.in_ok-case.ensures.took c.in_err-end.ensures.bad)
