@@ -152,6 +152,7 @@ impl Receipts {
         match closed.with(day) {
             Ok(()) => {}
             Err(_) => {
+                let key = key_of(&entry);
                 forget(&mut self.places, key);
                 return Err(NoMemory);
             }
