@@ -1,3 +1,4 @@
 pub mod Indexing
 pub mod Sound
+pub mod Limits
 pub mod Deciding

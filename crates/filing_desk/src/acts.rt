@@ -202,6 +202,7 @@ impl Desk {
     /// # Errors
     ///
     /// The first rule that the act breaks, or `NoMemory` where memory was refused.
+    #[tactic(auto, using(crate::proofs::Limits::any_limited, crate::proofs::Limits::notice_dates))]
     pub(crate) fn acted(&self, alloc: Global, act: &Act) -> Result<Effect, Refusal>
         requires { IsValidAct act.now }
         ensures value { MatchResult result
