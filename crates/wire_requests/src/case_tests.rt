@@ -1,7 +1,7 @@
 //! Lines of cases and days that are malformed, and requests that are read of others.
 
 use crate::tests::bad_field;
-use crate::{Act, Impact, Party, Query, Request, Submission, read_record};
+use crate::{Act, Change, Impact, Party, Query, Request, Submission, read_record};
 use jiff::civil::Date;
 use std::alloc::Global;
 
@@ -194,11 +194,11 @@ fn malformed_lines_of_cases(rt: HostRuntime) {
     }
 }
 
-// The act of a line.
-fn act_of(alloc: Global, line: &[u8]) -> Option<Act> {
+// Whether the line is a change that asks for this act.
+fn asks_for(alloc: Global, line: &[u8], act: &Act) -> bool {
     match read_record(alloc, line) {
-        Ok(Request::Change(change)) => Some(change.act),
-        _ => None,
+        Ok(Request::Change(change)) => change.act == *act,
+        _ => false,
     }
 }
 
@@ -273,17 +273,22 @@ fn acts_on_cases(rt: HostRuntime) {
     ];
     for (line, act) in table {
         assert!(rt;
-            act_of(rt.alloc(), line) == Some(act),
+            asks_for(rt.alloc(), line, &act),
             "at {}",
             line.escape_ascii()
         );
     }
 }
 
-// The notice of a line.
-fn notice_of(alloc: Global, line: &[u8]) -> Option<Submission> {
-    match act_of(alloc, line) {
-        Some(Act::File(submission)) => Some(submission),
+// The notice of a request.
+fn notice_of(request: &Request) -> Option<&Submission> {
+    match request {
+        Request::Change(
+            Change {
+                act: Act::File(submission),
+                ..
+            },
+        ) => Some(submission),
         _ => None,
     }
 }
@@ -291,7 +296,8 @@ fn notice_of(alloc: Global, line: &[u8]) -> Option<Submission> {
 #[test]
 fn a_notice(rt: HostRuntime) {
     let line = b"file,u,k,2026-03-01,-,2026-04-01,emergency,-,-5,7,100,2001,object,0,-,-";
-    let notice = notice_of(rt.alloc(), line).expect(&rt, "it is a notice");
+    let request = read_record(rt.alloc(), line).expect(&rt, "it is a record");
+    let notice = notice_of(&request).expect(&rt, "it is a notice");
     assert!(rt; date(2026, 3, 1) == Some(notice.start));
     assert!(rt; notice.permit.is_none());
     assert!(rt; notice.fcc == date(2026, 4, 1));
