@@ -111,12 +111,7 @@ fn reverse(number: u32, case: &KeptCase) -> Effect
 ///
 /// The first of these that holds: `NotStanding` where no determination stands, `NothingPending` where no petition is pending, `DateRange`
 /// where the expiry after an affirmation is outside the limit.
-pub fn dispose(
-    number: u32,
-    affirmed: bool,
-    today: Date,
-    case: &KeptCase,
-) -> Result<Effect, Refusal>
+pub fn dispose(number: u32, affirmed: bool, today: Date, case: &KeptCase) -> Result<Effect, Refusal>
     requires today { IsLimited today }
     requires case { IsSound case.now }
     ensures value { result ≡ disposal_ruling number affirmed today case.now }

@@ -7,5 +7,5 @@
 mod entry;
 mod laws;
 
-pub use entry::{MOST_CASES, Entry};
+pub use entry::{Entry, MOST_CASES};
 pub use laws::{repeats, replays};

@@ -102,14 +102,25 @@ fn acts_in_each_status(rt: HostRuntime) -> Result<(), Fail> {
     comes_in(&rt, alloc, "determine,o,9,1,-", &[Status::Awaiting])?;
     comes_in(&rt, alloc, "petition,o,9,1,sponsor", &standing)?;
     comes_in(&rt, alloc, "dispose,o,9,1,affirm", &standing)?;
-    comes_in(&rt, alloc, "extend,o,9,1,6,unstarted,-,no", &[Status::InForce])?;
+    comes_in(
+        &rt,
+        alloc,
+        "extend,o,9,1,6,unstarted,-,no",
+        &[Status::InForce],
+    )?;
     comes_in(&rt, alloc, "fcc,o,9,1,refused,-", &[Status::InForce])?;
     comes_in(&rt, alloc, "abandon,o,9,1", &planned)?;
     Ok(())
 }
 
 /// The last line is refused so after the lines before it.
-fn refuses(rt: &impl Abort, alloc: Global, lines: &[&str], last: &str, why: Refusal) -> Result<(), Fail> {
+fn refuses(
+    rt: &impl Abort,
+    alloc: Global,
+    lines: &[&str],
+    last: &str,
+    why: Refusal,
+) -> Result<(), Fail> {
     let mut clerk = clerk_after(rt, alloc, lines)?;
     let accepted = clerk.accepted();
     assert_eq!(rt; refused(alloc, &mut clerk, last)?, Some(why), "at {last}");
@@ -136,9 +147,18 @@ fn rules_of_the_register(rt: HostRuntime) -> Result<(), Fail> {
             "runway,u,2,AAA,09/27,other,soft,400001,400000,0,NA,300000,300000,0,NA",
             Refusal::RunwayFar,
         ),
-        ("airport,u,2,BBB,public,0,0,999999999", Refusal::ElevationRange),
-        ("heliport,u,2,BBB,public,0,0,600,800,0,0", Refusal::HeliportShape),
-        ("heliport,u,2,AAA,public,0,0,600,800,1000,0", Refusal::WrongKind),
+        (
+            "airport,u,2,BBB,public,0,0,999999999",
+            Refusal::ElevationRange,
+        ),
+        (
+            "heliport,u,2,BBB,public,0,0,600,800,0,0",
+            Refusal::HeliportShape,
+        ),
+        (
+            "heliport,u,2,AAA,public,0,0,600,800,1000,0",
+            Refusal::WrongKind,
+        ),
     ] {
         refuses(&rt, alloc, &airport, line, why)?;
     }
@@ -170,7 +190,13 @@ fn rules_of_acts(rt: HostRuntime) -> Result<(), Fail> {
     let none = "determine,u,3,1,none";
     let petition = "petition,u,4,1,sponsor";
     refuses(&rt, alloc, &[DAY, LOW], "form,u,9,1", Refusal::NoFormDue)?;
-    refuses(&rt, alloc, &[DAY, HIGH], "determine,u,3,1,-", Refusal::FindingWanted)?;
+    refuses(
+        &rt,
+        alloc,
+        &[DAY, HIGH],
+        "determine,u,3,1,-",
+        Refusal::FindingWanted,
+    )?;
     refuses(&rt, alloc, &[DAY, LOW], none, Refusal::FindingUnwanted)?;
     let low = [DAY, LOW, "determine,u,3,1,-"];
     refuses(&rt, alloc, &low, petition, Refusal::NotReviewable)?;
@@ -178,12 +204,48 @@ fn rules_of_acts(rt: HostRuntime) -> Result<(), Fail> {
         deadline: date("2026-02-16")?,
         day: date("2026-02-17")?,
     };
-    refuses(&rt, alloc, &[DAY, HIGH, none, "day,u,9,2026-02-17"], petition, late)?;
-    refuses(&rt, alloc, &[DAY, HIGH, none, petition], "petition,u,9,1,commenter", Refusal::PetitionPending)?;
-    refuses(&rt, alloc, &[DAY, HIGH, none], "dispose,u,9,1,affirm", Refusal::NothingPending)?;
-    refuses(&rt, alloc, &low, "extend,u,9,1,6,started,2026-01-15,yes", Refusal::WorkStarted)?;
-    refuses(&rt, alloc, &low, "extend,u,9,1,6,unstarted,2026-01-15,no", Refusal::FccEvidence)?;
-    refuses(&rt, alloc, &low, "extend,u,9,1,6,unstarted,2026-01-16,yes", Refusal::FccEvidence)?;
+    refuses(
+        &rt,
+        alloc,
+        &[DAY, HIGH, none, "day,u,9,2026-02-17"],
+        petition,
+        late,
+    )?;
+    refuses(
+        &rt,
+        alloc,
+        &[DAY, HIGH, none, petition],
+        "petition,u,9,1,commenter",
+        Refusal::PetitionPending,
+    )?;
+    refuses(
+        &rt,
+        alloc,
+        &[DAY, HIGH, none],
+        "dispose,u,9,1,affirm",
+        Refusal::NothingPending,
+    )?;
+    refuses(
+        &rt,
+        alloc,
+        &low,
+        "extend,u,9,1,6,started,2026-01-15,yes",
+        Refusal::WorkStarted,
+    )?;
+    refuses(
+        &rt,
+        alloc,
+        &low,
+        "extend,u,9,1,6,unstarted,2026-01-15,no",
+        Refusal::FccEvidence,
+    )?;
+    refuses(
+        &rt,
+        alloc,
+        &low,
+        "extend,u,9,1,6,unstarted,2026-01-16,yes",
+        Refusal::FccEvidence,
+    )?;
     let past = Refusal::ExtensionLate {
         last_day: date("2027-06-30")?,
         day: date("2027-07-01")?,
@@ -201,19 +263,37 @@ fn one_extension_without_the_fcc(rt: HostRuntime) -> Result<(), Fail> {
     let alloc = rt.alloc();
     let lines = [DAY, PLAIN, "determine,u,3,1,-"];
     let extend = "extend,u,9,1,6,unstarted,-,no";
-    refuses(&rt, alloc, &lines, "fcc,u,4,1,refused,-", Refusal::FccEvidence)?;
+    refuses(
+        &rt,
+        alloc,
+        &lines,
+        "fcc,u,4,1,refused,-",
+        Refusal::FccEvidence,
+    )?;
     let mut clerk = clerk_after(&rt, alloc, &lines)?;
-    assert_eq!(rt; refused(alloc, &mut clerk, "extend,u,4,1,6,unstarted,-,no")?, None);
-    assert_eq!(rt; refused(alloc, &mut clerk, extend)?, Some(Refusal::AlreadyExtended));
+    assert_eq!(rt;
+        refused(alloc, &mut clerk, "extend,u,4,1,6,unstarted,-,no")?,
+        None
+    );
+    assert_eq!(rt;
+        refused(alloc, &mut clerk, extend)?,
+        Some(Refusal::AlreadyExtended)
+    );
     Ok(())
 }
 
 /// The expiry and the last day for an extension that the clerk tells.
-fn extended(alloc: Global, clerk: &mut Clerk, line: &str) -> Result<([u8; 10], [u8; 10]), NoChange> {
+fn extended(
+    alloc: Global,
+    clerk: &mut Clerk,
+    line: &str,
+) -> Result<([u8; 10], [u8; 10]), NoChange> {
     match clerk.apply(alloc, &change(alloc, line)?) {
         Answer::Accepted {
             outcome: Outcome::Extended {
-                expiry, last_day, ..
+                expiry,
+                last_day,
+                ..
             },
             ..
         } => Ok((date_bytes(expiry), date_bytes(last_day))),
@@ -244,11 +324,23 @@ fn ends_of_months(rt: HostRuntime) -> Result<(), Fail> {
 fn end_of_the_limit(rt: HostRuntime) -> Result<(), Fail> {
     let alloc = rt.alloc();
     let notice = "file,u,2,2999-12-31,-,-,emergency,-,0,0,1000,2001,object,0,-,-";
-    refuses(&rt, alloc, &["day,u,1,2999-12-27"], notice, Refusal::DateRange)?;
+    refuses(
+        &rt,
+        alloc,
+        &["day,u,1,2999-12-27"],
+        notice,
+        Refusal::DateRange,
+    )?;
     let mut clerk = clerk_after(&rt, alloc, &["day,u,1,2999-12-26", notice])?;
     assert_eq!(rt; clerk.accepted(), 2);
-    assert_eq!(rt; refused(alloc, &mut clerk, "determine,u,3,1,-")?, Some(Refusal::DateRange));
-    assert_eq!(rt; clerk.case_view(1, false).map(|view| view.status), Some(Status::Awaiting));
+    assert_eq!(rt;
+        refused(alloc, &mut clerk, "determine,u,3,1,-")?,
+        Some(Refusal::DateRange)
+    );
+    assert_eq!(rt;
+        clerk.case_view(1, false).map(|view| view.status),
+        Some(Status::Awaiting)
+    );
     assert_eq!(rt; clerk.filing(1).map(|filing| filing.height), Some(2001));
     assert_eq!(rt; clerk.sky().register().len(), 0);
     Ok(())
