@@ -1,6 +1,7 @@
 -- What was done is what is decided.
-use Rattle.std.proofs.Common.{◌≡◌, ◌≢◌, refl, sym, ap, ◌∙◌, subst, List, [], ◌∷◌, ◌++◌, Option, Some, None, Result, Ok, Err}
+use Rattle.std.proofs.Common.{◌≡◌, ◌≢◌, refl, sym, ap, ◌∙◌, subst, Bool, true, false, cond, List, [], ◌∷◌, ◌++◌, Option, Some, None, Result, Ok, Err}
 use Rattle.wire_requests.specs.Changes.{Asked}
+use Rattle.case_values.specs.contracts.act.ActPartialEq.TheImpl as act
 use Rattle.case_records.specs.declared.refusal.Refusal.{Refusal}
 use Rattle.case_records.specs.declared.refusal.Refusal.TheVariants as refusals
 use Rattle.case_acts.specs.declared.effect.Effect.{Effect}
@@ -13,6 +14,13 @@ use Rattle.filing_desk.specs.declared.answer.Answer.{Answer}
 use Rattle.filing_desk.specs.declared.answer.Answer.TheVariants as answers
 use Rattle.filing_desk.specs.Answers.{Answers, decision}
 use Rattle.filing_desk.specs.Clerks.{Clerking, IsReplay, Advances}
+
+-- another request under a key, and the same one again
+pub reused : (s : State) (e : Entry) (q : Asked) → act.ghosts.eq e.change.act q.act ≡ false → Answers (repeated e q) s s (answers.Refused (refusals.KeyReused e.number))
+reused s e q other = (λ _. ap (λ b. cond b (Kept e) (No (refusals.KeyReused e.number))) other, refl)
+
+pub told_again : (s : State) (e : Entry) (q : Asked) → act.ghosts.eq e.change.act q.act ≡ true → Answers (repeated e q) s s (answers.Accepted e.number e.outcome)
+told_again s e q same = subst (λ d. Answers d s s (answers.Accepted e.number e.outcome)) (sym (ap (λ b. cond b (Kept e) (No (refusals.KeyReused e.number))) same)) (refl, refl)
 
 -- a request whose key stands for an entry
 pub known_as : (s : State) (q : Asked) (e : Entry) (r : Answer) → entry_of q.caller q.key s.entries ≡ Some e → Answers (repeated e q) s s r → Answers (decision s q) s s r

@@ -1,6 +1,7 @@
 //! How the desk decides a changing request.
 
 ghost use Rattle.std.specs.Prelude.{◌≡◌, None, Ok};
+ghost use Rattle.case_values.specs.contracts.act.ActPartialEq.TheImpl as act;
 ghost use Rattle.case_acts.specs.Cases.{IsSoundStep};
 ghost use Rattle.desk_rules.specs.States.{State, entry_of};
 ghost use Rattle.desk_rules.specs.Machine.{decide_new, registered, repeated as repeat};
@@ -10,15 +11,24 @@ use crate::answer::Answer;
 use crate::desk::Desk;
 use case_acts::Effect;
 use case_records::Refusal;
+use case_values::Act;
 use desk_rules::Entry;
 use std::alloc::Global;
 use wire_requests::Change;
 
+/// Whether two acts are the same.
+fn is_same(a: &Act, b: &Act) -> bool
+    ensures { result ≡ act.ghosts.eq a.now b.now }
+{
+    a == b
+}
+
 /// What a request is answered whose caller's key stands for an entry.
+#[tactic(auto, using(crate::proofs::Deciding::reused, crate::proofs::Deciding::told_again))]
 fn repeated(alloc: Global, entry: &Entry, c: &Change) -> Answer
     ensures { (s : State) → Answers (repeat entry.now c.now) s s result }
 {
-    if entry.change.act != c.act {
+    if !is_same(&entry.change.act, &c.act) {
         return Answer::Refused(Refusal::KeyReused {
             entry: entry.number,
         });
