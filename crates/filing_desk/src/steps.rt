@@ -65,6 +65,7 @@ impl Desk {
     }
 
     /// Opens a case behind the others.
+    #[tactic(auto, using(crate::proofs::Sound::sound_more))]
     fn open(&mut self, entry: Entry, case: KeptCase) -> Result<(), Refusal>
         requires new { entry_of entry.change.caller entry.change.key self.old.entries ≡ None }
         requires case { IsSound case }
