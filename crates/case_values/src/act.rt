@@ -35,7 +35,7 @@ pub enum Act {
     Closed(Date),
     /// A notice opens a case (77.5, 77.7).
     File(Submission),
-    /// The form of an emergency's notice came (77.7(d)).
+    /// The form of an emergency's notice came (77.7(e)).
     Form(u32),
     /// A determination is issued (77.31).
     Determine {

@@ -10,11 +10,11 @@ pub struct Submission {
     pub start: Date,
     /// The day on which the application for a construction permit is to be filed.
     pub permit: Option<Date>,
-    /// The day of the application to the Federal Communications Commission, where there is one.
+    /// The day of the application to the Federal Communications Commission, where there is one (77.7(c)).
     pub fcc: Option<Date>,
-    /// Whether it is an emergency that requires immediate construction (77.7(d)).
+    /// Whether it is an emergency that requires immediate construction (77.7(e)).
     pub emergency: bool,
-    /// Whether a statement explains why a structure of more than 2,000 feet would be no hazard (77.7(c)).
+    /// Whether a statement explains why a structure of more than 2,000 feet would be no hazard (77.7(d)).
     pub statement: bool,
     /// The structure.
     pub filing: Filing,

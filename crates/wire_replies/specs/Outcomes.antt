@@ -32,7 +32,7 @@ abbrev pub fcc_text : Option ℕ → List ℕ
 fcc_text None = codes "-"
 fcc_text (Some days) = lateness_text (codes "timely") days
 
--- whether the presumption of a hazard is answered, where there is one: above 2,000 feet (77.7(c))
+-- whether the presumption of a hazard is answered, where there is one: above 2,000 feet (77.7(d))
 abbrev pub presumption_text : Option Bool → List ℕ
 presumption_text None = codes "-"
 presumption_text (Some explained) = if explained then codes "explained" else codes "unexplained"

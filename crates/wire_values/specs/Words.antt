@@ -97,11 +97,11 @@ IsBetween low high z = (low ≤ℤ z) × (z ≤ℤ high)
 
 -- ---- values of cases
 
--- whether a notice is of an emergency that requires immediate construction (77.7(d))
+-- whether a notice is of an emergency that requires immediate construction (77.7(e))
 abbrev pub urgency_word : Bool → List ℕ
 urgency_word emergency = if emergency then codes "emergency" else codes "normal"
 
--- whether a statement explains a height of more than 2,000 feet (77.7(c))
+-- whether a statement explains a height of more than 2,000 feet (77.7(d))
 abbrev pub statement_word : Bool → List ℕ
 statement_word explains = if explains then codes "yes" else codes "-"
 

@@ -21,14 +21,14 @@ pub struct Pavement {
     pub hard: bool,
 }
 
-/// The urgency of a notice (77.7(d)).
+/// The urgency of a notice (77.7(e)).
 #[derive(Clone, Copy, Debug, PartialEq, Eq)]
 pub struct Urgency {
     /// Whether it is an emergency that requires immediate construction.
     pub emergency: bool,
 }
 
-/// The statement of a notice on a height of more than 2,000 feet (77.7(c)).
+/// The statement of a notice on a height of more than 2,000 feet (77.7(d)).
 #[derive(Clone, Copy, Debug, PartialEq, Eq)]
 pub struct Statement {
     /// Whether there is one, which explains why the structure would be no hazard.
