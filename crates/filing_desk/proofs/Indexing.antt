@@ -103,11 +103,11 @@ indexed_on m n es e index new updates =
 
 -- ---- no entries
 
-nothing : (p : Option ℕ) → p ≡ None → None ≡ with_some p (slice_get [])
-nothing p e = rw e refl
+nothing : (q : ReceiptKey) (p : Option ℕ) → p ≡ None → entry_of q.caller q.key [] ≡ with_some p (slice_get [])
+nothing q p e = rw e refl
 
 pub indexed_none : (m : BTreeMap ReceiptKey ℕ) → m.entries ≡ [] → IsIndex m []
-indexed_none m e = record { found = λ q. nothing _ (none q); below = λ q. subst (λ p. IfSome p (λ i. i < 0)) (sym (none q)) tt }
+indexed_none m e = record { found = λ q. nothing q (get keys.ghosts.cmp m q) (none q); below = λ q. subst (λ p. IfSome p (λ i. i < 0)) (sym (none q)) tt }
   where
     none : (q : ReceiptKey) → get keys.ghosts.cmp m q ≡ None
     none q = ap (lookup (is_at (keys.ghosts.cmp q))) e
@@ -146,5 +146,5 @@ indexed_off m n k es e index new put taken = record { found = λ q. index.found 
 
     same : (q : ReceiptKey) → get keys.ghosts.cmp k q ≡ get keys.ghosts.cmp m q
     same q =
-        back_at (is_at (keys.ghosts.cmp (key_of e)) q) _ _ (λ is. free q (sym (tested e q) ∙ is))
-        (taken.0 q ∙ ap (cond (is_at (keys.ghosts.cmp (key_of e)) q) None) (put.0 q) ∙ over _ _)
+        back_at (is_at (keys.ghosts.cmp (key_of e)) q) (get keys.ghosts.cmp k q) (get keys.ghosts.cmp m q) (λ is. free q (sym (tested e q) ∙ is))
+        (taken.0 q ∙ ap (cond (is_at (keys.ghosts.cmp (key_of e)) q) None) (put.0 q) ∙ over (is_at (keys.ghosts.cmp (key_of e)) q) (get keys.ghosts.cmp m q))

@@ -4,7 +4,6 @@ ghost use Rattle.std.specs.Prelude.{◌≡◌, ◌≢◌, ◌<◌, ◌≤◌, No
 ghost use Rattle.oe_findings.specs.List.{findings_of};
 ghost use Rattle.wire_requests.specs.Limits.{IsValidAct};
 ghost use Rattle.case_values.specs.declared.act.Act.TheVariants as acts;
-ghost use Rattle.case_values.specs.declared.act.Party.{Party as Petitioner};
 ghost use Rattle.case_acts.specs.Cases.{HasLimitedDates, IsSoundStep};
 ghost use Rattle.determination_dates.specs.Days.{IsLimited};
 ghost use Rattle.determination_dates.specs.declared.determination.TheConstants.{EXTENSION_MONTHS};
@@ -17,7 +16,7 @@ use airfield_findings::Findings;
 use airfields::Filing;
 use case_acts::{Effect, Extension, Step, is_before};
 use case_records::{KeptList, Outcome, Refusal};
-use case_values::{Act, Impact, Submission};
+use case_values::{Act, Impact, Party, Submission};
 use desk_rules::MOST_CASES;
 use grid_exact::{NoMemory, Steps};
 use jiff::civil::Date;
@@ -126,8 +125,8 @@ impl Desk {
     }
 
     /// What a petition comes to.
-    fn on_petition(&self, number: u32) -> Result<Effect, Refusal>
-        ensures value { (party : Petitioner) → result ≡ acted self.now None (acts.Petition number party) }
+    fn on_petition(&self, number: u32, party: Party) -> Result<Effect, Refusal>
+        ensures value { result ≡ acted self.now None (acts.Petition number party) }
         ensures sound { IfOk result (λ e. IsSoundStep e.step) }
     {
         let Some(today) = self.day() else {
@@ -223,7 +222,7 @@ impl Desk {
             Act::File(notice) => self.on_file(notice),
             Act::Form(case) => self.on_form(*case),
             Act::Determine { case, finding } => self.on_determine(alloc, *case, *finding),
-            Act::Petition { case, .. } => self.on_petition(*case),
+            Act::Petition { case, party } => self.on_petition(*case, *party),
             Act::Dispose { case, affirm } => self.on_dispose(*case, *affirm),
             Act::Extend {
                 case,

@@ -49,7 +49,9 @@ impl Desk {
         requires sound { IsSoundStep effect.step }
         ensures { Answers (decide_new self.old c.now (registered self.old.register (Ok effect))) self.old self.new result }
     {
-        let number = self.receipts.len() as u64 + 1;
+        let Some(number) = (self.receipts.len() as u64).checked_add(1) else {
+            return Answer::Refused(Refusal::NoMemory);
+        };
         let Ok(outcome) = effect.outcome.copy(alloc) else {
             return Answer::Refused(Refusal::NoMemory);
         };

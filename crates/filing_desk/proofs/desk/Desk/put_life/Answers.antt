@@ -8,7 +8,7 @@ pub invariant_of-self : goal.invariant_of-self
 invariant_of-self c =
     let short : c.args.number - 1 < length c.self.inside.cases.items = omega (arith, c.if-place-len.false, c.len.ensures) in
     let after = record c.index_mut.result.now { life = c.args.life } in
-    (life_sound c.self.inside.cases.items (c.args.number - 1) c.index_mut.result.now after short c.index_mut.ensures.value c.self.invariant.0 refl c.requires, c.self.invariant.1)
+    (life_sound c.self.inside.cases.items (c.args.number - 1) c.index_mut.result.now after short c.index_mut.ensures.value c.self.invariant.0 refl c.requires.kept, c.self.invariant.1)
 
 pub returns : goal.returns
 returns c =

@@ -1,0 +1,14 @@
+use Rattle.std.proofs.Common.{◌≡◌, Some, sym, subst}
+use Rattle.wire_requests.specs.Changes.{Asked}
+use Rattle.desk_rules.specs.States.{State, entry_of}
+use Rattle.filing_desk.proofs.Deciding.{known_as}
+use Rattle.filing_desk.proofs.desk.Desk.apply.Goals as goal
+
+pub returns-in-Some : goal.returns-in-Some
+returns-in-Some c =
+    let s = c.args.self.now in
+    let q = c.args.c.now in
+    let e = c.in-Some.entry.now in
+    let in_state = subst (λ (t : State). entry_of c.c.inside.caller c.c.inside.key t.entries ≡ Some e) c.self.view_is (sym c.in-Some.ensures) in
+    let there = subst (λ (p : Asked). entry_of p.caller p.key s.entries ≡ Some e) c.c.view_is in_state in
+    known_as s q e c.repeated.result there (c.repeated.ensures s)
