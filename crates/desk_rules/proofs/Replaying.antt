@@ -192,3 +192,9 @@ repeated_by s p n q given other e step None there is = repeated_new s n q other 
 pub repeated : (s : State) (p n : ℕ) (q : Asked) (given other : Option Given) (e : Entry) (step : Step) → decide s p q given ≡ Done e step
     → decide (after s (Done e step)) n q other ≡ Kept e
 repeated s p n q given other e step is = repeated_by s p n q given other e step _ refl is
+
+-- another act under the key of an entry is refused
+pub reused : (s : State) (p : ℕ) (q : Asked) (given : Option Given) (e : Entry) → entry_of q.caller q.key s.entries ≡ Some e → act.ghosts.eq e.change.act q.act ≡ false
+    → decide s p q given ≡ No (refusals.KeyReused e.number)
+reused s p q given e there other =
+    ap (λ v. decide_by v s q (basis_of s p given q.act)) there ∙ ap (λ b. cond b (Kept e) (No (refusals.KeyReused e.number))) other
