@@ -139,7 +139,7 @@ made (Done e step) = e ∷ []
 -- the number of the register that the outcome records
 abbrev pub version_of : Outcome → ℕ
 version_of (outcomes.Plain plain) = 0
-version_of (outcomes.Filed number timely fcc explained) = 0
+version_of (outcomes.Filed number in_time fcc explained) = 0
 version_of (outcomes.FormCame number late) = 0
 version_of (outcomes.Determined number decision last issued deadline effective expiry list) = last
 version_of (outcomes.Petitioned number) = 0
@@ -151,7 +151,7 @@ version_of (outcomes.Abandoned number) = 0
 -- the list that it records, as one that is given for this structure
 abbrev pub list_given : Outcome → Site → Option Given
 list_given (outcomes.Plain plain) site = None
-list_given (outcomes.Filed number timely fcc explained) site = None
+list_given (outcomes.Filed number in_time fcc explained) site = None
 list_given (outcomes.FormCame number late) site = None
 list_given (outcomes.Determined number decision last issued deadline effective expiry list) site = Some (record { filing = site; last = last; list = list })
 list_given (outcomes.Petitioned number) site = None

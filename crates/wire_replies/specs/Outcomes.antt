@@ -77,7 +77,7 @@ case_act_text word number = joined (word ∷ decimal number ∷ [])
 
 abbrev pub outcome_text : Outcome → List ℕ
 outcome_text (outcomes.Plain plain) = plain_word plain
-outcome_text (outcomes.Filed number timely fcc explained) = filed_text number timely fcc explained
+outcome_text (outcomes.Filed number in_time fcc explained) = filed_text number in_time fcc explained
 outcome_text (outcomes.FormCame number late) = form_text number late
 outcome_text (outcomes.Determined number decision last issued deadline effective expiry list) =
     determined_text number decision last issued deadline effective expiry list

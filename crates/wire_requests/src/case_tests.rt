@@ -1,7 +1,7 @@
 //! Lines of cases and days that are malformed, and requests that are read of others.
 
-use crate::tests::bad_field;
-use crate::{Act, Change, Impact, Party, Query, Request, Submission, read_record};
+use crate::tests::{bad_field, change_of};
+use crate::{Act, Change, Impact, Party, Query, Request, read_record};
 use jiff::civil::Date;
 use std::alloc::Global;
 
@@ -194,14 +194,6 @@ fn malformed_lines_of_cases(rt: HostRuntime) {
     }
 }
 
-// Whether the line is a change that asks for this act.
-fn asks_for(alloc: Global, line: &[u8], act: &Act) -> bool {
-    match read_record(alloc, line) {
-        Ok(Request::Change(change)) => change.act == *act,
-        _ => false,
-    }
-}
-
 fn date(year: i16, month: i8, day: i8) -> Option<Date> {
     Date::new(year, month, day).ok()
 }
@@ -271,33 +263,22 @@ fn acts_on_cases(rt: HostRuntime) {
         ),
         (b"abandon,u,k,999999", Act::Abandon(999_999)),
     ];
-    for (line, act) in table {
-        assert!(rt;
-            asks_for(rt.alloc(), line, &act),
-            "at {}",
-            line.escape_ascii()
-        );
-    }
-}
-
-// The notice of a request.
-fn notice_of(request: &Request) -> Option<&Submission> {
-    match request {
-        Request::Change(
-            Change {
-                act: Act::File(submission),
-                ..
-            },
-        ) => Some(submission),
-        _ => None,
+    for (line, wanted) in table {
+        let change = change_of(rt.alloc(), line).expect(&rt, "it is a change");
+        let Change { act, .. } = change;
+        assert!(rt; act == wanted, "at {}", line.escape_ascii());
     }
 }
 
 #[test]
 fn a_notice(rt: HostRuntime) {
     let line = b"file,u,k,2026-03-01,-,2026-04-01,emergency,-,-5,7,100,2001,object,0,-,-";
-    let request = read_record(rt.alloc(), line).expect(&rt, "it is a record");
-    let notice = notice_of(&request).expect(&rt, "it is a notice");
+    let change = change_of(rt.alloc(), line).expect(&rt, "it is a change");
+    let Change { act, .. } = change;
+    let Act::File(notice) = act else {
+        assert!(rt; false, "it is a notice");
+        return;
+    };
     assert!(rt; date(2026, 3, 1) == Some(notice.start));
     assert!(rt; notice.permit.is_none());
     assert!(rt; notice.fcc == date(2026, 4, 1));

@@ -203,7 +203,7 @@ fn long_lines(rt: HostRuntime) {
 }
 
 // The change of a line.
-fn change_of(alloc: Global, line: &[u8]) -> Option<Change> {
+pub(crate) fn change_of(alloc: Global, line: &[u8]) -> Option<Change> {
     match read_record(alloc, line) {
         Ok(request) => match request {
             Request::Change(change) => Some(change),
