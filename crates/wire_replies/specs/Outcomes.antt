@@ -38,8 +38,8 @@ presumption_text None = codes "-"
 presumption_text (Some explained) = if explained then codes "explained" else codes "unexplained"
 
 abbrev pub filed_text : ℕ → Timeliness → Option ℕ → Option Bool → List ℕ
-filed_text number timely fcc explained =
-    joined (codes "case" ∷ decimal number ∷ timeliness_text timely ∷ fcc_text fcc ∷ presumption_text explained ∷ [])
+filed_text number in_time fcc explained =
+    joined (codes "case" ∷ decimal number ∷ timeliness_text in_time ∷ fcc_text fcc ∷ presumption_text explained ∷ [])
 
 abbrev pub form_text : ℕ → ℕ → List ℕ
 form_text number late = joined (codes "form" ∷ decimal number ∷ lateness_text (codes "intime") late ∷ [])
