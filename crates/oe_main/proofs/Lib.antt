@@ -1,3 +1,4 @@
 pub mod WordFacts
 pub mod StepFacts
 pub mod RunFacts
+pub mod ChangeFacts

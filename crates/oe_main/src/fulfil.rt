@@ -91,6 +91,7 @@ fn reply_of(answer: Answer) -> Reply
 }
 
 /// Makes a change, or refuses it, and appends the reply.
+#[tactic(auto, using(crate::proofs::ChangeFacts::changed, crate::proofs::ChangeFacts::counted))]
 fn make_change(
     alloc: Global,
     clerk: &mut Clerk,

@@ -1,0 +1,77 @@
+-- Changes: what was answered is what the desk decides, or want of memory.
+use Rattle.std.proofs.Common.{◌≡◌, ◌≢◌, ◌⊎◌, inl, inr, ◌≤◌, ◌+◌, ℕ, List, [], ◌∷◌, ◌++◌, length, arith, sym, ap, ◌∙◌, subst, refl}
+use Rattle.wire_requests.specs.Changes.{Asked}
+use Rattle.wire_requests.specs.declared.request.Request.TheVariants as requests
+use Rattle.wire_replies.specs.Replies.{reply_text}
+use Rattle.case_records.specs.declared.refusal.Refusal.{Refusal}
+use Rattle.case_records.specs.declared.refusal.Refusal.TheVariants as refusals
+use Rattle.desk_rules.specs.declared.entry.Entry.{Entry}
+use Rattle.desk_rules.specs.States.{State, last_number, stepped}
+use Rattle.desk_rules.specs.Machine.{Answer as Decided_, Kept, No, Done, after}
+use Rattle.desk_rules.proofs.Replaying.{same_entries}
+use Rattle.filing_desk.specs.Answers.{told, decision}
+use Rattle.filing_desk.specs.Clerks.{Clerking, Advances}
+use Rattle.filing_desk.specs.declared.answer.Answer.{Answer}
+use Rattle.filing_desk.specs.declared.answer.Answer.TheVariants as answers
+use Rattle.oe_main.specs.Desk.{Tells, Decided, NoRoom, change_reply}
+
+memory_or_not : (why : Refusal) → (why ≡ refusals.NoMemory) ⊎ (why ≢ refusals.NoMemory)
+memory_or_not refusals.NoMemory = inl refl
+memory_or_not refusals.PrecisionOnUtility = inr (λ e. cc (e))
+memory_or_not refusals.UnknownAirfield = inr (λ e. cc (e))
+memory_or_not refusals.UnknownRunway = inr (λ e. cc (e))
+memory_or_not refusals.RunwayLength = inr (λ e. cc (e))
+memory_or_not refusals.RunwayFar = inr (λ e. cc (e))
+memory_or_not refusals.TooManyRunways = inr (λ e. cc (e))
+memory_or_not refusals.RegisterFull = inr (λ e. cc (e))
+memory_or_not refusals.ElevationRange = inr (λ e. cc (e))
+memory_or_not refusals.HeliportShape = inr (λ e. cc (e))
+memory_or_not refusals.WrongKind = inr (λ e. cc (e))
+memory_or_not refusals.DateRange = inr (λ e. cc (e))
+memory_or_not (refusals.Malformed field) = inr (λ e. cc (e))
+memory_or_not refusals.UnknownCase = inr (λ e. cc (e))
+memory_or_not refusals.CasesFull = inr (λ e. cc (e))
+memory_or_not (refusals.DayBack kept day) = inr (λ e. cc (e))
+memory_or_not (refusals.NotStanding status) = inr (λ e. cc (e))
+memory_or_not refusals.FindingWanted = inr (λ e. cc (e))
+memory_or_not refusals.FindingUnwanted = inr (λ e. cc (e))
+memory_or_not refusals.NotReviewable = inr (λ e. cc (e))
+memory_or_not (refusals.PetitionLate deadline day) = inr (λ e. cc (e))
+memory_or_not refusals.PetitionPending = inr (λ e. cc (e))
+memory_or_not refusals.NothingPending = inr (λ e. cc (e))
+memory_or_not (refusals.ExtensionLate last_day day) = inr (λ e. cc (e))
+memory_or_not refusals.WorkStarted = inr (λ e. cc (e))
+memory_or_not refusals.AlreadyExtended = inr (λ e. cc (e))
+memory_or_not refusals.FccEvidence = inr (λ e. cc (e))
+memory_or_not (refusals.KeyReused n) = inr (λ e. cc (e))
+memory_or_not refusals.NoDay = inr (λ e. cc (e))
+memory_or_not refusals.KeeperFault = inr (λ e. cc (e))
+memory_or_not refusals.NoFormDue = inr (λ e. cc (e))
+
+refused : (k l : Clerking) (q : Asked) (why : Refusal) (old new : List ℕ) → (why ≡ refusals.NoMemory) ⊎ (why ≢ refusals.NoMemory)
+    → Advances (decision k.state q) k l (answers.Refused why) → new ≡ old ++ reply_text (change_reply (answers.Refused why)) → Tells k.state (requests.Change q) old new l.state
+refused k l q why old new (inl e) h t = NoRoom (t ∙ ap (λ (w : Refusal). old ++ reply_text (change_reply (answers.Refused w))) e) (ap (λ (c : Clerking). c.state) h.1)
+refused k l q why old new (inr other) h t =
+    Decided (t ∙ ap (λ d. old ++ reply_text (change_reply (told d))) (sym (h.0 other)))
+    (ap (λ (c : Clerking). c.state) h.1 ∙ ap (after k.state) (sym (h.0 other)))
+
+pub changed : (k l : Clerking) (q : Asked) (a : Answer) (old new : List ℕ) → Advances (decision k.state q) k l a → new ≡ old ++ reply_text (change_reply a)
+    → Tells k.state (requests.Change q) old new l.state
+changed k l q (answers.Accepted number outcome) old new h t =
+    Decided (t ∙ ap (λ r. old ++ reply_text (change_reply r)) (sym h.0)) (ap (λ (c : Clerking). c.state) h.1)
+changed k l q (answers.Refused why) old new h t = refused k l q why old new (memory_or_not why) h t
+
+-- ---- an entry more at most
+
+longer : (es : List Entry) (e : Entry) → length (es ++ e ∷ []) ≡ length es + 1
+longer [] e = refl
+longer (d ∷ es) e = omega (arith, longer es e)
+
+one_more : (s : State) (d : Decided_) → last_number (after s d) ≤ last_number s + 1
+one_more s (Kept e) = omega (arith)
+one_more s (No why) = omega (arith)
+one_more s (Done e step) = omega (arith, longer (stepped step s).entries e, ap (λ (es : List Entry). length es) (same_entries step s))
+
+pub counted : (k l : Clerking) (q : Asked) (a : Answer) → Advances (decision k.state q) k l a → last_number l.state ≤ last_number k.state + 1
+counted k l q (answers.Accepted number outcome) h = subst (λ (c : Clerking). last_number c.state ≤ last_number k.state + 1) (sym h.1) (one_more k.state (decision k.state q))
+counted k l q (answers.Refused why) h = subst (λ (c : Clerking). last_number c.state ≤ last_number k.state + 1) (sym h.1) (omega (arith))
