@@ -53,37 +53,46 @@ fn filed(case: u32, timely: Timeliness, fcc: Option<u32>, explained: Option<bool
     }
 }
 
+// In time, or so many days late.
+fn by_days(days: u32) -> Timeliness {
+    if days == 0 {
+        Timeliness::Timely
+    } else {
+        Timeliness::Late(days)
+    }
+}
+
 #[test]
 fn notices(rt: HostRuntime) -> Result<(), Fail> {
-    let in_time = Timeliness::Timely;
-    let late = Timeliness::Late(1);
-    for (entry, outcome, want) in [
+    for (entry, case, days, fcc, explained, want) in [
+        (2, 1, 0, None, None, "ok,2,published,case,1,timely,-,-\n"),
+        (3, 2, 1, None, None, "ok,3,published,case,2,late 1,-,-\n"),
         (
             2,
-            filed(1, in_time, None, None),
-            "ok,2,published,case,1,timely,-,-\n",
-        ),
-        (
-            3,
-            filed(2, late, None, None),
-            "ok,3,published,case,2,late 1,-,-\n",
-        ),
-        (
-            2,
-            filed(1, in_time, Some(5), None),
+            1,
+            0,
+            Some(5),
+            None,
             "ok,2,published,case,1,timely,late 5,-\n",
         ),
         (
             44,
-            filed(8, late, Some(0), None),
+            8,
+            1,
+            Some(0),
+            None,
             "ok,44,published,case,8,late 1,timely,-\n",
         ),
         (
             62,
-            filed(13, in_time, None, Some(true)),
+            13,
+            0,
+            None,
+            Some(true),
             "ok,62,published,case,13,timely,-,explained\n",
         ),
     ] {
+        let outcome = filed(case, by_days(days), fcc, explained);
         let text = accepted(rt.alloc(), entry, outcome)?;
         assert_eq!(rt; text.as_str(), want);
     }
