@@ -16,6 +16,3 @@ mod view;
 
 pub use answer::Answer;
 pub use clerk::Clerk;
-
-#[cfg(test)]
-mod tests;

@@ -20,7 +20,7 @@ fn words(alloc: Global, list: &[&str]) -> Result<Words, Fail> {
 }
 
 /// The desk's run over some text, of which so many bytes come in one read.
-fn desk(alloc: Global, text: &str, most: usize) -> Result<(Status, FakeSink), Fail> {
+pub(crate) fn desk(alloc: Global, text: &str, most: usize) -> Result<(Status, FakeSink), Fail> {
     let most = most.max(1);
     let bytes = Bytes::from_slice(alloc, text.as_bytes())?;
     let mut input = FakeSource::new(bytes, most, Vec::new(alloc));
