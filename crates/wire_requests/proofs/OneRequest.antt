@@ -233,12 +233,12 @@ one_query _ _ h k f e = absurd (cc)
 
 -- a changing request is no query
 no_query : (q : Query) (form : ActForm) → query_form q ≡ forms.Act form → ⊥
-no_query (queries.Screen s) form e = cc
-no_query (queries.Verdict s) form e = cc
-no_query (queries.Case n) form e = cc
-no_query (queries.Airfield id) form e = cc
-no_query queries.Review form e = cc
-no_query (queries.Report kind) form e = cc
+no_query (queries.Screen s) a e = cc
+no_query (queries.Verdict s) a e = cc
+no_query (queries.Case n) a e = cc
+no_query (queries.Airfield id) a e = cc
+no_query queries.Review a e = cc
+no_query (queries.Report kind) a e = cc
 
 same_form : (r s : Request) → spelling r ≡ spelling s → form_of r ≡ form_of s
 same_form (requests.Query a) (requests.Query b) e = one_form (query_form a) (query_form b) (at 0 e)
