@@ -1,12 +1,13 @@
 -- What is kept of a runway says its distance and its elevation.
-use Rattle.std.proofs.Common.{◌≡◌, ℕ, zero, suc, ◌+◌, ◌*◌, ◌<◌, ℤ, pos, negsuc, ◌+ℤ◌, ◌-ℤ◌, ◌*ℤ◌, ◌<ℤ◌, int_lt, true, false, arith, ap, subst, ◌∙◌}
+use Rattle.std.proofs.Common.{◌≡◌, ℕ, zero, suc, ◌+◌, ◌*◌, ◌≤◌, ◌^◌, ◌<◌, unsigned_abs, ℤ, pos, negsuc, ◌+ℤ◌, ◌-ℤ◌, ◌*ℤ◌, ◌≤ℤ◌, ◌<ℤ◌, int_lt, refl, true, false, arith, ap, subst, ◌∙◌}
 use Rattle.std.specs.Int.{int_div_euclid}
 use Rattle.std.proofs.Math.Nat.{mul-div_cancel}
-use Rattle.std.proofs.lemmas.Int.{ints}
+use Rattle.std.proofs.lemmas.Int.{ints, by_lt_z}
 use Rattle.std.proofs.lemmas.Nat.{div-mul-add}
 use Rattle.std.specs.declared.cmp.Ordering.{Ordering}
 use Rattle.grid_exact.specs.Lines.{Offset}
 use Rattle.grid_exact.specs.declared.point.Point.{Point}
+use Rattle.grid_exact.proofs.Sizes.{abs_mul_le}
 use Rattle.grid_exact.proofs.TestFacts.{lt_out}
 use Rattle.runway_lines.specs.Centerlines.{clamped, elevation_at}
 use Rattle.runway_lines.specs.Profiles.{profile, profile_of}
@@ -52,6 +53,26 @@ end_elevation x c h l =
     let o = offset_of x r in
     let k : pos o.square <ℤ o.along = subst (λ (f : Offset). pos f.square <ℤ f.along) h.at_is l in
     past_end r.end1.z r.end2.z o.along o.square (profile_some r h.proper.within_length) k
+
+-- and between them it is by its climb
+pub not_below : (x y : ℤ) → (x <ℤ y → ⊥) → y ≤ℤ x
+not_below x y h = by_lt_z x y (λ l. absurd (h l)) (λ l. l)
+
+pub product_size : (rise along : ℤ) → unsigned_abs rise ≤ 2 ^ 18 → unsigned_abs along ≤ 2 ^ 37 → unsigned_abs (rise *ℤ along) ≤ 2 ^ 55
+product_size rise along h k = omega (arith, abs_mul_le rise along (2 ^ 18) (2 ^ 37) h k)
+
+pub quotient_of : (rise m m' : ℤ) (n n' : ℕ) (q : ℤ) → q ≡ int_div_euclid (rise *ℤ m) (pos n) → m ≡ m' → n ≡ n' → q ≡ int_div_euclid (rise *ℤ m') (pos n')
+quotient_of rise m m' n n' q e h k = rw (h, k) at e
+
+clamped_within : (m : ℤ) (n : ℕ) → pos 0 ≤ℤ m → m ≤ℤ pos n → clamped m n ≡ m
+clamped_within m n l h =
+    let f : int_lt m (pos 0) ≡ false = grind (arith, ints, l) in
+    let g : int_lt (pos n) m ≡ false = grind (arith, ints, h) in
+    rw (f, g) refl
+
+pub middle_elevation : (x : Point) (c : Candidate) (e : ℤ) → IsCandidate x c → pos 0 ≤ℤ c.at.along → c.at.along ≤ℤ pos c.at.square →
+    e ≡ int_div_euclid (c.line.rise *ℤ c.at.along) (pos c.at.square) → c.line.z +ℤ e ≡ elevation_of x c.runway.now
+middle_elevation x c e h l m k = elevation_is x c (c.line.z +ℤ e) h (rw (k, clamped_within c.at.along c.at.square l m) refl)
 
 pub distance_is : (x : Point) (c : Candidate) (d : Fraction) → IsCandidate x c → d ≡ square_distance c.at → d ≡ distance_of x c.runway.now
 distance_is x c d h e = e ∙ ap square_distance h.at_is

@@ -8,3 +8,4 @@ pub mod Surfaces
 pub mod Notices
 pub mod Areas
 pub mod NoticeAreas
+pub mod LoneRunways

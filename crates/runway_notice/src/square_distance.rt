@@ -4,6 +4,7 @@ ghost use Rattle.std.specs.Prelude.{◌≡◌, ◌↔◌, ◌*◌, ◌^◌, ◌�
 ghost use Rattle.grid_exact.specs.Lines.{IsReach};
 ghost use Rattle.runway_notice.specs.Distances.{IsMeasure, beyond as beyond_of};
 
+use crate::parts::{along, aside, square};
 use grid_exact::Offset;
 use std::cmp::Ordering;
 
@@ -11,20 +12,20 @@ use std::cmp::Ordering;
 #[derive(Clone, Copy)]
 pub(crate) struct SquareDistance {
     part: u128,
-    whole: u128,
+    whole: u64,
     ghost measure: { IsMeasure part whole },
 }
 
 /// How far before the start or past the end of a line a point lies that lies so by it, times the line's length.
-fn beyond(at: &Offset) -> u128
+fn beyond(at: &Offset) -> u64
     ensures value { result ≡ beyond_of at.now }
     ensures reach { IsReach result at.now.square }
 {
-    let along = at.along();
+    let along = along(at);
     if along < 0 {
         return along.unsigned_abs();
     }
-    let square = at.square() as i128;
+    let square = square(at) as i64;
     if square < along {
         return (along - square).unsigned_abs();
     }
@@ -32,12 +33,12 @@ fn beyond(at: &Offset) -> u128
 }
 
 /// The square of a number that is not too large.
-fn square(number: u128) -> u128
+fn squared(number: u64) -> u128
     requires { number ≤ 2 ^ 45 }
     ensures value { result ≡ number * number }
     ensures size { result ≤ 2 ^ 90 }
 {
-    number * number
+    number as u128 * number as u128
 }
 
 impl SquareDistance {
@@ -49,8 +50,8 @@ impl SquareDistance {
         ensures { fraction result ≡ square_distance at.now }
     {
         SquareDistance {
-            part: square(beyond(at)) + square(at.aside().unsigned_abs()),
-            whole: at.square(),
+            part: squared(beyond(at)) + squared(aside(at).unsigned_abs()),
+            whole: square(at),
         }
     }
 
@@ -58,7 +59,7 @@ impl SquareDistance {
     pub(crate) fn compare(&self, other: &SquareDistance) -> Ordering
         ensures { result ≡ fraction_cmp (fraction self.now) (fraction other.now) }
     {
-        (self.part * other.whole).cmp(&(other.part * self.whole))
+        (self.part * other.whole as u128).cmp(&(other.part * self.whole as u128))
     }
 
     /// Whether a number is at least the distance.
@@ -69,7 +70,7 @@ impl SquareDistance {
         if number < 0 {
             return false;
         }
-        self.part <= square(number.unsigned_abs() as u128) * self.whole
+        self.part <= squared(number.unsigned_abs()) * self.whole as u128
     }
 
     /// Whether a number is above the distance.
@@ -80,6 +81,6 @@ impl SquareDistance {
         if number < 0 {
             return false;
         }
-        self.part < square(number.unsigned_abs() as u128) * self.whole
+        self.part < squared(number.unsigned_abs()) * self.whole as u128
     }
 }
