@@ -1,13 +1,16 @@
-//! What the desk keeps and tells of cases: the case with its determination's list, what an accepted request led to, and why one is refused.
+//! What the desk keeps and tells of cases: the case with its determination's list, lists of cases, what an accepted request led to, and why
+//! one is refused.
 //!
 //! Dates are those of `jiff`, from 1900-01-01 to 2999-12-31.
 #![tactic(auto)]
 
 mod case;
+mod case_list;
 mod outcome;
 mod refusal;
 
 pub use case::{CaseView, KeptCase, KeptList};
+pub use case_list::CaseList;
 pub use outcome::Outcome;
 pub use refusal::Refusal;
 
