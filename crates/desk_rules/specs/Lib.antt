@@ -2,3 +2,4 @@ pub mod States
 pub mod Evaluations
 pub mod Machine
 pub mod Views
+pub mod Marks

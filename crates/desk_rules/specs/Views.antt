@@ -10,7 +10,6 @@ use Rattle.determination_dates.specs.Effects.{effective_date}
 use Rattle.determination_dates.specs.Computed.{with_some, expiry_date, last_date}
 use Rattle.case_records.specs.declared.case.KeptCase.{KeptCase}
 use Rattle.case_records.specs.declared.case.CaseView.{CaseView}
-use Rattle.desk_rules.specs.States.{State, case_at}
 
 -- the status of a case on the desk's day; a case is never there without a day
 abbrev pub status_on : Option Date → KeptCase → Status
@@ -30,7 +29,3 @@ view_of day marked number c =
       last_day = with_some c.life.determination last_date;
       marked = marked;
     }
-
--- the case of this number, where there is one
-abbrev pub case_view : State → Bool → ℕ → Option CaseView
-case_view s marked number = option_map (view_of s.day marked number) (case_at s.cases number)

@@ -2,3 +2,4 @@ pub mod Receipts
 pub mod Desks
 pub mod Answers
 pub mod Clerks
+pub mod Marked

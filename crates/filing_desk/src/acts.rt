@@ -1,7 +1,6 @@
 //! What acts come to on the desk as it stands.
 
 ghost use Rattle.std.specs.Prelude.{◌≡◌, ◌≢◌, ◌<◌, ◌≤◌, None, Ok, Err, IfOk, IfSome, MatchResult};
-ghost use Rattle.oe_findings.specs.List.{findings_of};
 ghost use Rattle.wire_requests.specs.Limits.{IsValidAct};
 ghost use Rattle.case_values.specs.declared.act.Act.TheVariants as acts;
 ghost use Rattle.case_acts.specs.Cases.{HasLimitedDates, IsSoundStep};
@@ -12,42 +11,15 @@ ghost use Rattle.desk_rules.specs.Evaluations.{basis_of};
 ghost use Rattle.desk_rules.specs.Machine.{acted};
 
 use crate::desk::Desk;
-use airfield_findings::Findings;
-use airfields::Filing;
 use case_acts::{Effect, Extension, Step, is_before};
 use case_records::{KeptList, Outcome, Refusal};
 use case_values::{Act, Impact, Party, Submission};
 use desk_rules::MOST_CASES;
-use grid_exact::{NoMemory, Steps};
 use jiff::civil::Date;
-use oe_findings::Sky;
+use review_marks::findings;
 use std::alloc::Global;
-use std::marker::Brand;
-use std::sync::ledger::{Blank, Ledger};
 use wire_requests::plain_of;
 use wire_values::Plain;
-
-/// The findings of a structure, whose steps are counted in the ledger that `blank` opens.
-fn counted_findings<L: Ledger>(
-    alloc: Global,
-    sky: &Sky,
-    filing: &Filing,
-    blank: Blank,
-) -> Result<Findings, NoMemory>
-    requires name { blank.name ≡ L.name }
-    requires parts { blank.parts ≡ L.parts }
-    requires some { 0 < L.parts }
-    ensures { IfOk result (λ list. list ≡ findings_of sky.now filing.now) }
-{
-    sky.findings(alloc, filing, &mut Steps::<L>::new(blank))
-}
-
-/// The findings of a structure.
-fn findings(alloc: Global, sky: &Sky, filing: &Filing) -> Result<Findings, NoMemory>
-    ensures { IfOk result (λ list. list ≡ findings_of sky.now filing.now) }
-{
-    counted_findings::<Brand>(alloc, sky, filing, Blank::new(1))
-}
 
 impl Desk {
     /// What a new day comes to.

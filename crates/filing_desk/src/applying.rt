@@ -5,10 +5,11 @@ ghost use Rattle.case_values.specs.contracts.act.ActPartialEq.TheImpl as act;
 ghost use Rattle.case_acts.specs.Cases.{IsSoundStep};
 ghost use Rattle.desk_rules.specs.States.{State, entry_of};
 ghost use Rattle.desk_rules.specs.Machine.{decide_new, registered, repeated as repeat};
+ghost use Rattle.desk_rules.specs.Marks.{Goes};
 ghost use Rattle.filing_desk.specs.Answers.{Answers, decision};
 
 use crate::answer::Answer;
-use crate::desk::Desk;
+use crate::office::Office;
 use case_acts::Effect;
 use case_records::Refusal;
 use case_values::Act;
@@ -42,14 +43,15 @@ fn repeated(alloc: Global, entry: &Entry, c: &Change) -> Answer
     }
 }
 
-impl Desk {
+impl Office {
     /// Accepts a request with this effect, where the rules of the register allow that.
     fn accept(&mut self, alloc: Global, c: &Change, effect: Effect) -> Answer
         requires new { entry_of c.now.caller c.now.key self.old.entries ≡ None }
         requires sound { IsSoundStep effect.step }
+        requires goes { Goes self.old effect.step }
         ensures { Answers (decide_new self.old c.now (registered self.old.register (Ok effect))) self.old self.new result }
     {
-        let Some(number) = (self.receipts.len() as u64).checked_add(1) else {
+        let Some(number) = (self.desk.receipts.len() as u64).checked_add(1) else {
             return Answer::Refused(Refusal::NoMemory);
         };
         let Ok(outcome) = effect.outcome.copy(alloc) else {
@@ -74,12 +76,12 @@ impl Desk {
     pub(crate) fn apply(&mut self, alloc: Global, c: &Change) -> Answer
         ensures { Answers (decision self.old c.now) self.old self.new result }
     {
-        match self.receipts.find(c.caller, c.key) {
+        match self.desk.receipts.find(c.caller, c.key) {
             Some(entry) => return repeated(alloc, entry, c),
             None => {}
         }
         c.has_record();
-        match self.acted(alloc, &c.act) {
+        match self.desk.acted(alloc, &c.act) {
             Ok(effect) => self.accept(alloc, c, effect),
             Err(why) => Answer::Refused(why),
         }

@@ -8,7 +8,7 @@ ghost use Rattle.filing_desk.specs.Answers.{decision};
 ghost use Rattle.filing_desk.specs.Clerks.{Advances};
 
 use crate::answer::Answer;
-use crate::desk::Desk;
+use crate::office::Office;
 use crate::view::view_of;
 use airfields::Filing;
 use case_records::CaseView;
@@ -21,7 +21,7 @@ use wire_requests::Change;
 /// accepted since the opening; the state is always the replay of these from the state at the opening, which holds nothing.
 #[derive(Drop)]
 pub struct Clerk {
-    pub(crate) desk: Desk,
+    pub(crate) office: Office,
 }
 
 impl Model for Clerk {
@@ -30,9 +30,9 @@ impl Model for Clerk {
 
     ghost Value = { Clerking };
 
-    ghost view = { λ c. record { state = c.desk; accepted = c.desk.entries } };
+    ghost view = { λ c. record { state = c.office; accepted = c.office.entries } };
 
-    ghost invariant = { λ c. IsReplay empty (record { state = c.desk; accepted = c.desk.entries }) };
+    ghost invariant = { λ c. IsReplay empty (record { state = c.office; accepted = c.office.entries }) };
 }
 
 impl Clerk {
@@ -46,15 +46,15 @@ impl Clerk {
     pub fn apply(&mut self, alloc: Global, c: &Change) -> Answer
         ensures { Advances (decision self.old.state c.now) self.old self.new result }
     {
-        self.desk.apply(alloc, c)
+        self.office.apply(alloc, c)
     }
 
     /// What is told of the case of this number; `None` exactly where there is no such case. Whether it is marked is for the caller to say.
     pub fn case_view(&self, number: u32, marked: bool) -> Option<CaseView>
         ensures { result ≡ case_view self.now.state marked number }
     {
-        match self.desk.case(number) {
-            Some(case) => Some(view_of(self.desk.day(), marked, number, case)),
+        match self.office.desk.case(number) {
+            Some(case) => Some(view_of(self.office.desk.day(), marked, number, case)),
             None => None,
         }
     }
@@ -63,7 +63,7 @@ impl Clerk {
     pub fn filing(&self, number: u32) -> Option<Filing>
         ensures { result ≡ option_map site_of (case_at self.now.state.cases number) }
     {
-        match self.desk.case(number) {
+        match self.office.desk.case(number) {
             Some(case) => Some(case.submission.filing),
             None => None,
         }
@@ -73,13 +73,13 @@ impl Clerk {
     pub fn accepted(&self) -> u64
         ensures { result ≡ last_number self.now.state }
     {
-        self.desk.receipts.len() as u64
+        self.office.desk.receipts.len() as u64
     }
 
     /// The airfields as they stand, with the surfaces over them.
     pub fn sky(&self) -> &Sky
         ensures { result.now ≡ self.now.state.register }
     {
-        &self.desk.sky
+        &self.office.desk.sky
     }
 }

@@ -4,9 +4,12 @@ ghost use Rattle.std.specs.Prelude.{◌≡◌, IfSome, option_copied, slice_get}
 ghost use Rattle.case_acts.specs.Cases.{IsSound};
 ghost use Rattle.determination_dates.specs.Days.{IsLimited};
 ghost use Rattle.desk_rules.specs.States.{empty, case_at};
+ghost use Rattle.desk_rules.specs.Marks.{stands_in};
 ghost use Rattle.filing_desk.specs.Desks.{AreSound};
 
 use crate::receipts::Receipts;
+use crate::view::status_on;
+use case_acts::is_standing;
 use case_records::KeptCase;
 use determination_dates::ClosedDays;
 use jiff::civil::Date;
@@ -77,6 +80,16 @@ impl Desk {
             return None;
         }
         self.case_in(number as usize - 1)
+    }
+
+    /// Whether the determination of the case of this number stands on the desk's day.
+    pub(crate) fn stands(&self, number: u32) -> bool
+        ensures { result ≡ stands_in self.now number }
+    {
+        match self.case(number) {
+            Some(case) => is_standing(status_on(self.today, case)),
+            None => false,
+        }
     }
 
     /// The desk's day.

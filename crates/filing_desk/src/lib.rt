@@ -8,9 +8,12 @@ mod answer;
 mod applying;
 mod clerk;
 mod desk;
+mod marking;
+mod office;
 mod opening;
 mod receipt_key;
 mod receipts;
+mod register_change;
 mod steps;
 mod view;
 

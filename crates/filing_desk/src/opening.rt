@@ -4,7 +4,7 @@ ghost use Rattle.std.specs.Prelude.{◌≡◌, [], IfOk};
 ghost use Rattle.desk_rules.specs.States.{empty};
 
 use crate::clerk::Clerk;
-use crate::desk::Desk;
+use crate::office::Office;
 use grid_exact::NoMemory;
 use std::alloc::Global;
 
@@ -14,7 +14,7 @@ impl Clerk {
         ensures { result ≡ record { state = empty; accepted = [] } }
     {
         Clerk {
-            desk: Desk::empty(alloc),
+            office: Office::empty(alloc),
         }
     }
 

@@ -9,7 +9,7 @@ use determination_dates::{Status, effective, expiry, last_extension_day, status}
 use jiff::civil::Date;
 
 /// How a case stands on the desk's day.
-fn status_on(day: Option<Date>, case: &KeptCase) -> Status
+pub(crate) fn status_on(day: Option<Date>, case: &KeptCase) -> Status
     requires { IsSound case.now }
     ensures { result ≡ status_by day case.now }
 {

@@ -2,7 +2,7 @@ use Rattle.std.proofs.Common.{◌≡◌, Some, sym, subst}
 use Rattle.wire_requests.specs.Changes.{Asked}
 use Rattle.desk_rules.specs.States.{State, entry_of}
 use Rattle.filing_desk.proofs.Deciding.{known_as}
-use Rattle.filing_desk.proofs.desk.Desk.apply.Goals as goal
+use Rattle.filing_desk.proofs.office.Office.apply.Goals as goal
 
 pub returns-in-Some : goal.returns-in-Some
 returns-in-Some c =

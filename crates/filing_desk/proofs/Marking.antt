@@ -1,0 +1,373 @@
+-- The marks after each step.
+use Rattle.std.proofs.Common.{◌≡◌, ◌≢◌, refl, sym, ap, ◌∙◌, subst, arith, ℕ, zero, suc, ◌+◌, ◌-◌, ◌==◌, ◌<◌, ◌≤◌, nat_eq, nat_lt, nat_le, Bool, true, false, not, ◌||◌, cond, if◌then◌else◌, List, [], ◌∷◌, ◌++◌, length, Option, Some, None, IfSome, slice_get, slice_set, int_lt, ◌≤ℤ◌, ℤ}
+use Rattle.std.proofs.lemmas.Grind.{common_steps}
+use Rattle.std.specs.Option.{option_map, option_map_or}
+use Rattle.jiff_core.specs.declared.civil.date.Date.{Date}
+use Rattle.jiff_core.specs.Date.{epoch_day}
+use Rattle.airfields.specs.declared.airfield.Airfield.{Airfield}
+use Rattle.oe_findings.specs.List.{findings_of}
+use Rattle.determination_dates.specs.declared.life.Life.{Life}
+use Rattle.determination_dates.specs.declared.life.End.{End}
+use Rattle.determination_dates.specs.declared.life.End.TheVariants as ends
+use Rattle.determination_dates.specs.declared.life.Status.{Status}
+use Rattle.determination_dates.specs.declared.life.Status.TheVariants as statuses
+use Rattle.determination_dates.specs.declared.determination.Record.{Record}
+use Rattle.determination_dates.specs.declared.determination.Decision.{Decision}
+use Rattle.determination_dates.specs.declared.determination.Decision.TheVariants.{NoHazard, Hazard}
+use Rattle.determination_dates.specs.Effects.{effective_date, expiry_day}
+use Rattle.determination_dates.specs.Statuses.{status_of, by_end, by_record, by_effective, in_effect, is_past}
+use Rattle.determination_dates.specs.Computed.{with_some}
+use Rattle.case_records.specs.declared.case.KeptCase.{KeptCase}
+use Rattle.case_records.specs.declared.case.KeptList.{KeptList}
+use Rattle.case_acts.specs.Standing.{is_standing}
+use Rattle.case_acts.specs.declared.effect.Step.TheVariants as steps
+use Rattle.review_marks.specs.Books.{row_at, joined, marked_as, differs, closed, committed}
+use Rattle.review_marks.specs.Shares.{AirfieldChange, concerns}
+use Rattle.review_marks.specs.Turns.{Leads, turned}
+use Rattle.review_marks.specs.declared.row.Row.{Row}
+use Rattle.review_marks.proofs.Unconcerned.{unconcerned}
+use Rattle.desk_rules.specs.States.{State, case_at, changed_at, with_case, with_entry, stepped}
+use Rattle.desk_rules.specs.Views.{status_on}
+use Rattle.desk_rules.specs.Marks.{Goes, stands_on, stands_in, compared, watched, row_of}
+use Rattle.filing_desk.specs.Desks.{with_register}
+use Rattle.filing_desk.specs.Marked.{AreMarks, HasDay}
+
+-- ---- the airfields are others
+
+compared_as : (s : State) (airfields : List Airfield) (change : AirfieldChange) (c : KeptCase) (kept : KeptList) (b : Bool) → Leads s.register airfields change → concerns change c.submission.filing ≡ b
+    → (if b then marked_as (differs kept.list (findings_of airfields c.submission.filing)) (compared s c kept) else compared s c kept) ≡ compared (with_register airfields s) c kept
+compared_as s airfields change c kept true l h = refl
+compared_as s airfields change c kept false l h =
+    ap (λ list. record { filing = c.submission.filing; stored = kept.list; marked = differs kept.list list }) (unconcerned s.register airfields change c.submission.filing l h)
+
+watched_as : (s : State) (airfields : List Airfield) (change : AirfieldChange) (c : KeptCase) (b : Bool) (list : Option KeptList) → Leads s.register airfields change
+    → option_map (turned airfields change) (cond b (option_map (compared s c) list) None) ≡ cond b (option_map (compared (with_register airfields s) c) list) None
+watched_as s airfields change c false list l = refl
+watched_as s airfields change c true None l = refl
+watched_as s airfields change c true (Some kept) l = ap Some (compared_as s airfields change c kept (concerns change c.submission.filing) l refl)
+
+row_as : (s : State) (airfields : List Airfield) (change : AirfieldChange) (o : Option KeptCase) → Leads s.register airfields change → option_map (turned airfields change) (with_some o (watched s)) ≡ with_some o (watched (with_register airfields s))
+row_as s airfields change None l = refl
+row_as s airfields change (Some c) l = watched_as s airfields change c (stands_on s.day c) c.list l
+
+pub marks_amended : (s : State) (airfields : List Airfield) (change : AirfieldChange) (rows new : List (Option Row)) → Leads s.register airfields change → AreMarks s rows
+    → ((n : ℕ) → row_at new n ≡ option_map (turned airfields change) (row_at rows n)) → AreMarks (with_register airfields s) new
+marks_amended s airfields change rows new l are turns n =
+    turns n ∙ ap (option_map (turned airfields change)) (are n) ∙ row_as s airfields change (case_at s.cases n) l
+
+-- ---- a case is changed
+
+map_same : (o : Option KeptCase) → o ≡ option_map (λ c. c) o
+map_same None = refl
+map_same (Some c) = refl
+
+abbrev put_by_found : List KeptCase → ℕ → (KeptCase → KeptCase) → Option KeptCase → List KeptCase
+put_by_found cases k f None = cases
+put_by_found cases k f (Some c) = slice_set cases k (f c)
+
+case_placed : (cases : List KeptCase) (f : KeptCase → KeptCase) (k j : ℕ) (v : Option KeptCase) → slice_get cases k ≡ v → slice_get (put_by_found cases k f v) j ≡ option_map (λ c. cond (nat_eq k j) (f c) c) (slice_get cases j)
+case_placed [] f k j v e = rw ← e refl
+case_placed (c ∷ cases) f zero zero v e = rw ← e refl
+case_placed (c ∷ cases) f zero (suc j) v e = rw ← e (map_same (slice_get cases j))
+case_placed (c ∷ cases) f (suc k) zero None e = refl
+case_placed (c ∷ cases) f (suc k) zero (Some d) e = refl
+case_placed (c ∷ cases) f (suc k) (suc j) None e = case_placed cases f k j None e
+case_placed (c ∷ cases) f (suc k) (suc j) (Some d) e = case_placed cases f k j (Some d) e
+
+by_places : (k n : ℕ) → (k == 0) ≡ false → (n == 0) ≡ false → nat_eq (k - 1) (n - 1) ≡ nat_eq k n
+by_places zero n h e = absurd (cc (h))
+by_places (suc k) zero h e = absurd (cc (e))
+by_places (suc k) (suc n) h e = refl
+
+apart : (k n : ℕ) → (k == 0) ≡ true → (n == 0) ≡ false → nat_eq k n ≡ false
+apart zero zero h e = absurd (cc (e))
+apart zero (suc n) h e = refl
+apart (suc k) n h e = absurd (cc (h))
+
+changed_put : (number : ℕ) (f : KeptCase → KeptCase) (cases : List KeptCase) (v : Option KeptCase) → changed_at number f cases v ≡ put_by_found cases (number - 1) f v
+changed_put number f cases None = refl
+changed_put number f cases (Some c) = refl
+
+case_by : (k : ℕ) (f : KeptCase → KeptCase) (cases : List KeptCase) (n : ℕ) (b d : Bool) → (k == 0) ≡ b → (n == 0) ≡ d
+    → cond d None (slice_get (changed_at k f cases (cond b None (slice_get cases (k - 1)))) (n - 1)) ≡ option_map (λ c. cond (nat_eq k n) (f c) c) (cond d None (slice_get cases (n - 1)))
+case_by k f cases n b true h e = refl
+case_by k f cases n true false h e = map_same (slice_get cases (n - 1)) ∙ ap (λ (x : Bool). option_map (λ c. cond x (f c) c) (slice_get cases (n - 1))) (sym (apart k n h e))
+case_by k f cases n false false h e =
+    ap (λ (xs : List KeptCase). slice_get xs (n - 1)) (changed_put k f cases (slice_get cases (k - 1))) ∙ case_placed cases f (k - 1) (n - 1) (slice_get cases (k - 1)) refl
+    ∙ ap (λ (x : Bool). option_map (λ c. cond x (f c) c) (slice_get cases (n - 1))) (by_places k n h e)
+
+-- the case of a number after the one of a number was changed
+pub case_changed : (k : ℕ) (f : KeptCase → KeptCase) (cases : List KeptCase) (n : ℕ) → case_at (with_case k f cases) n ≡ option_map (λ c. cond (nat_eq k n) (f c) c) (case_at cases n)
+case_changed k f cases n = case_by k f cases n (k == 0) (n == 0) refl refl
+
+pub same_number : (x y : ℕ) → nat_eq x y ≡ true → x ≡ y
+same_number x y h = grind (arith, common_steps, h)
+
+-- where no case is watched otherwise than before
+kept_by : (s : State) (f : KeptCase → KeptCase) (b : Bool) (o : Option KeptCase) → ((c : KeptCase) → watched s (f c) ≡ watched s c) → with_some (option_map (λ c. cond b (f c) c) o) (watched s) ≡ with_some o (watched s)
+kept_by s f b None h = refl
+kept_by s f true (Some c) h = h c
+kept_by s f false (Some c) h = refl
+
+pub marks_formed : (s : State) (k : ℕ) (f : KeptCase → KeptCase) (rows : List (Option Row)) → ((c : KeptCase) → watched s (f c) ≡ watched s c) → AreMarks s rows → AreMarks (record s { cases = with_case k f s.cases }) rows
+marks_formed s k f rows same are n =
+    are n ∙ sym (kept_by s f (nat_eq k n) (case_at s.cases n) same) ∙ ap (λ o. with_some o (watched s)) (sym (case_changed k f s.cases n))
+
+-- ---- a case is opened
+
+more_at : (cases : List KeptCase) (c : KeptCase) (i : ℕ) (P : Option KeptCase → Type 0) → P (slice_get cases i) → (slice_get cases i ≡ None → P (Some c)) → P (slice_get (cases ++ c ∷ []) i)
+more_at [] c zero P here last = last refl
+more_at [] c (suc i) P here last = here
+more_at (d ∷ cases) c zero P here last = here
+more_at (d ∷ cases) c (suc i) P here last = more_at cases c i P here last
+
+unlisted : (s : State) (c : KeptCase) (list : Option KeptList) (b : Bool) → list ≡ None → cond b (option_map (compared s c) list) None ≡ None
+unlisted s c None true h = refl
+unlisted s c (Some kept) true h = absurd (cc (h))
+unlisted s c list false h = refl
+
+opened_at : (s : State) (c : KeptCase) (n : ℕ) (x : Option Row) (d : Bool) → c.list ≡ None → x ≡ with_some (cond d None (slice_get s.cases (n - 1))) (watched s)
+    → x ≡ with_some (cond d None (slice_get (s.cases ++ c ∷ []) (n - 1))) (watched s)
+opened_at s c n x true h are = are
+opened_at s c n x false h are =
+    more_at s.cases c (n - 1) (λ o. x ≡ with_some o (watched s)) are
+    (λ none. are ∙ ap (λ o. with_some o (watched s)) none ∙ sym (unlisted s c c.list (stands_on s.day c) h))
+
+pub marks_opened : (s : State) (c : KeptCase) (rows : List (Option Row)) → c.list ≡ None → AreMarks s rows → AreMarks (record s { cases = s.cases ++ c ∷ [] }) rows
+marks_opened s c rows h are n = opened_at s c n (row_at rows n) (n == 0) h (are n)
+
+-- ---- a case has another life
+
+get_none : (rows : List (Option Row)) (k j : ℕ) → k < length rows → slice_get (slice_set rows k None) j ≡ cond (nat_eq k j) (Some None) (slice_get rows j)
+get_none [] k j h = absurd (omega (arith, h))
+get_none (o ∷ rows) zero zero h = refl
+get_none (o ∷ rows) zero (suc j) h = refl
+get_none (o ∷ rows) (suc k) zero h = refl
+get_none (o ∷ rows) (suc k) (suc j) h = get_none rows k j (omega (arith, h))
+
+get_some : (rows : List (Option Row)) (r : Row) (k j : ℕ) → k < length rows → slice_get (slice_set rows k (Some r)) j ≡ cond (nat_eq k j) (Some (Some r)) (slice_get rows j)
+get_some [] r k j h = absurd (omega (arith, h))
+get_some (o ∷ rows) r zero zero h = refl
+get_some (o ∷ rows) r zero (suc j) h = refl
+get_some (o ∷ rows) r (suc k) zero h = refl
+get_some (o ∷ rows) r (suc k) (suc j) h = get_some rows r k j (omega (arith, h))
+
+past : (rows : List (Option Row)) (j : ℕ) → nat_lt j (length rows) ≡ false → slice_get rows j ≡ None
+past [] j h = refl
+past (o ∷ rows) zero h = absurd (cc (h))
+past (o ∷ rows) (suc j) h = past rows j h
+
+past_by_number : (rows : List (Option Row)) (n : ℕ) (d : Bool) → (n == 0) ≡ d → nat_lt (length rows) n ≡ true → cond d None (joined (slice_get rows (n - 1))) ≡ None
+past_by_number rows n true e h = refl
+past_by_number rows n false e h = ap joined (past rows (n - 1) (grind (arith, common_steps, e, h)))
+
+-- there is no row beyond the last
+pub row_past : (rows : List (Option Row)) (n : ℕ) → nat_lt (length rows) n ≡ true → row_at rows n ≡ None
+row_past rows n h = past_by_number rows n (n == 0) refl h
+
+short : (i n : ℕ) → nat_lt i n ≡ true → i < n
+short i n h = grind (arith, common_steps, h)
+
+joined_cond : (b : Bool) (v : Option Row) (o : Option (Option Row)) → joined (cond b (Some v) o) ≡ cond b v (joined o)
+joined_cond true v o = refl
+joined_cond false v o = refl
+
+cond_none : (b : Bool) (o : Option Row) → o ≡ None → o ≡ cond b None o
+cond_none true o h = h
+cond_none false o h = refl
+
+none_past : (rows : List (Option Row)) (k j : ℕ) (b : Bool) → nat_lt k (length rows) ≡ false → nat_eq k j ≡ b → joined (slice_get rows j) ≡ cond b None (joined (slice_get rows j))
+none_past rows k j true h e = ap joined (past rows j (ap (λ i. nat_lt i (length rows)) (sym (same_number k j e)) ∙ h))
+none_past rows k j false h e = refl
+
+closed_place : (rows : List (Option Row)) (k j : ℕ) (b : Bool) → nat_lt k (length rows) ≡ b → joined (slice_get (cond b (slice_set rows k None) rows) j) ≡ cond (nat_eq k j) None (joined (slice_get rows j))
+closed_place rows k j true h = ap joined (get_none rows k j (short k (length rows) h)) ∙ joined_cond (nat_eq k j) None (slice_get rows j)
+closed_place rows k j false h = none_past rows k j (nat_eq k j) h refl
+
+closed_by : (rows : List (Option Row)) (k n : ℕ) (b d : Bool) → (k == 0) ≡ b → (n == 0) ≡ d
+    → cond d None (joined (slice_get (cond b rows (cond (nat_lt (k - 1) (length rows)) (slice_set rows (k - 1) None) rows)) (n - 1))) ≡ cond (nat_eq k n) None (cond d None (joined (slice_get rows (n - 1))))
+closed_by rows k n b true h e = cond_none (nat_eq k n) None refl
+closed_by rows k n true false h e = ap (λ (x : Bool). cond x None (joined (slice_get rows (n - 1)))) (sym (apart k n h e))
+closed_by rows k n false false h e =
+    closed_place rows (k - 1) (n - 1) (nat_lt (k - 1) (length rows)) refl ∙ ap (λ (x : Bool). cond x None (joined (slice_get rows (n - 1)))) (by_places k n h e)
+
+-- the row of a case after one was closed
+pub closed_row : (rows : List (Option Row)) (k n : ℕ) → row_at (closed k rows) n ≡ cond (nat_eq k n) None (row_at rows n)
+closed_row rows k n = closed_by rows k n (k == 0) (n == 0) refl refl
+
+put_by : (rows : List (Option Row)) (r : Row) (k n : ℕ) (d : Bool) → (k == 0) ≡ false → k - 1 < length rows → (n == 0) ≡ d
+    → cond d None (joined (slice_get (slice_set rows (k - 1) (Some r)) (n - 1))) ≡ cond (nat_eq k n) (Some r) (cond d None (joined (slice_get rows (n - 1))))
+put_by rows r k n true h fits e = ap (λ (x : Bool). cond x (Some r) None) (sym (other k n h e))
+  where
+    other : (k n : ℕ) → (k == 0) ≡ false → (n == 0) ≡ true → nat_eq k n ≡ false
+    other zero n h e = absurd (cc (h))
+    other (suc k) zero h e = refl
+    other (suc k) (suc n) h e = absurd (cc (e))
+put_by rows r k n false h fits e =
+    ap joined (get_some rows r (k - 1) (n - 1) fits) ∙ joined_cond (nat_eq (k - 1) (n - 1)) (Some r) (slice_get rows (n - 1))
+    ∙ ap (λ (x : Bool). cond x (Some r) (joined (slice_get rows (n - 1)))) (by_places k n h e)
+
+-- and after one was put
+put_row : (rows : List (Option Row)) (r : Row) (k n : ℕ) → 1 ≤ k → k ≤ length rows → row_at (slice_set rows (k - 1) (Some r)) n ≡ cond (nat_eq k n) (Some r) (row_at rows n)
+put_row rows r k n low high = put_by rows r k n (n == 0) (grind (arith, common_steps, low)) (omega (arith, low, high)) refl
+
+-- what is watched of the case that has another life
+same_watch : (s : State) (life : Life) (c : KeptCase) (b : Bool) → stands_on s.day c ≡ b → (b ≡ false → stands_on s.day (record c { life = life }) ≡ false) → stands_on s.day (record c { life = life }) ≡ true
+    → watched s c ≡ watched s (record c { life = life })
+same_watch s life c true is goes stands = ap (λ (x : Bool). cond x (option_map (compared s c) c.list) None) (is ∙ sym stands)
+same_watch s life c false is goes stands = absurd (cc (goes refl, stands))
+
+life_kept : (s : State) (life : Life) (b : Bool) (o : Option KeptCase) → ((c : KeptCase) → b ≡ true → o ≡ Some c → (stands_on s.day c ≡ false → stands_on s.day (record c { life = life }) ≡ false) × (stands_on s.day (record c { life = life }) ≡ true))
+    → with_some o (watched s) ≡ with_some (option_map (λ c. cond b (record c { life = life }) c) o) (watched s)
+life_kept s life b None h = refl
+life_kept s life true (Some c) h = let p = h c refl refl in same_watch s life c (stands_on s.day c) refl p.0 p.1
+life_kept s life false (Some c) h = refl
+
+at_same : (cases : List KeptCase) (k n : ℕ) (c : KeptCase) → nat_eq k n ≡ true → case_at cases n ≡ Some c → case_at cases k ≡ Some c
+at_same cases k n c e at = ap (case_at cases) (same_number k n e) ∙ at
+
+stands_then : (s : State) (k : ℕ) (f : KeptCase → KeptCase) (c : KeptCase) (b : Bool) → case_at s.cases k ≡ Some c → stands_in (record s { cases = with_case k f s.cases }) k ≡ b → stands_on s.day (f c) ≡ b
+stands_then s k f c b at h =
+    let found : case_at (with_case k f s.cases) k ≡ Some (f c) = case_changed k f s.cases k ∙ ap (option_map (λ d. cond (nat_eq k k) (f d) d)) at ∙ ap (λ (x : Bool). Some (cond x (f c) c)) (itself k) in
+    ap (λ o. option_map_or (stands_on s.day) o false) (sym found) ∙ h
+  where
+    itself : (k : ℕ) → nat_eq k k ≡ true
+    itself zero = refl
+    itself (suc k) = itself k
+
+pub marks_alive : (s : State) (k : ℕ) (life : Life) (rows : List (Option Row)) → Goes s (steps.LifePut k life) → AreMarks s rows
+    → stands_in (record s { cases = with_case k (λ c. record c { life = life }) s.cases }) k ≡ true → AreMarks (record s { cases = with_case k (λ c. record c { life = life }) s.cases }) rows
+marks_alive s k life rows goes are stands n =
+    are n
+    ∙ life_kept s life (nat_eq k n) (case_at s.cases n)
+    (λ c e at. (let there = at_same s.cases k n c e at in (goes c there, stands_then s k (λ d. record d { life = life }) c true there stands)))
+    ∙ ap (λ o. with_some o (watched s)) (sym (case_changed k (λ c. record c { life = life }) s.cases n))
+
+not_watched : (s : State) (c : KeptCase) (b : Bool) → stands_on s.day c ≡ b → b ≡ false → watched s c ≡ None
+not_watched s c true is h = absurd (cc (h))
+not_watched s c false is h = ap (λ (x : Bool). cond x (option_map (compared s c) c.list) None) is
+
+fallen_at : (s : State) (f : KeptCase → KeptCase) (b : Bool) (o : Option KeptCase) → ((c : KeptCase) → b ≡ true → o ≡ Some c → stands_on s.day (f c) ≡ false)
+    → cond b None (with_some o (watched s)) ≡ with_some (option_map (λ c. cond b (f c) c) o) (watched s)
+fallen_at s f true None h = refl
+fallen_at s f false None h = refl
+fallen_at s f true (Some c) h = sym (not_watched s (f c) (stands_on s.day (f c)) refl (h c refl refl))
+fallen_at s f false (Some c) h = refl
+
+-- of any change of a case after which its determination does not stand
+pub marks_fallen : (s : State) (k : ℕ) (f : KeptCase → KeptCase) (rows : List (Option Row)) → AreMarks s rows → stands_in (record s { cases = with_case k f s.cases }) k ≡ false
+    → AreMarks (record s { cases = with_case k f s.cases }) (closed k rows)
+marks_fallen s k f rows are fallen n =
+    closed_row rows k n ∙ ap (cond (nat_eq k n) None) (are n)
+    ∙ fallen_at s f (nat_eq k n) (case_at s.cases n) (λ c e at. stands_then s k f c false (at_same s.cases k n c e at) fallen)
+    ∙ ap (λ o. with_some o (watched s)) (sym (case_changed k f s.cases n))
+
+-- ---- a determination is issued
+
+abbrev issued_case : Life → KeptList → KeptCase → KeptCase
+issued_case life kept c = record c { life = life; list = Some kept }
+
+abbrev unmarked : KeptCase → KeptList → Row
+unmarked c kept = record { filing = c.submission.filing; stored = kept.list; marked = false }
+
+issued_at : (s : State) (life : Life) (kept : KeptList) (there : KeptCase) (b : Bool) (o : Option KeptCase) → differs kept.list (findings_of s.register there.submission.filing) ≡ false
+    → (b ≡ true → (o ≡ Some there) × (stands_on s.day (issued_case life kept there) ≡ true))
+    → cond b (Some (unmarked there kept)) (with_some o (watched s)) ≡ with_some (option_map (λ c. cond b (issued_case life kept c) c) o) (watched s)
+issued_at s life kept there false None same h = refl
+issued_at s life kept there false (Some c) same h = refl
+issued_at s life kept there true o same h =
+    let p = h refl in
+    ap (λ (m : Bool). Some (record { filing = there.submission.filing; stored = kept.list; marked = m })) (sym same)
+    ∙ ap (λ (x : Bool). cond x (Some (compared s (issued_case life kept there) kept)) None) (sym p.1)
+    ∙ ap (λ o. with_some (option_map (λ c. issued_case life kept c) o) (watched s)) (sym p.0)
+
+pub marks_issued : (s : State) (k : ℕ) (life : Life) (kept : KeptList) (there : KeptCase) (rows : List (Option Row)) → AreMarks s rows → 1 ≤ k → k ≤ length rows → case_at s.cases k ≡ Some there
+    → differs kept.list (findings_of s.register there.submission.filing) ≡ false → stands_in (record s { cases = with_case k (issued_case life kept) s.cases }) k ≡ true
+    → AreMarks (record s { cases = with_case k (issued_case life kept) s.cases }) (slice_set rows (k - 1) (Some (unmarked there kept)))
+marks_issued s k life kept there rows are low high at same stands n =
+    put_row rows (unmarked there kept) k n low high ∙ ap (cond (nat_eq k n) (Some (unmarked there kept))) (are n)
+    ∙ issued_at s life kept there (nat_eq k n) (case_at s.cases n) same (λ e. (ap (case_at s.cases) (sym (same_number k n e)) ∙ at, stands_then s k (issued_case life kept) there true at stands))
+    ∙ ap (λ o. with_some o (watched s)) (sym (case_changed k (issued_case life kept) s.cases n))
+
+-- where it does not stand, the row that was put is closed again
+closed_over : (rows : List (Option Row)) (r : Row) (k n : ℕ) (b : Bool) (o : Option Row) → cond b None (cond b (Some r) o) ≡ cond b None o
+closed_over rows r k n true o = refl
+closed_over rows r k n false o = refl
+
+pub closed_put : (rows : List (Option Row)) (r : Row) (k : ℕ) → 1 ≤ k → k ≤ length rows → (n : ℕ) → row_at (closed k (slice_set rows (k - 1) (Some r))) n ≡ row_at (closed k rows) n
+closed_put rows r k low high n =
+    closed_row (slice_set rows (k - 1) (Some r)) k n ∙ ap (cond (nat_eq k n) None) (put_row rows r k n low high) ∙ closed_over rows r k n (nat_eq k n) (row_at rows n) ∙ sym (closed_row rows k n)
+
+-- ---- the desk has another day
+
+still_late : (x y e : ℤ) → x ≤ℤ y → int_lt x e ≡ false → int_lt y e ≡ false
+still_late x y e le h = grind (arith, common_steps, le, h)
+
+still_past : (z x y : ℤ) → x ≤ℤ y → int_lt z x ≡ true → int_lt z y ≡ true
+still_past z x y le h = grind (arith, common_steps, le, h)
+
+past_by : (o : Option ℤ) (x y : ℤ) → x ≤ℤ y → is_past o x ≡ true → is_past o y ≡ true
+past_by None x y le h = absurd (cc (h))
+past_by (Some z) x y le h = still_past z x y le h
+
+fall_past : (o : Option ℤ) (x y : ℤ) (b : Bool) → x ≤ℤ y → is_past o x ≡ b → is_standing (if b then statuses.Expired else statuses.InForce) ≡ false → is_standing (if is_past o y then statuses.Expired else statuses.InForce) ≡ false
+fall_past o x y true le is h = ap (λ (b : Bool). is_standing (if b then statuses.Expired else statuses.InForce)) (past_by o x y le is)
+fall_past o x y false le is h = absurd (cc (h))
+
+fall_effect : (d : Decision) (o : Option ℤ) (x y : ℤ) → x ≤ℤ y → is_standing (in_effect d o x) ≡ false → is_standing (in_effect d o y) ≡ false
+fall_effect Hazard o x y le h = absurd (cc (h))
+fall_effect NoHazard o x y le h = fall_past o x y (is_past o x) le refl h
+
+fall_by : (r : Record) (e : Date) (x y : ℤ) (b : Bool) → x ≤ℤ y → int_lt x (epoch_day e) ≡ b → is_standing (if b then statuses.Pending else in_effect r.decision (expiry_day r) x) ≡ false
+    → is_standing (if int_lt y (epoch_day e) then statuses.Pending else in_effect r.decision (expiry_day r) y) ≡ false
+fall_by r e x y true le is h = absurd (cc (h))
+fall_by r e x y false le is h =
+    ap (λ (b : Bool). is_standing (if b then statuses.Pending else in_effect r.decision (expiry_day r) y)) (still_late x y (epoch_day e) le is) ∙ fall_effect r.decision (expiry_day r) x y le h
+
+fall_effective : (o : Option Date) (r : Record) (x y : ℤ) → x ≤ℤ y → is_standing (by_effective o r x) ≡ false → is_standing (by_effective o r y) ≡ false
+fall_effective None r x y le h = absurd (cc (h))
+fall_effective (Some e) r x y le h = fall_by r e x y (int_lt x (epoch_day e)) le refl h
+
+fall_record : (o : Option Record) (x y : ℤ) → x ≤ℤ y → is_standing (by_record o x) ≡ false → is_standing (by_record o y) ≡ false
+fall_record None x y le h = refl
+fall_record (Some r) x y le h = fall_effective (effective_date r) r x y le h
+
+fall_end : (end : Option End) (a b : Status) → (is_standing a ≡ false → is_standing b ≡ false) → is_standing (by_end end a) ≡ false → is_standing (by_end end b) ≡ false
+fall_end None a b f h = f h
+fall_end (Some ends.Abandoned) a b f h = refl
+fall_end (Some ends.Reversed) a b f h = refl
+
+-- a determination that does not stand on a day does not stand on a later one
+pub falls : (l : Life) (x y : ℤ) → x ≤ℤ y → is_standing (status_of l x) ≡ false → is_standing (status_of l y) ≡ false
+falls l x y le h = fall_end l.end (by_record l.determination x) (by_record l.determination y) (fall_record l.determination x y le) h
+
+-- what is watched on the new day
+day_watch : (s : State) (d : Date) (c : KeptCase) (kept : Option Date) (b : Bool) → s.day ≡ kept → (kept ≡ None → ⊥) → IfSome kept (λ k. epoch_day k ≤ℤ epoch_day d) → stands_on (Some d) c ≡ b
+    → cond (not b) None (watched s c) ≡ watched (record s { day = Some d }) c
+day_watch s d c None b is has goes stands = absurd (has refl)
+day_watch s d c (Some kept) false is has goes stands = ap (λ (x : Bool). cond x (option_map (compared s c) c.list) None) (sym stands)
+day_watch s d c (Some kept) true is has goes stands =
+    let stood : stands_on (Some kept) c ≡ true = not_false (stands_on (Some kept) c) (λ f. (let g : stands_on (Some d) c ≡ false = falls c.life (epoch_day kept) (epoch_day d) goes f in cc (g, stands))) in
+    ap (λ day. cond (stands_on day c) (option_map (compared s c) c.list) None) is ∙ ap (λ (x : Bool). cond x (option_map (compared s c) c.list) None) (stood ∙ sym stands)
+  where
+    not_false : (b : Bool) → (b ≡ false → ⊥) → b ≡ true
+    not_false true h = refl
+    not_false false h = absurd (h refl)
+
+day_at : (s : State) (d : Date) (o : Option KeptCase) → ((c : KeptCase) → o ≡ Some c → s.day ≡ None → ⊥) → IfSome s.day (λ k. epoch_day k ≤ℤ epoch_day d)
+    → cond (not (option_map_or (stands_on (Some d)) o false)) None (with_some o (watched s)) ≡ with_some o (watched (record s { day = Some d }))
+day_at s d None has goes = refl
+day_at s d (Some c) has goes = day_watch s d c s.day (stands_on (Some d) c) refl (has c refl) goes refl
+
+none_found : (cases : List KeptCase) (n : ℕ) (c : KeptCase) → cases ≡ [] → case_at cases n ≡ Some c → ⊥
+none_found cases n c e at = nothing n (n == 0) (ap (λ (xs : List KeptCase). case_at xs n) (sym e) ∙ at)
+  where
+    nothing : (n : ℕ) (b : Bool) → cond b None (slice_get [] (n - 1)) ≡ Some c → ⊥
+    nothing n true h = cc (h)
+    nothing n false h = cc (h)
+
+pub marks_on_day : (s : State) (d : Date) (rows new : List (Option Row)) → HasDay s → Goes s (steps.DaySet d) → AreMarks s rows
+    → ((n : ℕ) → row_at new n ≡ cond (not (stands_in (record s { day = Some d }) n)) None (row_at rows n)) → AreMarks (record s { day = Some d }) new
+marks_on_day s d rows new has goes are closes n =
+    closes n ∙ ap (cond (not (stands_in (record s { day = Some d }) n)) None) (are n)
+    ∙ day_at s d (case_at s.cases n) (λ c at none. none_found s.cases n c (has none) at) goes

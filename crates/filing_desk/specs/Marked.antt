@@ -1,0 +1,14 @@
+-- The marks of the desk's cases.
+use Rattle.std.specs.Prelude.{◌≡◌, ℕ, List, [], Option, None}
+use Rattle.review_marks.specs.Books.{row_at}
+use Rattle.review_marks.specs.declared.row.Row.{Row}
+use Rattle.desk_rules.specs.States.{State}
+use Rattle.desk_rules.specs.Marks.{row_of}
+
+-- the book has the cases whose determinations stand, each with its structure, its stored list, and its mark as it follows from the state
+abbrev pub AreMarks : State → List (Option Row) → Type 0
+AreMarks s rows = (number : ℕ) → row_at rows number ≡ row_of s number
+
+-- there are no cases before there is a day
+abbrev pub HasDay : State → Type 0
+HasDay s = s.day ≡ None → s.cases ≡ []

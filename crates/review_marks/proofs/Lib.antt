@@ -1,0 +1,3 @@
+pub mod Unconcerned
+pub mod Turning
+pub mod Reaching

@@ -1,0 +1,38 @@
+-- Where an airfield gives nothing.
+use Rattle.std.proofs.Common.{◌≡◌, refl, sym, ap, ◌∙◌, ℕ, Bool, true, false, not, ◌&&◌, ◌||◌, List, [], Option, if◌then◌else◌}
+use Rattle.std.specs.Option.{option_map}
+use Rattle.grid_exact.specs.Area.{has_point}
+use Rattle.airfields.specs.Sites.{Site, IsSite}
+use Rattle.airfields.specs.declared.airfield.Airfield.{Airfield}
+use Rattle.airfield_findings.specs.Entries.{of_airfield, slope_entries}
+use Rattle.airfield_findings.specs.Prepared.{airfield_of}
+use Rattle.airfield_findings.specs.declared.finding.Finding.{Finding}
+use Rattle.airfield_findings.specs.declared.prepared.Prepared.{Prepared}
+use Rattle.oe_findings.proofs.Sights.{levels_of}
+use Rattle.review_marks.specs.Shares.{AirfieldChange, concerns, differ_shares, given, is_due, is_described_field, names, share_of}
+use Rattle.review_marks.specs.declared.share.Share.{Share}
+use Rattle.review_marks.proofs.Unconcerned.{same_lists}
+
+pub nothing_standards : (p : Prepared) (site : Site) → IsSite site → has_point p.area site.at ≡ false → of_airfield site (airfield_of p) ≡ []
+nothing_standards p site is out = p.in_place.standards site (levels_of site is) out
+
+pub nothing_slope : (p : Prepared) (site : Site) → IsSite site → has_point p.area site.at ≡ false → slope_entries site (airfield_of p) ≡ []
+nothing_slope p site is out = p.in_place.slopes site (levels_of site is) out
+
+abbrev nothing : Share
+nothing = record { standards = []; slope = []; is_on = false }
+
+if_nothing : (b : Bool) (xs : List Finding) → xs ≡ [] → (if b then xs else []) ≡ []
+if_nothing true xs h = h
+if_nothing false xs h = refl
+
+no_share : (id : List ℕ) (o : Option Airfield) (site : Site) → given (of_airfield site) o ≡ [] → given (slope_entries site) o ≡ [] → names id site ≡ false → share_of id o site ≡ nothing
+no_share id o site p q n =
+    λ i. record { standards = p i; slope = if_nothing (is_due site) (given (slope_entries site) o) q i; is_on = ap (λ (b : Bool). b && is_described_field o) n i }
+
+-- where neither the airfield before nor the one after gives anything, the change does not concern the structure
+pub not_reached : (c : AirfieldChange) (site : Site) → given (of_airfield site) c.was ≡ [] → given (slope_entries site) c.was ≡ [] → given (of_airfield site) c.is_now ≡ [] → given (slope_entries site) c.is_now ≡ []
+    → names c.id site ≡ false → concerns c site ≡ false
+not_reached c site p q r s n =
+    ap (λ (x : Share). differ_shares x (share_of c.id c.is_now site)) (no_share c.id c.was site p q n) ∙ ap (differ_shares nothing) (no_share c.id c.is_now site r s n)
+    ∙ ap (λ (b : Bool). (b || b) || false) (same_lists [] [] refl)

@@ -1,0 +1,6 @@
+use Rattle.std.proofs.Common.{◌≡◌}
+use Rattle.review_marks.specs.Books.{is_marked_in, numbers_up_to}
+use Rattle.review_marks.proofs.book.MarkBook.list.Given as goal
+
+abbrev pub invariant-loop-place : goal.invariant-loop-place
+invariant-loop-place l = l.list ≡ numbers_up_to (is_marked_in l.self) l.place

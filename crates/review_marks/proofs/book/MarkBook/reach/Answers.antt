@@ -1,0 +1,15 @@
+use Rattle.std.proofs.Common.{◌≡◌, ◌+◌, List, ℕ, sym, subst}
+use Rattle.review_marks.specs.Turns.{ClimbsTo, HasReached}
+use Rattle.review_marks.proofs.Turning.{reached_put, climbs_on, climbs_more}
+use Rattle.review_marks.proofs.book.MarkBook.reach.Goals as goal
+
+pub returns-in_ok-push-clause-all : goal.returns-in_ok-push-clause-all
+returns-in_ok-push-clause-all c =
+    λ h. subst (λ (ns : List ℕ). HasReached c.args.change.now c.args.self.now ns (c.args.place + 1)) (sym c.in_ok-push.ensures.items) (reached_put c.args.change.now c.args.self.now c.args.numbers.now.items c.args.place h)
+
+pub returns-in_ok-push-clause-rises : goal.returns-in_ok-push-clause-rises
+returns-in_ok-push-clause-rises c =
+    λ h. subst (λ (ns : List ℕ). ClimbsTo 0 ns (c.args.place + 1)) (sym c.in_ok-push.ensures.items) (climbs_on 0 c.args.numbers.now.items c.args.place h)
+
+pub returns-else-is_reached-clause-rises : goal.returns-else-is_reached-clause-rises
+returns-else-is_reached-clause-rises c = climbs_more 0 c.args.numbers.now.items c.args.place

@@ -1,0 +1,143 @@
+//! What a change of an airfield marks.
+
+ghost use Rattle.std.specs.Prelude.{◌≡◌, ◌<◌, ◌≤◌, ◌+◌, ◌++◌, ◌∷◌, [], ℕ, List, Some, IfOk, IfSome, OnOk, option_map, cond, false, length};
+ghost use Rattle.airfields.specs.declared.airfield.Airfield.{Airfield as AnAirfield};
+ghost use Rattle.review_marks.specs.Books.{row_at, committed, HasRoom, IsExact};
+ghost use Rattle.review_marks.specs.Shares.{AreHeld, change_of, concerns, concerns_row};
+ghost use Rattle.review_marks.specs.Turns.{by_mark, turned, concerned_count, ClimbsTo, HasReached, IsTurnedTo, Leads};
+ghost use Rattle.review_marks.specs.declared.row.Row.{Row as ARow};
+
+use crate::book::MarkBook;
+use crate::change::{Mark, MarkChange};
+use crate::listing::{differ, findings};
+use crate::share::FieldChange;
+use airport_register::Changed;
+use grid_exact::{NoMemory, Steps};
+use oe_findings::Sky;
+use std::sync::ledger::Ledger;
+
+impl MarkBook {
+    /// Whether a change may concern the case of this number: the airfield has a surface or a slope in its place, before the change or
+    /// after it, or its structure is on the airfield.
+    fn is_reached(&self, number: u32, change: &FieldChange) -> bool
+        ensures { result ≡ false → (r : ARow) → row_at self.now number ≡ Some r → concerns change.now r.filing ≡ false }
+    {
+        match self.row(number) {
+            Some(row) => change.reaches(&row.filing),
+            None => false,
+        }
+    }
+
+    /// Puts the number of the case at this place behind others, where the change may concern it.
+    fn reach(
+        &self,
+        place: u32,
+        change: &FieldChange,
+        numbers: &mut Vec<u32>,
+    ) -> Result<(), NoMemory>
+        requires { place < length self.now }
+        ensures all { OnOk result (HasReached change.now self.now numbers.old.items place → HasReached change.now self.now numbers.new.items (place + 1)) }
+        ensures rises { OnOk result (ClimbsTo 0 numbers.old.items place → ClimbsTo 0 numbers.new.items (place + 1)) }
+    {
+        let _ = &self.rows; // a proof knows the invariant of a value where it reads a field
+        if self.is_reached(place + 1, change) {
+            numbers.push(place + 1)?;
+        }
+        Ok(())
+    }
+
+    /// The numbers of the cases that a change may concern, rising.
+    fn reached(&self, change: &FieldChange) -> Result<Vec<u32>, NoMemory>
+        ensures all { IfOk result (λ ns. HasReached change.now self.now ns.items (length self.now)) }
+        ensures rises { IfOk result (λ ns. ClimbsTo 0 ns.items (length self.now)) }
+    {
+        let mut numbers = Vec::new(self.alloc);
+        for place in 0..self.last_number() {
+            self.reach(place, change, &mut numbers)?;
+        }
+        Ok(numbers)
+    }
+
+    /// The mark of a case after the change, where that is another one.
+    fn rechecked<L: Ledger>(
+        &self,
+        number: u32,
+        sky: &Sky,
+        change: &FieldChange,
+        steps: &mut Steps<L>,
+    ) -> Result<Option<Mark>, NoMemory>
+        ensures case { IfOk result (λ o. IfSome o (λ m. m.case ≡ number)) }
+        ensures mark { IfOk result (λ o. (r : ARow) → row_at self.now number ≡ Some r → by_mark o r ≡ turned sky.now change.now r) }
+        ensures steps { steps.new ≤ steps.old + cond (concerns_row change.now (row_at self.now number)) 1 0 }
+    {
+        let Some(row) = self.row(number) else {
+            return Ok(None);
+        };
+        if !change.concerns(self.alloc, &row.filing)? {
+            return Ok(None);
+        }
+        steps.tick();
+        let list = findings(self.alloc, sky, &row.filing)?;
+        let marked = differ(&row.stored, &list);
+        if marked == row.marked {
+            return Ok(None);
+        }
+        Ok(Some(Mark {
+            case: number,
+            marked,
+        }))
+    }
+
+    /// Puts the mark of a case after the change behind others, where that is another one.
+    fn recheck<L: Ledger>(
+        &self,
+        number: u32,
+        sky: &Sky,
+        change: &FieldChange,
+        marks: &mut Vec<Mark>,
+        steps: &mut Steps<L>,
+    ) -> Result<(), NoMemory>
+        ensures turned { OnOk result ((ks : List ℕ) → IsTurnedTo sky.now change.now self.now marks.old.items ks → IsTurnedTo sky.now change.now self.now marks.new.items (ks ++ number ∷ [])) }
+        ensures steps { steps.new ≤ steps.old + cond (concerns_row change.now (row_at self.now number)) 1 0 }
+    {
+        match self.rechecked(number, sky, change, steps)? {
+            Some(mark) => {
+                marks.push(mark)?;
+                Ok(())
+            }
+            None => Ok(()),
+        }
+    }
+
+    /// What a change of the register marks and what it no longer marks: a change of the book after which each mark says whether the
+    /// case's list over the airfields of `sky` differs from its stored list, where it said so over those before the change. The book stays
+    /// as it is.
+    ///
+    /// A case is looked at again only where the airfield, as it was or as it is now, gives other entries to the case's list than before; a
+    /// step is one such list. So its point lies under a surface or slope of one of the two, or its structure is on the airfield.
+    ///
+    /// # Errors
+    ///
+    /// `NoMemory` where memory was refused.
+    pub fn amended<L: Ledger>(
+        &mut self,
+        sky: &Sky,
+        changed: &Changed,
+        steps: &mut Steps<L>,
+    ) -> Result<MarkChange, NoMemory>
+        requires held { AreHeld (change_of changed.now) }
+        ensures same { self.new ≡ self.old }
+        ensures room { IfOk result (λ c. HasRoom self.old c) }
+        ensures turned { IfOk result (λ c. (n : ℕ) → row_at (committed c self.old) n ≡ option_map (turned sky.now (change_of changed.now)) (row_at self.old n)) }
+        ensures exact { IfOk result (λ c. (before : List AnAirfield) → Leads before sky.now (change_of changed.now) → IsExact before self.old → IsExact sky.now (committed c self.old)) }
+        ensures steps { steps.new ≤ steps.old + concerned_count (change_of changed.now) self.old }
+    {
+        let change = FieldChange::of(self.alloc, changed)?;
+        let reached = self.reached(&change)?;
+        let mut marks = Vec::new(self.alloc);
+        for i in 0..reached.len() {
+            self.recheck(reached[i], sky, &change, &mut marks, steps)?;
+        }
+        Ok(MarkChange::Marked(marks))
+    }
+}

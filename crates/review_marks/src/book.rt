@@ -1,0 +1,146 @@
+//! The book of marks.
+
+ghost use Rattle.std.specs.Prelude.{◌≡◌, ◌≤◌, ◌-◌, [], length, None, Some, option_copied, IfOk, option_map, slice_set};
+ghost use Rattle.review_marks.specs.Books.{row_at, is_marked_in, marked_as, marked_cases, committed, with_mark, with_marks};
+
+use crate::change::{Mark, MarkChange};
+use crate::row::Row;
+use case_records::CaseList;
+use grid_exact::NoMemory;
+use std::alloc::Global;
+use std::marker::Model;
+
+/// The cases whose determinations are watched, each with its structure, the list that its determination was made on, and its mark. Seen as
+/// the rows of the cases in order of number, from case 1 on; a case that is not in the book has none.
+#[derive(Drop)]
+pub struct MarkBook {
+    pub(crate) rows: Vec<Option<Row>>,
+    pub(crate) alloc: Global,
+}
+
+impl Model for MarkBook {
+    ghost use Rattle.std.specs.Prelude.{◌<◌, ◌^◌, List, Option, length};
+    ghost use Rattle.review_marks.specs.declared.row.Row.{Row as ARow};
+
+    ghost Value = { List (Option ARow) };
+
+    ghost view = { λ b. b.rows.items };
+
+    ghost invariant = { λ b. length b.rows.items < 2 ^ 32 };
+}
+
+/// Puts the mark of a row, where there is one.
+fn set_mark(row: &mut Option<Row>, marked: bool)
+    ensures { row.new ≡ option_map (marked_as marked) row.old }
+{
+    if let Some(row) = row {
+        row.marked = marked;
+    }
+}
+
+impl MarkBook {
+    /// A book without cases. It takes no memory.
+    pub fn empty(alloc: Global) -> MarkBook
+        ensures { result ≡ [] }
+    {
+        MarkBook {
+            rows: Vec::new(alloc),
+            alloc,
+        }
+    }
+
+    /// The row of a case.
+    pub(crate) fn row(&self, case: u32) -> Option<&Row>
+        ensures { option_copied result ≡ row_at self.now case }
+    {
+        if case == 0 {
+            return None;
+        }
+        match self.rows.get(case as usize - 1) {
+            Some(Some(row)) => Some(row),
+            _ => None,
+        }
+    }
+
+    /// The number of the last case for which there is a row.
+    pub fn last_number(&self) -> u32
+        ensures { result ≡ length self.now }
+    {
+        self.rows.len() as u32
+    }
+
+    /// Whether the case is in the book and marked: its list over the airfields as they stand differs from the list that its determination
+    /// was made on.
+    pub fn is_marked(&self, case: u32) -> bool
+        ensures { result ≡ is_marked_in self.now case }
+    {
+        match self.row(case) {
+            Some(row) => row.marked,
+            None => false,
+        }
+    }
+
+    /// How many cases are marked.
+    pub fn marked(&self) -> u32
+        ensures { result ≡ length (marked_cases self.now) }
+    {
+        let _ = &self.rows; // a proof knows the invariant of a value where it reads a field
+        let mut count = 0;
+        for place in 0..self.last_number() {
+            if self.is_marked(place + 1) {
+                count += 1;
+            }
+        }
+        count
+    }
+
+    /// The marked cases, by their numbers, rising.
+    ///
+    /// # Errors
+    ///
+    /// `NoMemory` where memory was refused.
+    pub fn list(&self, alloc: Global) -> Result<CaseList, NoMemory>
+        ensures { IfOk result (λ l. l ≡ marked_cases self.now) }
+    {
+        let _ = &self.rows; // as above
+        let mut list = CaseList::new(alloc);
+        for place in 0..self.last_number() {
+            if self.is_marked(place + 1) {
+                list.push(place + 1)?;
+            }
+        }
+        Ok(list)
+    }
+
+    /// Puts the mark of a case, where the case is in the book.
+    fn put(&mut self, mark: Mark)
+        ensures { self.new ≡ with_mark mark self.old }
+    {
+        if mark.case == 0 {
+            return;
+        }
+        let place = mark.case as usize - 1;
+        if place >= self.rows.len() {
+            return;
+        }
+        set_mark(&mut self.rows[place], mark.marked);
+    }
+
+    /// Puts the marks of several cases.
+    pub(crate) fn put_all(&mut self, marks: &[Mark])
+        ensures { self.new ≡ with_marks marks.now self.old }
+    {
+        for mark in marks {
+            self.put(*mark);
+        }
+    }
+
+    /// Puts a row in the place of its case, for which there is room.
+    pub(crate) fn put_row(&mut self, case: u32, row: Row)
+        requires number { 1 ≤ case }
+        requires room { case ≤ length self.old }
+        ensures { self.new ≡ slice_set self.old (case - 1) (Some row) }
+    {
+        self.rows[case as usize - 1] = Some(row);
+    }
+}

@@ -1,0 +1,227 @@
+//! What one airfield gives to the list of findings of a structure.
+
+ghost use Rattle.std.specs.Prelude.{◌≡◌, Some, IfOk, option_map, false};
+ghost use Rattle.std.specs.Arc.{arc_value};
+ghost use Rattle.airfields.specs.declared.airfield.Airfield.{Airfield as AnAirfield};
+ghost use Rattle.airfields.specs.Airfields.{IsHeld, category_of};
+ghost use Rattle.airfields.specs.Categories.{is_described};
+ghost use Rattle.airfield_findings.specs.Prepared.{airfield_of};
+ghost use Rattle.airfield_findings.specs.Entries.{of_airfield, slope_entries};
+ghost use Rattle.review_marks.specs.Shares.{given, names, is_described_field, is_due as is_due_of, share_of, differ_shares, AirfieldChange, AreHeld, change_of, concerns};
+ghost use Rattle.std.specs.Prelude.{if◌then◌else◌, []};
+
+use crate::listing::differ;
+use airfield_findings::{Findings, Prepared, put_airfield, put_slope};
+use airfields::{Airfield, FieldId, Filing};
+use airport_register::Changed;
+use grid_exact::NoMemory;
+use notice_slopes::exempt;
+use std::alloc::Global;
+use std::marker::Model;
+use std::sync::Arc;
+use surface_tree::Placed;
+
+/// An airfield with its surfaces, as it was before a change or as it is after it, where there is one.
+#[derive(Drop)]
+pub(crate) struct Side {
+    prepared: Option<Prepared>,
+    is_described: bool,
+    ghost described: { is_described ≡ is_described_field (option_map airfield_of prepared) },
+}
+
+/// Whether there is an airfield whose category 77.9(d) describes.
+fn is_described_one(airfield: &Option<Arc<Airfield>>) -> bool
+    ensures { result ≡ is_described_field (option_map arc_value airfield.now) }
+{
+    match airfield {
+        Some(airfield) => airfield.category().described(),
+        None => false,
+    }
+}
+
+/// An airfield with its surfaces prepared.
+fn prepared(alloc: Global, airfield: &Option<Arc<Airfield>>) -> Result<Option<Prepared>, NoMemory>
+    requires held { (f : AnAirfield) → option_map arc_value airfield.now ≡ Some f → IsHeld f }
+    ensures { IfOk result (λ p. option_map airfield_of p ≡ option_map arc_value airfield.now) }
+{
+    match airfield {
+        Some(airfield) => Ok(Some(Prepared::of(alloc, airfield)?)),
+        None => Ok(None),
+    }
+}
+
+/// Whether the structure stands where the airfield may give an entry.
+#[tactic(auto, using(crate::proofs::Reaching::nothing_standards, crate::proofs::Reaching::nothing_slope))]
+fn is_reached(prepared: &Prepared, filing: &Filing) -> bool
+    ensures standards { result ≡ false → of_airfield filing.now (airfield_of prepared.now) ≡ [] }
+    ensures slope { result ≡ false → slope_entries filing.now (airfield_of prepared.now) ≡ [] }
+{
+    prepared.area().has(&filing.at)
+}
+
+/// The standards of an airfield.
+fn standards_of(alloc: Global, prepared: &Prepared, filing: &Filing) -> Result<Findings, NoMemory>
+    ensures { IfOk result (λ l. l ≡ of_airfield filing.now (airfield_of prepared.now)) }
+{
+    let mut list = Findings::new(alloc);
+    put_airfield(&mut list, filing, prepared)?;
+    Ok(list)
+}
+
+/// The notice slope of an airfield.
+fn slope_of(alloc: Global, prepared: &Prepared, filing: &Filing) -> Result<Findings, NoMemory>
+    ensures { IfOk result (λ l. l ≡ slope_entries filing.now (airfield_of prepared.now)) }
+{
+    let mut list = Findings::new(alloc);
+    put_slope(&mut list, filing, prepared)?;
+    Ok(list)
+}
+
+impl Side {
+    /// The airfield with its surfaces prepared.
+    ///
+    /// # Errors
+    ///
+    /// `NoMemory` where memory was refused.
+    pub(crate) fn of(alloc: Global, airfield: &Option<Arc<Airfield>>) -> Result<Side, NoMemory>
+        requires held { (f : AnAirfield) → option_map arc_value airfield.now ≡ Some f → IsHeld f }
+        ensures { IfOk result (λ s. option_map airfield_of s.prepared ≡ option_map arc_value airfield.now) }
+    {
+        let prepared = prepared(alloc, airfield)?;
+        let is_described = is_described_one(airfield);
+        Ok(Side {
+            prepared,
+            is_described,
+        })
+    }
+
+    /// Whether it may give an entry to the list of a structure, by the point where that stands.
+    fn reaches(&self, filing: &Filing) -> bool
+        ensures standards { result ≡ false → given (of_airfield filing.now) (option_map airfield_of self.now.prepared) ≡ [] }
+        ensures slope { result ≡ false → given (slope_entries filing.now) (option_map airfield_of self.now.prepared) ≡ [] }
+    {
+        match &self.prepared {
+            Some(prepared) => is_reached(prepared, filing),
+            None => false,
+        }
+    }
+
+    /// Its standards.
+    fn standards(&self, alloc: Global, filing: &Filing) -> Result<Findings, NoMemory>
+        ensures { IfOk result (λ l. l ≡ given (of_airfield filing.now) (option_map airfield_of self.now.prepared)) }
+    {
+        match &self.prepared {
+            Some(prepared) => standards_of(alloc, prepared, filing),
+            None => Ok(Findings::new(alloc)),
+        }
+    }
+
+    /// Its notice slope.
+    fn slope(&self, alloc: Global, filing: &Filing) -> Result<Findings, NoMemory>
+        ensures { IfOk result (λ l. l ≡ (if is_due_of filing.now then given (slope_entries filing.now) (option_map airfield_of self.now.prepared) else [])) }
+    {
+        if exempt(filing).is_some() {
+            return Ok(Findings::new(alloc));
+        }
+        match &self.prepared {
+            Some(prepared) => slope_of(alloc, prepared, filing),
+            None => Ok(Findings::new(alloc)),
+        }
+    }
+
+    /// What it gives to the list of a structure.
+    fn share(&self, alloc: Global, id: &FieldId, filing: &Filing) -> Result<Share, NoMemory>
+        ensures { IfOk result (λ s. s ≡ share_of id.now (option_map airfield_of self.now.prepared) filing.now) }
+    {
+        Ok(Share {
+            standards: self.standards(alloc, filing)?,
+            slope: self.slope(alloc, filing)?,
+            is_on: is_on(id, filing) && self.is_described,
+        })
+    }
+}
+
+/// Whether the structure is on the airfield of this name.
+pub(crate) fn is_on(id: &FieldId, filing: &Filing) -> bool
+    ensures { result ≡ names id.now filing.now }
+{
+    match &filing.on {
+        Some(on) => id == on,
+        None => false,
+    }
+}
+
+/// What an airfield gives to the list of a structure: its standards, its notice slope where notice is due, and whether 77.9(d) asks
+/// notice of construction on it.
+#[derive(Drop)]
+pub(crate) struct Share {
+    pub(crate) standards: Findings,
+    pub(crate) slope: Findings,
+    pub(crate) is_on: bool,
+}
+
+impl Share {
+    /// Whether the other airfield gives something else.
+    fn differs(&self, other: &Share) -> bool
+        ensures { result ≡ differ_shares self.now other.now }
+    {
+        differ(&self.standards, &other.standards)
+            || differ(&self.slope, &other.slope)
+            || (self.is_on && !other.is_on)
+            || (!self.is_on && other.is_on)
+    }
+}
+
+/// An airfield before and after a change, with their surfaces.
+#[derive(Drop)]
+pub(crate) struct FieldChange {
+    id: FieldId,
+    before: Side,
+    after: Side,
+}
+
+impl Model for FieldChange {
+    ghost use Rattle.std.specs.Option.{option_map};
+    ghost use Rattle.airfield_findings.specs.Prepared.{airfield_of};
+    ghost use Rattle.review_marks.specs.Shares.{AirfieldChange};
+
+    ghost Value = { AirfieldChange };
+
+    ghost view = { λ c. record { id = c.id; was = option_map airfield_of c.before.prepared; is_now = option_map airfield_of c.after.prepared } };
+}
+
+impl FieldChange {
+    /// A change of the register with the surfaces of the airfield before and after it.
+    ///
+    /// # Errors
+    ///
+    /// `NoMemory` where memory was refused.
+    pub(crate) fn of(alloc: Global, changed: &Changed) -> Result<FieldChange, NoMemory>
+        requires held { AreHeld (change_of changed.now) }
+        ensures { IfOk result (λ c. c ≡ change_of changed.now) }
+    {
+        Ok(FieldChange {
+            id: changed.id,
+            before: Side::of(alloc, &changed.before)?,
+            after: Side::of(alloc, &changed.after)?,
+        })
+    }
+
+    /// Whether the airfield may have an entry in the list of a structure, before the change or after it: by the point where the structure
+    /// stands, or because it is on the airfield.
+    #[tactic(auto, using(crate::proofs::Reaching::not_reached))]
+    pub(crate) fn reaches(&self, filing: &Filing) -> bool
+        ensures { result ≡ false → concerns self.now filing.now ≡ false }
+    {
+        self.before.reaches(filing) || self.after.reaches(filing) || is_on(&self.id, filing)
+    }
+
+    /// Whether the airfield gives other entries to the list of a structure than before.
+    pub(crate) fn concerns(&self, alloc: Global, filing: &Filing) -> Result<bool, NoMemory>
+        ensures { IfOk result (λ b. b ≡ concerns self.now filing.now) }
+    {
+        let before = self.before.share(alloc, &self.id, filing)?;
+        let after = self.after.share(alloc, &self.id, filing)?;
+        Ok(before.differs(&after))
+    }
+}
