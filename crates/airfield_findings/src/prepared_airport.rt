@@ -19,7 +19,7 @@ use grid_exact::{Area, NoMemory};
 use height_rules::{excess_near_limited, near_area, top_for_notice};
 use horizontal_hull::Hull;
 use imaginary_surfaces::Strip;
-use runway_notice::{Slope, excess_notice, notice_area};
+use runway_notice::{LoneRunway, Slope, excess_notice, notice_area};
 use std::alloc::Global;
 use std::marker::Model;
 
@@ -33,6 +33,8 @@ pub struct PreparedAirport {
     surfaces: Bounds,
     /// The box of 77.9(b), where notice is asked about the airport.
     notice: Bounds,
+    /// The runway that notice is measured from, ready, where the airport has no other.
+    lone: Option<LoneRunway>,
     airport: Airport,
     hull: Hull,
     strips: Vec<Strip>,
@@ -48,7 +50,7 @@ impl Model for PreparedAirport {
 
     ghost view = { λ p. p.airport };
 
-    ghost invariant = { λ p. IsPreparedAirport p.airport p.hull p.strips.items (Some (box_of p.near)) (Some (box_of p.notice)) (Some (box_of p.surfaces)) };
+    ghost invariant = { λ p. IsPreparedAirport p.airport p.hull p.strips.items p.lone (Some (box_of p.near)) (Some (box_of p.notice)) (Some (box_of p.surfaces)) };
 }
 
 /// The surfaces of runways, each prepared.
@@ -74,6 +76,7 @@ impl PreparedAirport {
         let near = Bounds::of(&near_area(airport));
         let surfaces = Bounds::of(&surfaces_area(&hull, strips.as_slice()));
         let notice = Bounds::of(&notice_area(airport));
+        let lone = LoneRunway::of(airport);
         let airport = Airport {
             id: airport.id,
             category: airport.category,
@@ -85,6 +88,7 @@ impl PreparedAirport {
             near,
             surfaces,
             notice,
+            lone,
             airport,
             hull,
             strips,
@@ -130,7 +134,11 @@ impl PreparedAirport {
         if !self.notice.has(&filing.at) {
             return None;
         }
-        excess_notice(&self.airport, &filing.at, top_for_notice(filing))
+        let top = top_for_notice(filing);
+        match &self.lone {
+            Some(lone) => lone.excess(&self.airport, &filing.at, top),
+            None => excess_notice(&self.airport, &filing.at, top),
+        }
     }
 
     /// Whether a surface of 77.19 may lie over the structure's point.
