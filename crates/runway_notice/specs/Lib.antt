@@ -1,6 +1,7 @@
 pub mod Distances
 pub mod Measures
 pub mod Nearest
+pub mod Places
 pub mod Candidates
 pub mod Laws
 pub mod Slopes

@@ -8,10 +8,10 @@ ghost use Rattle.runway_notice.specs.Distances.{square_distance};
 ghost use Rattle.runway_notice.specs.Nearest.{elevation_of, nearness_cmp};
 
 use crate::guesses::{Guesses, about_length, quotient};
-use crate::parts::{along, aside, is_before, is_past, square};
+use crate::parts::Place;
 use crate::square_distance::SquareDistance;
 use airfields::Runway;
-use grid_exact::{Offset, Point, Vector};
+use grid_exact::{Point, Vector};
 use runway_lines::Centerline;
 use std::cmp::Ordering;
 
@@ -20,12 +20,13 @@ use std::cmp::Ordering;
 pub(crate) struct Candidate<'a> {
     pub(crate) runway: &'a Runway,
     pub(crate) line: Centerline,
-    pub(crate) at: Offset,
+    pub(crate) at: Place,
 }
 
 impl<'a> Candidate<'a> {
     ghost use Rattle.runway_notice.specs.Candidates.{IsCandidate};
     ghost use Rattle.runway_notice.specs.Measures.{fraction};
+    ghost use Rattle.runway_notice.specs.Places.{placed};
 
     /// The runway, as a point lies by it.
     pub(crate) fn of(runway: &'a Runway, point: &Point) -> Candidate<'a>
@@ -37,13 +38,13 @@ impl<'a> Candidate<'a> {
         Candidate {
             runway,
             line,
-            at: line.offset(point),
+            at: Place::of(&line.offset(point)),
         }
     }
 
     /// How far the point is from the centerline.
     pub(crate) fn distance(&self) -> SquareDistance
-        ensures { fraction result ≡ square_distance self.now.at }
+        ensures { fraction result ≡ square_distance (placed self.now.at) }
     {
         SquareDistance::of(&self.at)
     }
@@ -55,9 +56,12 @@ impl<'a> Candidate<'a> {
         ensures value { result ≡ int_div_euclid (self.now.line.rise *ℤ self.now.at.along) (pos self.now.at.square) }
         ensures size { unsigned_abs result ≤ 2 ^ 18 }
     {
-        let along = along(&self.at);
-        let square = square(&self.at);
-        quotient(guesses.climb(along), self.line.rise * along, square)
+        let at = &self.at;
+        quotient(
+            guesses.climb(at.along),
+            self.line.rise * at.along,
+            at.square,
+        )
     }
 
     /// How high the centerline is where it is nearest to the point, in tenths of a foot. The contracts name the point; the code has it
@@ -67,10 +71,10 @@ impl<'a> Candidate<'a> {
         ensures value { result ≡ elevation_of point.now self.now.runway.now }
         ensures size { unsigned_abs result ≤ 2 ^ 19 }
     {
-        if is_before(&self.at) {
+        if self.at.is_before() {
             return self.runway.end1.z;
         }
-        if is_past(&self.at) {
+        if self.at.is_past() {
             return self.runway.end2.z;
         }
         self.line.z + self.climb(guesses)
@@ -78,13 +82,13 @@ impl<'a> Candidate<'a> {
 
     /// About how far the point is from the centerline, in tenths of a foot: a guess, of which nothing is asked.
     pub(crate) fn about_distance(&self, point: &Point, guesses: &Guesses) -> f64 {
-        if is_before(&self.at) {
+        if self.at.is_before() {
             return about_length(&Vector::between(&self.runway.end1.at, point));
         }
-        if is_past(&self.at) {
+        if self.at.is_past() {
             return about_length(&Vector::between(&self.runway.end2.at, point));
         }
-        guesses.distance(aside(&self.at))
+        guesses.distance(self.at.aside as i64)
     }
 
     /// Compares how high its centerline and the other's are, each where it is nearest to the point.

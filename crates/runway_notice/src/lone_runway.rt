@@ -8,6 +8,7 @@ ghost use Rattle.runway_notice.specs.Notices.{notice_slope};
 use crate::candidate::Candidate;
 use crate::guesses::Guesses;
 use crate::notice::{excess_notice, excess_over, sub_of};
+use crate::parts::Place;
 use crate::slope::{Slope, Sub};
 use airfields::{Airport, Runway};
 use grid_exact::Point;
@@ -64,7 +65,7 @@ impl LoneRunway {
         Candidate {
             runway: &self.runway,
             line: self.line,
-            at: self.line.offset(point),
+            at: Place::of(&self.line.offset(point)),
         }
     }
 

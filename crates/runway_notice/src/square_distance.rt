@@ -3,9 +3,9 @@
 ghost use Rattle.std.specs.Prelude.{◌≡◌, ◌↔◌, ◌*◌, ◌^◌, ◌≤◌, IsTrue, unsigned_abs};
 ghost use Rattle.grid_exact.specs.Lines.{IsReach};
 ghost use Rattle.runway_notice.specs.Distances.{IsMeasure, beyond as beyond_of};
+ghost use Rattle.runway_notice.specs.Places.{placed};
 
-use crate::parts::{along, aside, square};
-use grid_exact::Offset;
+use crate::parts::Place;
 use std::cmp::Ordering;
 
 /// The square of the distance from a point to a line, in square tenths of a foot: the fraction of `part` and `whole`.
@@ -17,17 +17,16 @@ pub(crate) struct SquareDistance {
 }
 
 /// How far before the start or past the end of a line a point lies that lies so by it, times the line's length.
-fn beyond(at: &Offset) -> u64
-    ensures value { result ≡ beyond_of at.now }
+fn beyond(at: &Place) -> u64
+    ensures value { result ≡ beyond_of (placed at.now) }
     ensures reach { IsReach result at.now.square }
 {
-    let along = along(at);
-    if along < 0 {
-        return along.unsigned_abs();
+    if at.along < 0 {
+        return at.along.unsigned_abs();
     }
-    let square = square(at) as i64;
-    if square < along {
-        return (along - square).unsigned_abs();
+    let square = at.square as i64;
+    if square < at.along {
+        return (at.along - square).unsigned_abs();
     }
     0
 }
@@ -46,12 +45,12 @@ impl SquareDistance {
     ghost use Rattle.runway_notice.specs.Measures.{fraction};
 
     /// From a line to a point that lies so by it.
-    pub(crate) fn of(at: &Offset) -> SquareDistance
-        ensures { fraction result ≡ square_distance at.now }
+    pub(crate) fn of(at: &Place) -> SquareDistance
+        ensures { fraction result ≡ square_distance (placed at.now) }
     {
         SquareDistance {
-            part: squared(beyond(at)) + squared(aside(at).unsigned_abs()),
-            whole: square(at),
+            part: squared(beyond(at)) + squared(at.aside),
+            whole: at.square,
         }
     }
 

@@ -2,15 +2,15 @@ use Rattle.std.proofs.Common.{◌≡◌, ◌≤◌, ◌^◌, pos, ◌*ℤ◌, un
 use Rattle.std.specs.Int.{int_div_euclid}
 use Rattle.std.proofs.lemmas.Int.{ints}
 use Rattle.runway_lines.proofs.ElevationFacts.{climb_size}
-use Rattle.runway_notice.proofs.CandidateFacts.{product_size, quotient_of}
+use Rattle.runway_notice.proofs.CandidateFacts.{product_size}
 use Rattle.runway_notice.proofs.candidate.Candidate.climb.Goals as goal
 use Rattle.runway_notice.proofs.candidate.Candidate.climb.Goals.{After-quotient}
 
 pub overflow_mul-self : goal.overflow_mul-self
 overflow_mul-self c =
     let rise = c.args.self.now.line.rise in
-    let along = c.along-along.result in
-    let size : unsigned_abs along ≤ 2 ^ 37 = omega (arith, ints, c.requires.least, c.requires.most, c.square-square.ensures.line.size, c.along-along.ensures.value) in
+    let along = c.args.self.now.at.along in
+    let size : unsigned_abs along ≤ 2 ^ 37 = omega (arith, ints, c.requires.least, c.requires.most, c.args.self.now.at.sizes.line.size) in
     let most : unsigned_abs (rise *ℤ along) ≤ 2 ^ 55 = product_size rise along c.args.self.now.line.sloped.rise_size size in
     let fr : FitsSigned w64 rise = omega (arith, ints, c.args.self.now.line.sloped.rise_size) in
     let fa : FitsSigned w64 along = omega (arith, ints, size) in
@@ -19,8 +19,8 @@ overflow_mul-self c =
 pub quotient-requires-clause-number : goal.quotient-requires-clause-number
 quotient-requires-clause-number c =
     let rise = c.args.self.now.line.rise in
-    let along = c.along-along.result in
-    let size : unsigned_abs along ≤ 2 ^ 37 = omega (arith, ints, c.requires.least, c.requires.most, c.square-square.ensures.line.size, c.along-along.ensures.value) in
+    let along = c.args.self.now.at.along in
+    let size : unsigned_abs along ≤ 2 ^ 37 = omega (arith, ints, c.requires.least, c.requires.most, c.args.self.now.at.sizes.line.size) in
     let most : unsigned_abs (rise *ℤ along) ≤ 2 ^ 55 = product_size rise along c.args.self.now.line.sloped.rise_size size in
     let fr : FitsSigned w64 rise = omega (arith, ints, c.args.self.now.line.sloped.rise_size) in
     let fa : FitsSigned w64 along = omega (arith, ints, size) in
@@ -30,19 +30,18 @@ quotient-requires-clause-number c =
 quotient : (c : After-quotient) → c.quotient.result ≡ int_div_euclid (c.args.self.now.line.rise *ℤ c.args.self.now.at.along) (pos c.args.self.now.at.square)
 quotient c =
     let rise = c.args.self.now.line.rise in
-    let along = c.along-along.result in
-    let size : unsigned_abs along ≤ 2 ^ 37 = omega (arith, ints, c.requires.least, c.requires.most, c.square-square.ensures.line.size, c.along-along.ensures.value) in
+    let along = c.args.self.now.at.along in
+    let size : unsigned_abs along ≤ 2 ^ 37 = omega (arith, ints, c.requires.least, c.requires.most, c.args.self.now.at.sizes.line.size) in
     let most : unsigned_abs (rise *ℤ along) ≤ 2 ^ 55 = product_size rise along c.args.self.now.line.sloped.rise_size size in
     let fr : FitsSigned w64 rise = omega (arith, ints, c.args.self.now.line.sloped.rise_size) in
     let fa : FitsSigned w64 along = omega (arith, ints, size) in
     let fp : FitsSigned w64 (rise *ℤ along) = omega (arith, ints, most) in
-    let e : c.quotient.result ≡ int_div_euclid (rise *ℤ along) (pos c.square-square.result) = simp to_z-of_z at c.quotient.ensures in
-    quotient_of rise along c.args.self.now.at.along c.square-square.result c.args.self.now.at.square c.quotient.result e c.along-along.ensures.value c.square-square.ensures.value
+    simp to_z-of_z at c.quotient.ensures
 
 size : (c : After-quotient) → unsigned_abs c.quotient.result ≤ 2 ^ 18
 size c =
     let rise = c.args.self.now.line.rise in
-    let most = climb_size rise c.args.self.now.at.along c.args.self.now.at.square c.square-square.ensures.line.some c.requires.least c.requires.most in
+    let most = climb_size rise c.args.self.now.at.along c.args.self.now.at.square c.args.self.now.at.sizes.line.some c.requires.least c.requires.most in
     rw (quotient c) (omega (arith, most, c.args.self.now.line.sloped.rise_size))
 
 pub returns-clause-value : goal.returns-clause-value
