@@ -5,7 +5,7 @@ use Rattle.review_marks.specs.Books.{row_at, closed}
 use Rattle.review_marks.specs.declared.row.Row.{Row}
 use Rattle.desk_rules.specs.States.{State}
 use Rattle.desk_rules.specs.Marks.{stands_in}
-use Rattle.filing_desk.proofs.Marking.{closed_row, row_past, same_number}
+use Rattle.filing_desk.proofs.MarksAfter.{closed_row, row_past, same_number}
 
 -- the cases above a number are closed, where their determinations do not stand
 abbrev pub IsClosedTo : State → List (Option Row) → ℕ → List (Option Row) → Type 0

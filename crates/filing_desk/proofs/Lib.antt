@@ -2,5 +2,5 @@ pub mod Indexing
 pub mod Sound
 pub mod Limits
 pub mod Deciding
-pub mod Marking
+pub mod MarksAfter
 pub mod Closing
