@@ -78,7 +78,8 @@ impl Office {
         ensures same { OnErr result (self.new ≡ self.old) }
         ensures refused { IfErr result (λ why. why ≡ Refusal.NoMemory) }
     {
-        self.desk.open(entry, case)
+        self.desk.open(entry, case)?;
+        Ok(())
     }
 
     /// Sets the desk's day. The determinations that are expired then are no longer watched.

@@ -25,17 +25,17 @@ map_same (Some r) = refl
 
 -- ---- a mark is put
 
-eq_suc : (k j : ℕ) → nat_eq (suc k) (suc j) ≡ nat_eq k j
+pub eq_suc : (k j : ℕ) → nat_eq (suc k) (suc j) ≡ nat_eq k j
 eq_suc k j = by_eq (nat_eq k j) refl
   where
     by_eq : (b : Bool) → nat_eq k j ≡ b → nat_eq (suc k) (suc j) ≡ b
     by_eq true h = grind (arith, common_steps, h)
     by_eq false h = grind (arith, common_steps, h)
 
-zero_suc : (j : ℕ) → nat_eq 0 (suc j) ≡ false
+pub zero_suc : (j : ℕ) → nat_eq 0 (suc j) ≡ false
 zero_suc j = grind (arith, common_steps)
 
-suc_zero : (k : ℕ) → nat_eq (suc k) 0 ≡ false
+pub suc_zero : (k : ℕ) → nat_eq (suc k) 0 ≡ false
 suc_zero k = grind (arith, common_steps)
 
 kept_head : (o : Option Row) (rows : List (Option Row)) (k : ℕ) (f : Row → Row) (v : Option (Option Row)) → changed_place (o ∷ rows) (suc k) f v ≡ o ∷ changed_place rows k f v
@@ -55,14 +55,14 @@ placed (o ∷ rows) f (suc k) (suc j) =
     ap (λ (xs : List (Option Row)). joined (slice_get xs (suc j))) (kept_head o rows k f (slice_get rows k)) ∙ placed rows f k j
     ∙ ap (λ (b : Bool). option_map (λ r. cond b (f r) r) (joined (slice_get rows j))) (sym (eq_suc k j))
 
-by_places : (c n : ℕ) → (c == 0) ≡ false → (n == 0) ≡ false → nat_eq (c - 1) (n - 1) ≡ nat_eq c n
+pub by_places : (c n : ℕ) → (c == 0) ≡ false → (n == 0) ≡ false → nat_eq (c - 1) (n - 1) ≡ nat_eq c n
 by_places c n h k = by_eq (nat_eq c n) refl
   where
     by_eq : (b : Bool) → nat_eq c n ≡ b → nat_eq (c - 1) (n - 1) ≡ b
     by_eq true e = grind (arith, common_steps, e)
     by_eq false e = grind (arith, common_steps, e, h, k)
 
-apart : (c n : ℕ) → (c == 0) ≡ true → (n == 0) ≡ false → nat_eq c n ≡ false
+pub apart : (c n : ℕ) → (c == 0) ≡ true → (n == 0) ≡ false → nat_eq c n ≡ false
 apart c n h k = grind (arith, common_steps, h, k)
 
 marked_by : (m : Mark) (rows : List (Option Row)) (n : ℕ) (b d : Bool) → (m.case == 0) ≡ b → (n == 0) ≡ d
@@ -105,7 +105,7 @@ among_more (j ∷ ks) k n = ap (λ (b : Bool). nat_eq j n || b) (among_more ks k
     regroup true b d = refl
     regroup false b d = refl
 
-same_number : (x y : ℕ) → nat_eq x y ≡ true → x ≡ y
+pub same_number : (x y : ℕ) → nat_eq x y ≡ true → x ≡ y
 same_number x y h = grind (arith, common_steps, h)
 
 -- ---- marks are worked out
