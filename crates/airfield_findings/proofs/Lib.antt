@@ -5,3 +5,4 @@ pub mod SlopeFacts
 pub mod ReachFacts
 pub mod Counts
 pub mod PlaceFacts
+pub mod BoundsFacts

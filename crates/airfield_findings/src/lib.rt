@@ -3,6 +3,7 @@
 //! An excess is in whole tenths of a foot.
 #![tactic(auto)]
 
+mod bounds;
 mod collector;
 mod entry;
 mod finding;

@@ -1,10 +1,10 @@
 //! Airports with their surfaces, prepared for many structures.
 
-ghost use Rattle.std.specs.Prelude.{◌≡◌, ℤ, [], List, IfOk, take, false};
+ghost use Rattle.std.specs.Prelude.{◌≡◌, [], List, IfOk, take, false};
 ghost use Rattle.std.specs.List.{All};
 ghost use Rattle.airfields.specs.Airfields.{IsHeldAirport};
 ghost use Rattle.airfields.specs.Runways.{IsProper};
-ghost use Rattle.grid_exact.specs.Level.{IsLevel};
+ghost use Rattle.height_rules.specs.Heights.{notice_top, standards_top};
 ghost use Rattle.height_rules.specs.NearAirport.{near_excess};
 ghost use Rattle.horizontal_hull.specs.Arcs.{dome_of};
 ghost use Rattle.runway_notice.specs.Notices.{notice_slope};
@@ -12,40 +12,45 @@ ghost use Rattle.airfields.specs.declared.airfield.Airfield.TheVariants.{Airport
 ghost use Rattle.airfield_findings.specs.Entries.{of_surfaces};
 ghost use Rattle.airfield_findings.specs.Reaches.{IsInPlace};
 
-use crate::reach::{is_over, place, surfaces_area};
+use crate::bounds::Bounds;
+use crate::reach::{place, surfaces_area};
 use airfields::{Airport, Filing, Runway};
-use grid_exact::{Area, NoMemory, Point};
-use height_rules::{excess_near_limited, near_area};
+use grid_exact::{Area, NoMemory};
+use height_rules::{excess_near_limited, near_area, top_for_notice};
 use horizontal_hull::Hull;
 use imaginary_surfaces::Strip;
-use runway_notice::{Slope, excess_notice, notice_area};
+use runway_notice::{LoneRunway, Slope, excess_notice, notice_area};
 use std::alloc::Global;
 use std::marker::Model;
 
 /// An airport with its surfaces; seen as the airport.
 #[derive(Drop)]
 pub struct PreparedAirport {
-    airport: Airport,
     /// The box of 77.17(a)(2), where the airport has such a limit. The boxes stand beside the airport, since each structure near it asks
     /// for them, and for more only where one of them has its point.
-    near: Option<Area>,
-    /// The box of 77.9(b), where notice is asked about the airport.
-    notice: Option<Area>,
+    near: Bounds,
     /// The box of the surfaces of 77.19, where the airport has them.
-    surfaces: Option<Area>,
+    surfaces: Bounds,
+    /// The box of 77.9(b), where notice is asked about the airport.
+    notice: Bounds,
+    /// The runway that notice is measured from, ready, where the airport has no other.
+    lone: Option<LoneRunway>,
+    airport: Airport,
     hull: Hull,
     strips: Vec<Strip>,
 }
 
 impl Model for PreparedAirport {
     ghost use Rattle.airfields.specs.declared.airfield.Airport.{Airport};
+    ghost use Rattle.std.specs.Prelude.{Some};
+    ghost use Rattle.airfield_findings.specs.Bounds.{box_of};
     ghost use Rattle.airfield_findings.specs.PreparedAirports.{IsPreparedAirport};
 
     ghost Value = { Airport };
 
     ghost view = { λ p. p.airport };
 
-    ghost invariant = { λ p. IsPreparedAirport p.airport p.hull p.strips.items p.near p.notice p.surfaces };
+    ghost invariant = { λ p. IsPreparedAirport p.airport p.hull p.strips.items p.lone (Some (box_of p.near)) (Some (box_of p.notice)) (Some (box_of p.surfaces)) };
 }
 
 /// The surfaces of runways, each prepared.
@@ -68,9 +73,10 @@ impl PreparedAirport {
     {
         let hull = Hull::of(alloc, airport)?;
         let strips = strips_of(alloc, airport.runways.as_slice())?;
-        let near = near_area(airport);
-        let notice = notice_area(airport);
-        let surfaces = surfaces_area(&hull, strips.as_slice());
+        let near = Bounds::of(&near_area(airport));
+        let surfaces = Bounds::of(&surfaces_area(&hull, strips.as_slice()));
+        let notice = Bounds::of(&notice_area(airport));
+        let lone = LoneRunway::of(airport);
         let airport = Airport {
             id: airport.id,
             category: airport.category,
@@ -79,12 +85,13 @@ impl PreparedAirport {
             runways: airport.runways.copy(alloc)?,
         };
         Ok(PreparedAirport {
+            near,
+            surfaces,
+            notice,
+            lone,
             airport,
             hull,
             strips,
-            near,
-            notice,
-            surfaces,
         })
     }
 
@@ -114,34 +121,42 @@ impl PreparedAirport {
     pub(crate) fn excess_near(&self, filing: &Filing) -> Option<u32>
         ensures { result ≡ near_excess self.now filing.now }
     {
-        if !is_over(&self.near, &filing.at) {
+        if !self.near.has(&filing.at) {
             return None;
         }
         excess_near_limited(&self.airport, filing)
     }
 
-    /// The slope of 77.9(b) that the top of a structure is above at a point.
-    pub(crate) fn excess_notice(&self, at: &Point, top: i64) -> Option<Slope>
-        requires top { IsLevel top }
-        ensures { result ≡ notice_slope self.now at.now top }
+    /// The slope of 77.9(b) that the structure is above.
+    pub(crate) fn excess_notice(&self, filing: &Filing) -> Option<Slope>
+        ensures { result ≡ notice_slope self.now filing.now.at (notice_top filing.now) }
     {
-        if !is_over(&self.notice, at) {
+        if !self.notice.has(&filing.at) {
             return None;
         }
-        excess_notice(&self.airport, at, top)
+        let top = top_for_notice(filing);
+        match &self.lone {
+            Some(lone) => lone.excess(&self.airport, &filing.at, top),
+            None => excess_notice(&self.airport, &filing.at, top),
+        }
     }
 
-    /// Whether a surface of 77.19 may lie over the point.
-    pub(crate) fn has_surfaces_over(&self, at: &Point) -> bool
-        ensures none { result ≡ false → (top : ℤ) → IsLevel top → of_surfaces at.now top self.now ≡ [] }
+    /// Whether a surface of 77.19 may lie over the structure's point.
+    pub(crate) fn has_surfaces_over(&self, filing: &Filing) -> bool
+        ensures none { result ≡ false → of_surfaces filing.now.at (standards_top filing.now) self.now ≡ [] }
     {
-        is_over(&self.surfaces, at)
+        self.surfaces.has(&filing.at)
     }
 
     /// The area outside of which the airport gives no findings.
     pub(crate) fn area(&self) -> Area
         ensures { IsInPlace result (AnAirport self.now) }
     {
-        place(&self.airport.arp, &self.near, &self.notice, &self.surfaces)
+        place(
+            &self.airport.arp,
+            &self.near.reach(),
+            &self.notice.reach(),
+            &self.surfaces.reach(),
+        )
     }
 }

@@ -125,13 +125,3 @@ pub(crate) fn place(
         surfaces,
     ))
 }
-
-/// Whether there is a box and it has the point.
-pub(crate) fn is_over(area: &Option<Area>, x: &Point) -> bool
-    ensures { IsTrue result ↔ IsOver area.now x.now }
-{
-    match area {
-        None => false,
-        Some(area) => area.has(x),
-    }
-}

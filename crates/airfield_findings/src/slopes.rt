@@ -51,7 +51,7 @@ fn put_airport_slope<C: Collector>(
     ensures fails { OnErr result C.fails }
 {
     let airport = prepared.airport();
-    if let Some(slope) = prepared.excess_notice(&filing.at, top_for_notice(filing)) {
+    if let Some(slope) = prepared.excess_notice(filing) {
         out.take(Finding {
             rule: rule_b(filing, slope.sub),
             key: runway_key(airport.id, slope.runway, 0),

@@ -3,6 +3,7 @@
 ghost use Rattle.std.specs.Prelude.{◌≡◌, ◌++◌, List, OnOk, OnErr};
 ghost use Rattle.std.specs.List.{flat_map};
 ghost use Rattle.grid_exact.specs.Level.{IsLevel};
+ghost use Rattle.height_rules.specs.Heights.{standards_top};
 ghost use Rattle.horizontal_hull.specs.Arcs.{dome_of};
 ghost use Rattle.horizontal_hull.specs.Within.{cap_of};
 ghost use Rattle.airfield_findings.specs.Entries.{of_airfield, of_pad, of_runway, of_runways, of_surfaces};
@@ -110,18 +111,16 @@ fn put_runways<C: Collector>(
 /// point stands under the first two is found once, for them and for the limit of the transitional surfaces.
 fn put_surfaces<C: Collector>(
     out: &mut C,
-    at: &Point,
-    top: i64,
+    filing: &Filing,
     prepared: &PreparedAirport,
 ) -> Result<(), NoMemory>
-    requires top { IsLevel top }
-    ensures taken { OnOk result ((list : List AFinding) → C.taken out.old list → C.taken out.new (list ++ of_surfaces at.now top prepared.now)) }
+    ensures taken { OnOk result ((list : List AFinding) → C.taken out.old list → C.taken out.new (list ++ of_surfaces filing.now.at (standards_top filing.now) prepared.now)) }
     ensures fails { OnErr result C.fails }
 {
-    if !prepared.has_surfaces_over(at) {
+    if !prepared.has_surfaces_over(filing) {
         return Ok(());
     }
-    put_surfaces_over(out, at, top, prepared)
+    put_surfaces_over(out, &filing.at, top_for_standards(filing), prepared)
 }
 
 /// The same where one of them may lie over the point.
@@ -186,7 +185,7 @@ fn put_airport<C: Collector>(
     let airport = prepared.airport();
     let near = prepared.excess_near(filing);
     put_on_field(out, Rule::Near, airport.id, 0, near)?;
-    put_surfaces(out, &filing.at, top_for_standards(filing), prepared)
+    put_surfaces(out, filing, prepared)
 }
 
 /// Hands over the entries of a heliport.

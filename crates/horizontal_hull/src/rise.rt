@@ -37,15 +37,9 @@ fn rise_of_two(a: &Arc, b: &Arc, x: &Point, most: u32) -> u32
     requires most { most ≤ CONICAL_RISE + 1 }
     ensures { IsLeastRise (λ k. in_risen x.now k a.now b.now) most result }
 {
-    if most == 0 {
-        return 0;
-    }
-    if !is_in_capsule(Edge::Closed, a, b, x, CONICAL_SLOPE * (most - 1)) {
-        return most;
-    }
-    let guess = guess_rise(a, b, x);
+    let guess = guess_rise(a, b, x).min(most);
     let mut least = 0;
-    let mut reached = most - 1;
+    let mut reached = most;
     while least < reached {
         let asked = probe(least, reached, guess);
         if is_in_capsule(Edge::Closed, a, b, x, CONICAL_SLOPE * asked) {

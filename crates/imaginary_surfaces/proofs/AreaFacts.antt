@@ -93,7 +93,7 @@ pub itself_least : (a : Area) → IsLeastBox (λ box. Encloses box a) a
 itself_least a = record { holds = record { west = omega (arith, ints); south = omega (arith, ints); east = omega (arith, ints); north = omega (arith, ints) }; least = λ (o : Area) h. h }
 
 -- ---- nothing exceeds a surface that does not cover the point
-uncovered : (s : Surface) (top : ℤ) (e : Option ℕ) → IsExcess s top e → ¬ s.Covers → e ≡ None
+pub uncovered : (s : Surface) (top : ℤ) (e : Option ℕ) → IsExcess s top e → ¬ s.Covers → e ≡ None
 uncovered s top None h k = refl
 uncovered s top (Some e) h k = absurd (k h.covers)
 

@@ -3,3 +3,4 @@ pub mod SurfaceFacts
 pub mod TransitionFacts
 pub mod ExcessLaws
 pub mod AreaFacts
+pub mod ZoneFacts

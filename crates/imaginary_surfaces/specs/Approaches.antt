@@ -65,6 +65,11 @@ excess_over_approach a x top =
 
 -- ---- for proofs alone
 
+-- ahead of the end, up to its length
+pub record IsAlong (a : Approach) (o : Offset) : Type 0 where
+  pub ahead : pos 0 <ℤ o.along
+  pub not_past : AtMostRoot o.along a.class.length o.square
+
 -- sizes that a class and an elevation give
 pub record IsApproach (width : ℤ) (class : EndClass) (z : ℤ) : Type 0 where
   pub wide : IsWidth width

@@ -7,6 +7,7 @@ ghost use Rattle.grid_exact.specs.Root.{AtMostRoot};
 ghost use Rattle.imaginary_surfaces.specs.Approaches.{IsApproach, IsRise};
 
 use crate::measures::{HALF_WIDTH_SCALE, SECOND_SLOPE_DROP};
+use crate::search::excess_over;
 use grid_exact::{Axis, Offset, Slope, is_above_root, is_at_most_root, minus, product, scale};
 use runway_classes::{EndClass, WIDENING_SCALE};
 
@@ -34,7 +35,7 @@ pub(crate) struct Rise {
 }
 
 impl ApproachSurface {
-    ghost use Rattle.imaginary_surfaces.specs.Approaches.{ApproachCovers, approach_at, outside as outside_of, is_past_split as is_past_split_of, slope_at, base_at};
+    ghost use Rattle.imaginary_surfaces.specs.Approaches.{ApproachCovers, IsAlong, approach_at, outside as outside_of, is_past_split as is_past_split_of, slope_at, base_at};
     ghost use Rattle.imaginary_surfaces.specs.Shapes.{approach_shape};
 
     /// Whether a point is ahead of the end.
@@ -79,11 +80,19 @@ impl ApproachSurface {
         is_at_most_root(self.outside(at), self.half_width(), at.square())
     }
 
-    /// Whether it covers a point.
+    /// Whether a point is ahead of the end, and not past its outer end.
+    pub(crate) fn is_along(&self, at: &Offset) -> bool
+        ensures { IsTrue result ↔ IsAlong (approach_shape self.now) at.now }
+    {
+        self.is_ahead(at) && self.is_not_past(at)
+    }
+
+    /// Whether it covers a point along it.
     fn covers(&self, at: &Offset) -> bool
+        requires along { IsAlong (approach_shape self.now) at.now }
         ensures { IsTrue result ↔ ApproachCovers (approach_shape self.now) at.now }
     {
-        self.is_ahead(at) && self.is_not_past(at) && self.is_not_beside(at)
+        self.is_not_beside(at)
     }
 
     /// Whether a point is past where the second slope begins.
@@ -110,8 +119,9 @@ impl ApproachSurface {
         }
     }
 
-    /// How far `top` is above it at a point, or `None` where it is not above, or the surface does not cover the point.
-    pub(crate) fn excess(&self, at: &Offset, top: i64) -> Option<u32>
+    /// How far `top` is above it at a point along it, or `None` where it is not above, or the surface does not cover the point.
+    pub(crate) fn excess_along(&self, at: &Offset, top: i64) -> Option<u32>
+        requires along { IsAlong (approach_shape self.now) at.now }
         requires top { IsLevel top }
         ensures exact { IsExcess (approach_at (approach_shape self.now) at.now) top result }
         ensures size { IfSome result (λ e. e ≤ 2 ^ 26) }
@@ -121,6 +131,20 @@ impl ApproachSurface {
         }
         let rise = self.rise(at);
         let base = product(rise.slope, rise.base);
-        Slope::rising(at.along(), rise.slope, base, at.square()).excess(top)
+        excess_over(
+            &Slope::rising(at.along(), rise.slope, base, at.square()),
+            top,
+        )
+    }
+    /// The same at any point.
+    pub(crate) fn excess(&self, at: &Offset, top: i64) -> Option<u32>
+        requires top { IsLevel top }
+        ensures exact { IsExcess (approach_at (approach_shape self.now) at.now) top result }
+        ensures size { IfSome result (λ e. e ≤ 2 ^ 26) }
+    {
+        if !self.is_along(at) {
+            return None;
+        }
+        self.excess_along(at, top)
     }
 }

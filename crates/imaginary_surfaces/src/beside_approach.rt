@@ -9,10 +9,18 @@ ghost use Rattle.imaginary_surfaces.specs.Primaries.{IsWidth};
 
 use crate::approach::{ApproachSurface, Rise};
 use crate::measures::{APPROACH_FACTOR, HALF_WIDTH_SCALE, SCALED_REACH};
+use crate::search::excess_over;
 use crate::slope_end::excess_up_to;
 use grid_exact::{
     Cap, Offset, Slope, is_at_least_root, is_at_most_root, minus, plus, product, scale,
 };
+
+/// How far a top is above the approach surface of an end, and above the transitional surface beside it.
+#[derive(Clone, Copy)]
+pub(crate) struct EndExcesses {
+    pub(crate) over: Option<u32>,
+    pub(crate) beside: Option<u32>,
+}
 
 impl Rise {
     ghost use Rattle.std.specs.Prelude.{◌-ℤ◌};
@@ -40,7 +48,7 @@ impl Rise {
 }
 
 impl ApproachSurface {
-    ghost use Rattle.imaginary_surfaces.specs.Approaches.{outside as outside_of, slope_at};
+    ghost use Rattle.imaginary_surfaces.specs.Approaches.{IsAlong, approach_at, outside as outside_of, slope_at};
     ghost use Rattle.imaginary_surfaces.specs.Shapes.{approach_shape};
     ghost use Rattle.imaginary_surfaces.specs.Transitions.{GoesBeyond, ReachesBesideApproach, beside_approach_at, incline_beside_approach};
 
@@ -52,11 +60,12 @@ impl ApproachSurface {
         is_at_least_root(self.outside(at), self.half_width(), at.square())
     }
 
-    /// Whether the transitional surface reaches a point.
+    /// Whether the transitional surface reaches a point along the approach surface.
     fn reaches_beside(&self, at: &Offset) -> bool
+        requires along { IsAlong (approach_shape self.now) at.now }
         ensures { IsTrue result ↔ ReachesBesideApproach (approach_shape self.now) at.now }
     {
-        self.is_ahead(at) && self.is_not_past(at) && self.is_from_side(at)
+        self.is_from_side(at)
     }
 
     /// Half the width at the end of the primary surface and the 5,000 feet that it may extend, in fortieths.
@@ -117,9 +126,10 @@ impl ApproachSurface {
         )
     }
 
-    /// How far `top` is above the transitional surface at a point, or `None` where it is not above, or the surface does not cover
-    /// the point.
-    pub(crate) fn excess_beside(&self, at: &Offset, top: i64, cap: &Cap) -> Option<u32>
+    /// How far `top` is above the transitional surface at a point along the approach surface, or `None` where it is not above, or the
+    /// surface does not cover the point.
+    pub(crate) fn excess_beside_along(&self, at: &Offset, top: i64, cap: &Cap) -> Option<u32>
+        requires along { IsAlong (approach_shape self.now) at.now }
         requires top { IsLevel top }
         ensures exact { IsExcess (beside_approach_at (approach_shape self.now) at.now cap.now) top result }
         ensures size { IfSome result (λ e. e ≤ 2 ^ 26) }
@@ -127,16 +137,47 @@ impl ApproachSurface {
         if !self.reaches_beside(at) {
             return None;
         }
-        let slope = self.slope_beside(at);
         // by value, since that tells that the limit is an i64
         match *cap {
-            Cap::Level(limit) => excess_up_to(&slope, top, limit),
+            Cap::Level(limit) => excess_up_to(&self.slope_beside(at), top, limit),
             Cap::Beyond => {
                 if !self.goes_beyond(at) {
                     return None;
                 }
-                slope.excess(top)
+                excess_over(&self.slope_beside(at), top)
             }
+        }
+    }
+
+    /// The same at any point.
+    pub(crate) fn excess_beside(&self, at: &Offset, top: i64, cap: &Cap) -> Option<u32>
+        requires top { IsLevel top }
+        ensures exact { IsExcess (beside_approach_at (approach_shape self.now) at.now cap.now) top result }
+        ensures size { IfSome result (λ e. e ≤ 2 ^ 26) }
+    {
+        if !self.is_along(at) {
+            return None;
+        }
+        self.excess_beside_along(at, top, cap)
+    }
+
+    /// How far `top` is above the approach surface and above the transitional surface beside it at a point.
+    pub(crate) fn excesses(&self, at: &Offset, top: i64, cap: &Cap) -> EndExcesses
+        requires top { IsLevel top }
+        ensures over { IsExcess (approach_at (approach_shape self.now) at.now) top result.over }
+        ensures over_size { IfSome result.over (λ e. e ≤ 2 ^ 26) }
+        ensures beside { IsExcess (beside_approach_at (approach_shape self.now) at.now cap.now) top result.beside }
+        ensures beside_size { IfSome result.beside (λ e. e ≤ 2 ^ 26) }
+    {
+        if !self.is_along(at) {
+            return EndExcesses {
+                over: None,
+                beside: None,
+            };
+        }
+        EndExcesses {
+            over: self.excess_along(at, top),
+            beside: self.excess_beside_along(at, top, cap),
         }
     }
 }

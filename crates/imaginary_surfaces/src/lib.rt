@@ -11,9 +11,11 @@ mod laws;
 mod measures;
 mod prepare;
 mod primary;
+mod search;
 mod skips;
 mod slope_end;
 mod strip;
+mod zones;
 
 pub use excesses::StripExcesses;
 pub use laws::{

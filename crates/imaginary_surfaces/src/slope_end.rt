@@ -4,6 +4,7 @@ ghost use Rattle.std.specs.Prelude.{◌↔◌, ◌^◌, ◌≤◌, ◌≤ℤ◌,
 ghost use Rattle.grid_exact.specs.Excess.{IsExcess, root_surface};
 ghost use Rattle.grid_exact.specs.Level.{IsLevel, Reaches};
 
+use crate::search::excess_over;
 use grid_exact::{LEVEL_LIMIT, Rising, Slope};
 
 /// Whether a slope is at most as high as this level, where the horizontal or the conical surface ends: 77.19(e). A level below the
@@ -26,5 +27,5 @@ pub(crate) fn excess_up_to(slope: &Slope, top: i64, limit: i64) -> Option<u32>
     if limit < top && !is_up_to(slope, limit) {
         return None;
     }
-    slope.excess(top)
+    excess_over(slope, top)
 }

@@ -187,16 +187,13 @@ impl Strip {
         ensures value { IsStripExcesses self.now x.now top cap.now result }
     {
         let at = self.by_primary(x);
-        let at1 = self.by_approach(End::One, x);
-        let at2 = self.by_approach(End::Two, x);
-        StripExcesses {
-            primary: self.over_primary(&at, x, top),
-            approach1: self.over_approach(End::One, &at1, x, top),
-            approach2: self.over_approach(End::Two, &at2, x, top),
-            beside_primary: self.beside_primary(&at, x, top, cap),
-            beside_approach1: self.beside_approach(End::One, &at1, x, top, cap),
-            beside_approach2: self.beside_approach(End::Two, &at2, x, top, cap),
+        if !self.primary.is_past_start(&at) {
+            return self.excesses_before(x, top, cap);
         }
+        if !self.primary.is_before_end(&at) {
+            return self.excesses_past(x, top, cap);
+        }
+        self.excesses_between(&at, x, top, cap)
     }
 
     /// The two ends of the primary surface on the extended centerline, each by its two coordinates: 77.19(c). They are the ends of

@@ -1,7 +1,8 @@
 //! The register with the surfaces over it.
 
-ghost use Rattle.std.specs.Prelude.{◌≡◌, ◌≢◌, ◌≤◌, ◌+◌, [], None, Some, IfOk, IfErr, OnOk, OnErr, length};
-ghost use Rattle.airport_register.specs.Amendments.{amended_id, first_broken, after_amendment};
+ghost use Rattle.std.specs.Prelude.{◌≡◌, ◌≢◌, ◌≤◌, ◌+◌, [], None, Some, IfOk, IfErr, OnOk, OnErr, length, option_map};
+ghost use Rattle.std.specs.Arc.{arc_value};
+ghost use Rattle.airport_register.specs.Amendments.{amended_id, first_broken, after_amendment, replaced};
 ghost use Rattle.airport_register.specs.Changes.{IsChange};
 ghost use Rattle.surface_tree.specs.declared.square.TheConstants.{TOP_LEVEL};
 ghost use Rattle.oe_findings.specs.List.{findings_of};
@@ -76,6 +77,7 @@ impl Sky {
         ensures allowed { IfOk result (λ _. first_broken self.now a.now ≡ None) }
         ensures after { IfOk result (λ r. r.0 ≡ after_amendment self.now a.now) }
         ensures change { IfOk result (λ r. IsChange self.now r.0 (amended_id a.now) r.1) }
+        ensures put { IfOk result (λ r. r.0 ≡ replaced (amended_id a.now) (option_map arc_value r.1.after) self.now) }
         ensures refused { IfErr result (λ e. e ≢ AmendRefusal.NoMemory → first_broken self.now a.now ≡ Some e) }
     {
         let mut register = self.register.share(alloc)?;

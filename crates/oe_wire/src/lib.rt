@@ -7,10 +7,11 @@
 
 pub use wire_changes::write_request;
 pub use wire_replies::{
-    CaseView, Outcome, Refusal, Reply, append_airfield, append_found, append_reply, write_reply,
+    CaseList, CaseView, Outcome, Refusal, Reply, append_airfield, append_found, append_reply,
+    write_reply,
 };
 pub use wire_requests::{
     Act, Change, Impact, Party, Query, ReadRefusal, RecordReader, Request, Submission,
     canonical_line, first_bad_field, one_reading, plain_of, read_record,
 };
-pub use wire_values::{Plain, Word};
+pub use wire_values::{Plain, ReportKind, Word};

@@ -1,23 +1,25 @@
 -- What is kept of a runway says its distance and its elevation.
-use Rattle.std.proofs.Common.{◌≡◌, ℕ, zero, suc, ◌+◌, ◌*◌, ◌<◌, ℤ, pos, negsuc, ◌+ℤ◌, ◌-ℤ◌, ◌*ℤ◌, ◌<ℤ◌, int_lt, true, false, arith, ap, subst, ◌∙◌}
+use Rattle.std.proofs.Common.{◌≡◌, ℕ, zero, suc, ◌+◌, ◌*◌, ◌≤◌, ◌^◌, ◌<◌, unsigned_abs, ℤ, pos, negsuc, ◌+ℤ◌, ◌-ℤ◌, ◌*ℤ◌, ◌≤ℤ◌, ◌<ℤ◌, int_lt, refl, true, false, arith, ap, subst, ◌∙◌}
 use Rattle.std.specs.Int.{int_div_euclid}
 use Rattle.std.proofs.Math.Nat.{mul-div_cancel}
-use Rattle.std.proofs.lemmas.Int.{ints}
+use Rattle.std.proofs.lemmas.Int.{ints, by_lt_z}
 use Rattle.std.proofs.lemmas.Nat.{div-mul-add}
 use Rattle.std.specs.declared.cmp.Ordering.{Ordering}
 use Rattle.grid_exact.specs.Lines.{Offset}
 use Rattle.grid_exact.specs.declared.point.Point.{Point}
+use Rattle.grid_exact.proofs.Sizes.{abs_mul_le}
 use Rattle.grid_exact.proofs.TestFacts.{lt_out}
 use Rattle.runway_lines.specs.Centerlines.{clamped, elevation_at}
 use Rattle.runway_lines.specs.Profiles.{profile, profile_of}
 use Rattle.runway_notice.specs.Candidates.{IsCandidate}
 use Rattle.runway_notice.specs.Distances.{Fraction, fraction_cmp, square_distance}
 use Rattle.runway_notice.specs.Nearest.{distance_of, elevation_of, offset_of}
+use Rattle.runway_notice.specs.Places.{placed}
 use Rattle.runway_notice.specs.declared.candidate.Candidate.{Candidate}
 use Rattle.runway_notice.proofs.DistanceFacts.{profile_some}
 
-pub elevation_is : (x : Point) (c : Candidate) (z : ℤ) → IsCandidate x c → z ≡ elevation_at (profile c.line) c.at → z ≡ elevation_of x c.runway.now
-elevation_is x c z h e = e ∙ (ap (λ p. elevation_at p c.at) h.line_is ∙ ap (λ o. elevation_at (profile_of c.runway.now) o) h.at_is)
+pub elevation_is : (x : Point) (c : Candidate) (z : ℤ) → IsCandidate x c → z ≡ elevation_at (profile c.line) (placed c.at) → z ≡ elevation_of x c.runway.now
+elevation_is x c z h e = e ∙ (ap (λ p. elevation_at p (placed c.at)) h.line_is ∙ ap (λ o. elevation_at (profile_of c.runway.now) o) h.at_is)
 
 -- ---- past the ends of the centerline its elevation is that of the end
 whole_quotient : (a : ℤ) (k : ℕ) → 0 < k → int_div_euclid (a *ℤ pos k) (pos k) ≡ a
@@ -53,9 +55,26 @@ end_elevation x c h l =
     let k : pos o.square <ℤ o.along = subst (λ (f : Offset). pos f.square <ℤ f.along) h.at_is l in
     past_end r.end1.z r.end2.z o.along o.square (profile_some r h.proper.within_length) k
 
-pub distance_is : (x : Point) (c : Candidate) (d : Fraction) → IsCandidate x c → d ≡ square_distance c.at → d ≡ distance_of x c.runway.now
+-- and between them it is by its climb
+pub not_below : (x y : ℤ) → (x <ℤ y → ⊥) → y ≤ℤ x
+not_below x y h = by_lt_z x y (λ l. absurd (h l)) (λ l. l)
+
+pub product_size : (rise along : ℤ) → unsigned_abs rise ≤ 2 ^ 18 → unsigned_abs along ≤ 2 ^ 37 → unsigned_abs (rise *ℤ along) ≤ 2 ^ 55
+product_size rise along h k = omega (arith, abs_mul_le rise along (2 ^ 18) (2 ^ 37) h k)
+
+clamped_within : (m : ℤ) (n : ℕ) → pos 0 ≤ℤ m → m ≤ℤ pos n → clamped m n ≡ m
+clamped_within m n l h =
+    let f : int_lt m (pos 0) ≡ false = grind (arith, ints, l) in
+    let g : int_lt (pos n) m ≡ false = grind (arith, ints, h) in
+    rw (f, g) refl
+
+pub middle_elevation : (x : Point) (c : Candidate) (e : ℤ) → IsCandidate x c → pos 0 ≤ℤ c.at.along → c.at.along ≤ℤ pos c.at.square →
+    e ≡ int_div_euclid (c.line.rise *ℤ c.at.along) (pos c.at.square) → c.line.z +ℤ e ≡ elevation_of x c.runway.now
+middle_elevation x c e h l m k = elevation_is x c (c.line.z +ℤ e) h (rw (k, clamped_within c.at.along c.at.square l m) refl)
+
+pub distance_is : (x : Point) (c : Candidate) (d : Fraction) → IsCandidate x c → d ≡ square_distance (placed c.at) → d ≡ distance_of x c.runway.now
 distance_is x c d h e = e ∙ ap square_distance h.at_is
 
-pub ranked : (x : Point) (c d : Candidate) (e f : Fraction) (o : Ordering) → IsCandidate x c → IsCandidate x d → e ≡ square_distance c.at → f ≡ square_distance d.at →
+pub ranked : (x : Point) (c d : Candidate) (e f : Fraction) (o : Ordering) → IsCandidate x c → IsCandidate x d → e ≡ square_distance (placed c.at) → f ≡ square_distance (placed d.at) →
     fraction_cmp e f ≡ o → fraction_cmp (distance_of x c.runway.now) (distance_of x d.runway.now) ≡ o
 ranked x c d e f o h k p q r = rw (distance_is x c e h p, distance_is x d f k q) at r

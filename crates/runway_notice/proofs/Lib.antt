@@ -9,3 +9,5 @@ pub mod NoticeFacts
 pub mod FarAirports
 pub mod PastRange
 pub mod AreaFacts
+pub mod QuotientFacts
+pub mod LoneFacts

@@ -1,6 +1,7 @@
 pub mod Distances
 pub mod Measures
 pub mod Nearest
+pub mod Places
 pub mod Candidates
 pub mod Laws
 pub mod Slopes
@@ -8,3 +9,4 @@ pub mod Surfaces
 pub mod Notices
 pub mod Areas
 pub mod NoticeAreas
+pub mod LoneRunways

@@ -1,36 +1,32 @@
 //! Runways on the way to the nearest one.
 
-ghost use Rattle.std.specs.Prelude.{◌≡◌, ◌^◌, ◌≤◌, unsigned_abs};
+ghost use Rattle.std.specs.Prelude.{◌≡◌, ◌^◌, ◌≤◌, ◌≤ℤ◌, ◌*ℤ◌, pos, unsigned_abs};
+ghost use Rattle.std.specs.Int.{int_div_euclid};
 ghost use Rattle.std.specs.Ordering.{int_cmp, is_lt};
 ghost use Rattle.airfields.specs.Runways.{IsProper};
 ghost use Rattle.runway_notice.specs.Distances.{square_distance};
 ghost use Rattle.runway_notice.specs.Nearest.{elevation_of, nearness_cmp};
 
+use crate::guesses::{Guesses, about_length, quotient};
+use crate::parts::Place;
 use crate::square_distance::SquareDistance;
 use airfields::Runway;
-use grid_exact::{Offset, Point, Vector};
+use grid_exact::{Point, Vector};
 use runway_lines::Centerline;
 use std::cmp::Ordering;
-use std::num::nearest_u64_to_f64;
 
 /// A runway with its centerline, and where one point lies by that.
 #[derive(Clone, Copy)]
 pub(crate) struct Candidate<'a> {
     pub(crate) runway: &'a Runway,
     pub(crate) line: Centerline,
-    pub(crate) at: Offset,
-}
-
-/// About the length of a vector.
-fn about_length(vector: &Vector) -> f64 {
-    let x = vector.x.unsigned_abs();
-    let y = vector.y.unsigned_abs();
-    nearest_u64_to_f64(x * x + y * y).sqrt()
+    pub(crate) at: Place,
 }
 
 impl<'a> Candidate<'a> {
     ghost use Rattle.runway_notice.specs.Candidates.{IsCandidate};
     ghost use Rattle.runway_notice.specs.Measures.{fraction};
+    ghost use Rattle.runway_notice.specs.Places.{placed};
 
     /// The runway, as a point lies by it.
     pub(crate) fn of(runway: &'a Runway, point: &Point) -> Candidate<'a>
@@ -42,47 +38,57 @@ impl<'a> Candidate<'a> {
         Candidate {
             runway,
             line,
-            at: line.offset(point),
+            at: Place::of(&line.offset(point)),
         }
     }
 
     /// How far the point is from the centerline.
     pub(crate) fn distance(&self) -> SquareDistance
-        ensures { fraction result ≡ square_distance self.now.at }
+        ensures { fraction result ≡ square_distance (placed self.now.at) }
     {
         SquareDistance::of(&self.at)
     }
 
+    /// How much higher than the first end the centerline is where it is nearest to the point, rounded down.
+    fn climb(&self, guesses: &Guesses) -> i64
+        requires least { pos 0 ≤ℤ self.now.at.along }
+        requires most { self.now.at.along ≤ℤ pos self.now.at.square }
+        ensures value { result ≡ int_div_euclid (self.now.line.rise *ℤ self.now.at.along) (pos self.now.at.square) }
+        ensures size { unsigned_abs result ≤ 2 ^ 18 }
+    {
+        let at = &self.at;
+        quotient(
+            guesses.climb(at.along),
+            self.line.rise * at.along,
+            at.square,
+        )
+    }
+
     /// How high the centerline is where it is nearest to the point, in tenths of a foot. The contracts name the point; the code has it
     /// as the offset.
-    #[tactic(auto, using(crate::proofs::CandidateFacts::elevation_is))]
-    pub(crate) fn elevation(&self, point: &Point) -> i64
+    pub(crate) fn elevation(&self, point: &Point, guesses: &Guesses) -> i64
         requires { IsCandidate point.now self.now }
         ensures value { result ≡ elevation_of point.now self.now.runway.now }
         ensures size { unsigned_abs result ≤ 2 ^ 19 }
     {
-        let along = self.at.along();
-        if along < 0 {
+        if self.at.is_before() {
             return self.runway.end1.z;
         }
-        if (self.at.square() as i128) < along {
+        if self.at.is_past() {
             return self.runway.end2.z;
         }
-        self.line.elevation_at(&self.at)
+        self.line.z + self.climb(guesses)
     }
 
     /// About how far the point is from the centerline, in tenths of a foot: a guess, of which nothing is asked.
-    pub(crate) fn about_distance(&self, point: &Point) -> f64 {
-        let (from, to) = (&self.runway.end1.at, &self.runway.end2.at);
-        let along = self.at.along();
-        if along < 0 {
-            return about_length(&Vector::between(from, point));
+    pub(crate) fn about_distance(&self, point: &Point, guesses: &Guesses) -> f64 {
+        if self.at.is_before() {
+            return about_length(&Vector::between(&self.runway.end1.at, point));
         }
-        if (self.at.square() as i128) < along {
-            return about_length(&Vector::between(to, point));
+        if self.at.is_past() {
+            return about_length(&Vector::between(&self.runway.end2.at, point));
         }
-        let aside = self.at.aside().unsigned_abs() as u64;
-        nearest_u64_to_f64(aside) / about_length(&Vector::between(from, to))
+        guesses.distance(self.at.aside as i64)
     }
 
     /// Compares how high its centerline and the other's are, each where it is nearest to the point.
@@ -91,7 +97,8 @@ impl<'a> Candidate<'a> {
         requires other { IsCandidate point.now other.now }
         ensures { result ≡ int_cmp (elevation_of point.now self.now.runway.now) (elevation_of point.now other.now.runway.now) }
     {
-        self.elevation(point).cmp(&other.elevation(point))
+        let own = self.elevation(point, &Guesses::of(self.runway));
+        own.cmp(&other.elevation(point, &Guesses::of(other.runway)))
     }
 
     /// Whether it is nearer to the point than the other, or as near where its centerline is lower.

@@ -13,6 +13,7 @@ ghost use Rattle.runway_notice.specs.Surfaces.{slope_excess};
 ghost use Rattle.runway_notice.specs.Notices.{IsNoticeSlope, notice_slope};
 
 use crate::candidate::Candidate;
+use crate::guesses::Guesses;
 use crate::limit::SlopeLimit;
 use crate::nearest::nearest;
 use crate::slope::{RANGE_B1, Slope, Sub};
@@ -39,7 +40,7 @@ fn is_far(arp: &Point, point: &Point) -> bool
 }
 
 /// The slope from the runway over the point.
-fn limit(runway: &Candidate, sub: Sub, point: &Point) -> SlopeLimit
+fn limit(runway: &Candidate, guesses: &Guesses, sub: Sub, point: &Point) -> SlopeLimit
     requires candidate { IsCandidate point.now runway.now }
     ensures distance { fraction result.distance ≡ distance_of point.now runway.now.runway.now }
     ensures base { result.base ≡ elevation_of point.now runway.now.runway.now }
@@ -47,16 +48,17 @@ fn limit(runway: &Candidate, sub: Sub, point: &Point) -> SlopeLimit
 {
     SlopeLimit {
         distance: runway.distance(),
-        base: runway.elevation(point),
+        base: runway.elevation(point, guesses),
         ratio: sub.ratio(),
-        about_rise: sub.rise_at(runway.about_distance(point)),
+        about_rise: sub.rise_at(runway.about_distance(point, guesses)),
     }
 }
 
 /// How far `top` is above the slope from a runway of the airport at the point.
-fn excess_over(
+pub(crate) fn excess_over(
     airport: &Airport,
     runway: &Candidate,
+    guesses: &Guesses,
     sub: Sub,
     point: &Point,
     top: i64,
@@ -70,7 +72,7 @@ fn excess_over(
     if !runway.distance().is_at_most(sub.range()) {
         return None;
     }
-    limit(runway, sub, point).excess(top)
+    limit(runway, guesses, sub, point).excess(top)
 }
 
 /// The slope that `top` is above, as `excess_notice` answers it. It stands apart so that what `excess_notice` says besides is proved
@@ -91,7 +93,8 @@ fn slope_over(a: &Airport, x: &Point, top: i64) -> Option<Slope>
         return None;
     };
     let sub = sub_of(&a.runways);
-    let excess = excess_over(a, &nearest, sub, x, top)?;
+    let guesses = Guesses::of(nearest.runway);
+    let excess = excess_over(a, &nearest, &guesses, sub, x, top)?;
     Some(Slope {
         sub,
         runway: nearest.runway.name,

@@ -3,41 +3,41 @@
 ghost use Rattle.std.specs.Prelude.{◌≡◌, ◌↔◌, ◌*◌, ◌^◌, ◌≤◌, IsTrue, unsigned_abs};
 ghost use Rattle.grid_exact.specs.Lines.{IsReach};
 ghost use Rattle.runway_notice.specs.Distances.{IsMeasure, beyond as beyond_of};
+ghost use Rattle.runway_notice.specs.Places.{placed};
 
-use grid_exact::Offset;
+use crate::parts::Place;
 use std::cmp::Ordering;
 
 /// The square of the distance from a point to a line, in square tenths of a foot: the fraction of `part` and `whole`.
 #[derive(Clone, Copy)]
 pub(crate) struct SquareDistance {
     part: u128,
-    whole: u128,
+    whole: u64,
     ghost measure: { IsMeasure part whole },
 }
 
 /// How far before the start or past the end of a line a point lies that lies so by it, times the line's length.
-fn beyond(at: &Offset) -> u128
-    ensures value { result ≡ beyond_of at.now }
+fn beyond(at: &Place) -> u64
+    ensures value { result ≡ beyond_of (placed at.now) }
     ensures reach { IsReach result at.now.square }
 {
-    let along = at.along();
-    if along < 0 {
-        return along.unsigned_abs();
+    if at.along < 0 {
+        return at.along.unsigned_abs();
     }
-    let square = at.square() as i128;
-    if square < along {
-        return (along - square).unsigned_abs();
+    let square = at.square as i64;
+    if square < at.along {
+        return (at.along - square).unsigned_abs();
     }
     0
 }
 
 /// The square of a number that is not too large.
-fn square(number: u128) -> u128
+fn squared(number: u64) -> u128
     requires { number ≤ 2 ^ 45 }
     ensures value { result ≡ number * number }
     ensures size { result ≤ 2 ^ 90 }
 {
-    number * number
+    number as u128 * number as u128
 }
 
 impl SquareDistance {
@@ -45,12 +45,12 @@ impl SquareDistance {
     ghost use Rattle.runway_notice.specs.Measures.{fraction};
 
     /// From a line to a point that lies so by it.
-    pub(crate) fn of(at: &Offset) -> SquareDistance
-        ensures { fraction result ≡ square_distance at.now }
+    pub(crate) fn of(at: &Place) -> SquareDistance
+        ensures { fraction result ≡ square_distance (placed at.now) }
     {
         SquareDistance {
-            part: square(beyond(at)) + square(at.aside().unsigned_abs()),
-            whole: at.square(),
+            part: squared(beyond(at)) + squared(at.aside),
+            whole: at.square,
         }
     }
 
@@ -58,7 +58,7 @@ impl SquareDistance {
     pub(crate) fn compare(&self, other: &SquareDistance) -> Ordering
         ensures { result ≡ fraction_cmp (fraction self.now) (fraction other.now) }
     {
-        (self.part * other.whole).cmp(&(other.part * self.whole))
+        (self.part * other.whole as u128).cmp(&(other.part * self.whole as u128))
     }
 
     /// Whether a number is at least the distance.
@@ -69,7 +69,7 @@ impl SquareDistance {
         if number < 0 {
             return false;
         }
-        self.part <= square(number.unsigned_abs() as u128) * self.whole
+        self.part <= squared(number.unsigned_abs()) * self.whole as u128
     }
 
     /// Whether a number is above the distance.
@@ -80,6 +80,6 @@ impl SquareDistance {
         if number < 0 {
             return false;
         }
-        self.part < square(number.unsigned_abs() as u128) * self.whole
+        self.part < squared(number.unsigned_abs()) * self.whole as u128
     }
 }

@@ -1,6 +1,6 @@
 //! Worked values, by exact fractions.
 
-use crate::{Slope, Sub, excess_notice, notice_area, notice_slope_is};
+use crate::{LoneRunway, Slope, Sub, excess_notice, notice_area, notice_slope_is};
 use airfields::{Airport, Category, FieldId, Runway, RunwayEnd, RunwayName, Runways};
 use grid_exact::{Area, LEVEL_LIMIT, Point};
 use runway_classes::ApproachKind;
@@ -62,6 +62,23 @@ fn over(airport: &Airport, at: &Point, top: i64) -> Result<Option<Slope>, BadTab
         return Err(BadTable);
     }
     Ok(excess_notice(airport, at, top))
+}
+
+/// The same by the airport's one runway, made ready, where it has no other.
+fn over_ready(airport: &Airport, at: &Point, top: i64) -> Result<Option<Slope>, BadTable> {
+    if !airport.is_held() {
+        return Err(BadTable);
+    }
+    if top < -LEVEL_LIMIT {
+        return Err(BadTable);
+    }
+    if top > LEVEL_LIMIT {
+        return Err(BadTable);
+    }
+    match LoneRunway::of(airport) {
+        Some(runway) => Ok(runway.excess(airport, at, top)),
+        None => Ok(excess_notice(airport, at, top)),
+    }
 }
 
 /// The slope of a row, where it has an excess.
@@ -202,11 +219,21 @@ fn tried(alloc: Global, row: &Row) -> Result<(Option<Slope>, Option<Slope>), Fai
     Ok((over(&airport, &at, top)?, slope(lines.0, name, excess)?))
 }
 
+/// What the top of a row is above by the one runway, made ready.
+fn tried_ready(alloc: Global, row: &Row) -> Result<Option<Slope>, Fail> {
+    let (lines, x, y, top, _, _) = *row;
+    let airport = airport(alloc, Category::PublicUse, lines)?;
+    let at = Point::new(x, y)?;
+    Ok(over_ready(&airport, &at, top)?)
+}
+
 #[test]
 fn slopes(rt: HostRuntime) -> Result<(), Fail> {
     for row in &ROWS {
         let (found, expected) = tried(rt.alloc(), row)?;
         assert_eq!(rt; found, expected, "{} at {}, {}", row.3, row.1, row.2);
+        let ready = tried_ready(rt.alloc(), row)?;
+        assert_eq!(rt; ready, expected, "ready: {} at {}, {}", row.3, row.1, row.2);
     }
     Ok(())
 }

@@ -4,7 +4,8 @@ use Rattle.std.specs.Fmt.{decimal}
 use Rattle.determination_dates.specs.declared.determination.Decision.{Decision}
 use Rattle.case_records.specs.declared.case.CaseView.{CaseView}
 use Rattle.wire_values.specs.Commas.{joined}
-use Rattle.wire_replies.specs.States.{status_word, decision_word, day_text}
+use Rattle.wire_values.specs.Words.{decision_word}
+use Rattle.wire_replies.specs.States.{status_word, day_text}
 
 -- the decision, or a dash where none was made
 abbrev pub decision_text : Option Decision → List ℕ

@@ -10,8 +10,9 @@ use Rattle.case_records.specs.declared.outcome.Outcome.{Outcome}
 use Rattle.case_records.specs.declared.outcome.Outcome.TheVariants as outcomes
 use Rattle.wire_values.specs.Commas.{joined}
 use Rattle.wire_values.specs.Plains.{plain_word}
+use Rattle.wire_values.specs.Words.{decision_word}
 use Rattle.wire_replies.specs.Entries.{list_text}
-use Rattle.wire_replies.specs.States.{decision_word, date_word, day_text}
+use Rattle.wire_replies.specs.States.{date_word, day_text}
 
 -- so many days late
 abbrev pub late_text : ℕ → List ℕ

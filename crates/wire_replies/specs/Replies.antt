@@ -1,10 +1,11 @@
 -- The texts of replies, each with the line feed that ends it.
-use Rattle.std.specs.Prelude.{ℕ, List, ◌++◌, Bool, codes, if◌then◌else◌}
+use Rattle.std.specs.Prelude.{ℕ, List, ◌++◌, length, map, Bool, codes, if◌then◌else◌}
 use Rattle.std.specs.Fmt.{decimal}
 use Rattle.airfield_findings.specs.declared.finding.Finding.{Finding}
 use Rattle.airfield_findings.specs.declared.verdict.Verdict.{Verdict}
 use Rattle.case_records.specs.declared.outcome.Outcome.{Outcome}
 use Rattle.case_records.specs.declared.refusal.Refusal.{Refusal}
+use Rattle.wire_values.specs.Commas.{with_commas}
 use Rattle.wire_replies.specs.Cases.{case_text}
 use Rattle.wire_replies.specs.Entries.{list_text}
 use Rattle.wire_replies.specs.Outcomes.{outcome_text}
@@ -40,7 +41,14 @@ verdict_text last v = codes "verdict," ++ decimal last ++ codes "," ++ yes_word 
 abbrev pub row_text : List ℕ → List ℕ
 row_text row = codes "airfield," ++ row ++ codes "\n"
 
--- the text of a reply
+-- cases: how many there are, and the number of each, a comma before it
+abbrev pub cases_text : List ℕ → List ℕ
+cases_text cases = decimal (length cases) ++ with_commas (map decimal cases)
+
+abbrev pub review_text : List ℕ → List ℕ
+review_text cases = codes "review," ++ cases_text cases ++ codes "\n"
+
+-- the text of a reply; a report is its table as it stands
 abbrev pub reply_text : Reply → List ℕ
 reply_text (replies.Accepted entry published outcome) = accepted_text entry published outcome
 reply_text (replies.Refused refusal) = refused_text refusal
@@ -48,3 +56,5 @@ reply_text (replies.Found last list) = found_text last list
 reply_text (replies.Verdict last verdict) = verdict_text last verdict
 reply_text (replies.Case view) = case_text view
 reply_text (replies.Airfield row) = row_text row
+reply_text (replies.Review cases) = review_text cases
+reply_text (replies.Report table) = table

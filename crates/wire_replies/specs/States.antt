@@ -2,8 +2,6 @@
 use Rattle.std.specs.Prelude.{ℕ, List, Option, Some, None, codes}
 use Rattle.jiff_core.specs.declared.civil.date.Date.{Date}
 use Rattle.determination_dates.specs.Text.{date_text}
-use Rattle.determination_dates.specs.declared.determination.Decision.{Decision}
-use Rattle.determination_dates.specs.declared.determination.Decision.TheVariants as decisions
 use Rattle.determination_dates.specs.declared.life.Status.{Status}
 use Rattle.determination_dates.specs.declared.life.Status.TheVariants as statuses
 
@@ -15,10 +13,6 @@ status_word statuses.HazardStands = codes "hazard"
 status_word statuses.Expired = codes "expired"
 status_word statuses.Abandoned = codes "abandoned"
 status_word statuses.Reversed = codes "reversed"
-
-abbrev pub decision_word : Decision → List ℕ
-decision_word decisions.NoHazard = codes "nohazard"
-decision_word decisions.Hazard = codes "hazard"
 
 -- a date as `YYYY-MM-DD`
 unfoldable pub date_word : Date → List ℕ

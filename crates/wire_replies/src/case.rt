@@ -9,11 +9,11 @@ ghost use Rattle.wire_replies.specs.Cases as spec;
 
 use crate::dates::append_next_day;
 use crate::fields::{append_next_number, append_next_word};
-use crate::states::{decision_word, status_word};
+use crate::states::status_word;
 use case_records::CaseView;
 use determination_dates::Decision;
 use grid_exact::NoMemory;
-use wire_values::append_text;
+use wire_values::{append_text, decision_word};
 
 fn decision_text(decision: Option<Decision>) -> &'static str
     ensures { result.now ≡ spec.decision_text decision }

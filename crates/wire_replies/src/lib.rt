@@ -1,4 +1,5 @@
-//! The texts of replies: what accepted requests led to, refusals, lists of findings and their entries, cases, and the rows of airfields.
+//! The texts of replies: what accepted requests led to, refusals, lists of findings and their entries, cases, the rows of airfields, lists of
+//! cases, and reports.
 //!
 //! Each function appends to a text. Where memory is refused, the text is the old one and maybe a part of what was to be appended, so that
 //! its owner can cut that part off again. No function appends more than six parts, as the proof of a longer chain is dear.
@@ -14,10 +15,11 @@ mod outcomes;
 mod refusals;
 mod replies;
 mod reply;
+mod review;
 mod rows;
 mod states;
 
-pub use case_records::{CaseView, Outcome, Refusal};
+pub use case_records::{CaseList, CaseView, Outcome, Refusal};
 pub use replies::{append_airfield, append_found, append_reply, write_reply};
 pub use reply::Reply;
 pub use wire_values::Plain;

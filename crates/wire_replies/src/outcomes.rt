@@ -4,19 +4,19 @@ ghost use Rattle.std.specs.Prelude.{◌≡◌, [], ◌∷◌, ◌++◌, OnOk, On
 ghost use Rattle.std.specs.Fmt.{decimal};
 ghost use Rattle.grid_exact.specs.Texts.{Extends};
 ghost use Rattle.wire_values.specs.Commas.{with_commas};
-ghost use Rattle.wire_replies.specs.States.{date_word, day_text, decision_word as decided_word};
+ghost use Rattle.wire_values.specs.Words.{decision_word as decided_word};
+ghost use Rattle.wire_replies.specs.States.{date_word, day_text};
 ghost use Rattle.wire_replies.specs.Entries.{list_text};
 ghost use Rattle.wire_replies.specs.Outcomes as spec;
 
 use crate::dates::{append_date, append_next_date, append_next_day};
 use crate::entries::append_list;
 use crate::fields::{append_next_number, append_next_word, append_number};
-use crate::states::decision_word;
 use case_records::Outcome;
 use determination_dates::{Decision, Timeliness};
 use grid_exact::NoMemory;
 use jiff::civil::Date;
-use wire_values::append_text;
+use wire_values::{append_text, decision_word};
 
 // Appends a comma and a number of days late.
 #[tactic(auto, using(grid_exact::proofs::Extending::extending))]

@@ -11,6 +11,7 @@ use crate::fields::{append_next_number, append_next_word, append_number};
 use crate::outcomes::append_outcome;
 use crate::refusals::append_refused;
 use crate::reply::Reply;
+use crate::review::append_review;
 use crate::rows::append_row;
 use airfield_findings::{Finding, Verdict};
 use airfields::Airfield;
@@ -125,6 +126,8 @@ pub fn append_reply(text: &mut String, reply: &Reply) -> Result<(), NoMemory>
         Reply::Verdict { last, verdict } => append_verdict(text, *last, *verdict),
         Reply::Case(view) => append_case(text, view),
         Reply::Airfield(row) => append_row_text(text, row.as_str()),
+        Reply::Review(cases) => append_review(text, cases.as_slice()),
+        Reply::Report(table) => append_text(text, table.as_str()),
     }
 }
 

@@ -1,7 +1,7 @@
 //! Replies.
 
 use airfield_findings::{Findings, Verdict};
-use case_records::{CaseView, Outcome, Refusal};
+use case_records::{CaseList, CaseView, Outcome, Refusal};
 use grid_exact::Text;
 
 /// The answer to a request.
@@ -29,4 +29,8 @@ pub enum Reply {
     Case(CaseView),
     /// An airfield of the register, told by its row.
     Airfield(Text),
+    /// The cases that are marked for review.
+    Review(CaseList),
+    /// The table of a report: each of its lines with the line feed that ends it.
+    Report(Text),
 }

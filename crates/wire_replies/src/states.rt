@@ -3,7 +3,7 @@
 ghost use Rattle.std.specs.Prelude.{◌≡◌};
 ghost use Rattle.wire_replies.specs.States as spec;
 
-use determination_dates::{Decision, Status};
+use determination_dates::Status;
 
 pub(crate) fn status_word(status: Status) -> &'static str
     ensures { result.now ≡ spec.status_word status }
@@ -16,14 +16,5 @@ pub(crate) fn status_word(status: Status) -> &'static str
         Status::Expired => "expired",
         Status::Abandoned => "abandoned",
         Status::Reversed => "reversed",
-    }
-}
-
-pub(crate) fn decision_word(decision: Decision) -> &'static str
-    ensures { result.now ≡ spec.decision_word decision }
-{
-    match decision {
-        Decision::NoHazard => "nohazard",
-        Decision::Hazard => "hazard",
     }
 }

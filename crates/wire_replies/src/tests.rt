@@ -1,6 +1,6 @@
 //! The texts of replies.
 
-use crate::{Outcome, Plain, Reply, append_airfield, append_found, write_reply};
+use crate::{CaseList, Outcome, Plain, Reply, append_airfield, append_found, write_reply};
 use airfield_findings::{Finding, Findings, Rule, SurfaceKey, Verdict};
 use airfields::{Airfield, Airport, Category, FieldId, Heliport, RunwayName, Runways};
 use grid_exact::{NoMemory, Point, Text};
@@ -161,6 +161,29 @@ fn lists_of_findings(rt: HostRuntime) -> Result<(), Fail> {
     for (last, list, want) in table {
         let text = write_reply(alloc, &Reply::Found { last, list })?;
         assert_eq!(rt; text.as_str(), want);
+    }
+    Ok(())
+}
+
+#[test]
+fn reviews_and_reports(rt: HostRuntime) -> Result<(), Fail> {
+    let alloc = rt.alloc();
+    let nothing = CaseList::new(alloc);
+    let mut two = CaseList::new(alloc);
+    two.push(1)?;
+    two.push(2)?;
+    let report = Text::from_str(alloc, "report,expiry,1\n2027-07-15       1\n")?;
+    let table: [(Reply, &str); 3] = [
+        (Reply::Review(nothing), "review,0\n"),
+        (Reply::Review(two), "review,2,1,2\n"),
+        (
+            Reply::Report(report),
+            "report,expiry,1\n2027-07-15       1\n",
+        ),
+    ];
+    for (reply, want) in &table {
+        let text = write_reply(alloc, reply)?;
+        assert_eq!(rt; text.as_str(), *want);
     }
     Ok(())
 }

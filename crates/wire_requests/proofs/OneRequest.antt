@@ -20,7 +20,7 @@ use Rattle.wire_values.specs.Plains.{plain_word}
 use Rattle.wire_values.specs.declared.plain.Plain.{Plain}
 use Rattle.wire_values.specs.declared.plain.Plain.TheVariants as plains
 use Rattle.wire_values.proofs.DateNames.{one_optional}
-use Rattle.wire_values.proofs.Named.{one_category, one_choice, one_number, one_count, one_impact, one_party}
+use Rattle.wire_values.proofs.Named.{one_category, one_choice, one_number, one_count, one_impact, one_party, one_report}
 use Rattle.wire_cursor.proofs.GroupFacts.{at, one_point, one_end, one_site}
 use Rattle.wire_requests.specs.Changes.{Asked}
 use Rattle.wire_requests.specs.Forms.{act_word, form_word, BeginsWith}
@@ -60,7 +60,9 @@ pub form_named : List ℕ → Form
 form_named word = if bytes_eq word (form_word forms.Screen) then forms.Screen
     else if bytes_eq word (form_word forms.Verdict) then forms.Verdict
     else if bytes_eq word (form_word forms.Case) then forms.Case
-    else if bytes_eq word (form_word forms.Airfield) then forms.Airfield else forms.Act (act_named word)
+    else if bytes_eq word (form_word forms.Airfield) then forms.Airfield
+    else if bytes_eq word (form_word forms.Review) then forms.Review
+    else if bytes_eq word (form_word forms.Report) then forms.Report else forms.Act (act_named word)
 
 pub form_again : (form : Form) → form_named (form_word form) ≡ form
 unfolding form_named act_named plain_named
@@ -83,6 +85,8 @@ form_again forms.Screen = refl
 form_again forms.Verdict = refl
 form_again forms.Case = refl
 form_again forms.Airfield = refl
+form_again forms.Review = refl
+form_again forms.Report = refl
 
 pub one_form : (f g : Form) → form_word f ≡ form_word g → f ≡ g
 one_form f g e = sym (form_again f) ∙ ap form_named e ∙ form_again g
@@ -221,16 +225,20 @@ one_query (queries.Screen a) (queries.Screen b) h k f e = ap (λ x. queries.Scre
 one_query (queries.Verdict a) (queries.Verdict b) h k f e = ap (λ x. queries.Verdict x) (one_site a b h k (ap (drop 1) e))
 one_query (queries.Case a) (queries.Case b) h k f e = ap (λ x. queries.Case x) (one_count a b (omega (arith, h)) (omega (arith, k)) (at 1 e))
 one_query (queries.Airfield a) (queries.Airfield b) h k f e = ap (λ x. queries.Airfield x) (at 1 e)
+one_query queries.Review queries.Review h k f e = refl
+one_query (queries.Report a) (queries.Report b) h k f e = ap (λ x. queries.Report x) (one_report a b (at 1 e))
 one_query _ _ h k f e = absurd (cc)
 
 -- ---- requests
 
 -- a changing request is no query
 no_query : (q : Query) (form : ActForm) → query_form q ≡ forms.Act form → ⊥
-no_query (queries.Screen s) form e = cc
-no_query (queries.Verdict s) form e = cc
-no_query (queries.Case n) form e = cc
-no_query (queries.Airfield id) form e = cc
+no_query (queries.Screen s) a e = cc
+no_query (queries.Verdict s) a e = cc
+no_query (queries.Case n) a e = cc
+no_query (queries.Airfield id) a e = cc
+no_query queries.Review a e = cc
+no_query (queries.Report kind) a e = cc
 
 same_form : (r s : Request) → spelling r ≡ spelling s → form_of r ≡ form_of s
 same_form (requests.Query a) (requests.Query b) e = one_form (query_form a) (query_form b) (at 0 e)

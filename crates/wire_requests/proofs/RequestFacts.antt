@@ -106,6 +106,8 @@ form_usual forms.Screen = (short_word _ (omega arith) (omega arith) refl, site_u
 form_usual forms.Verdict = (short_word _ (omega arith) (omega arith) refl, site_usual)
 form_usual forms.Case = (short_word _ (omega arith) (omega arith) refl, (case_usual, tt))
 form_usual forms.Airfield = (short_word _ (omega arith) (omega arith) refl, (tt, tt))
+form_usual forms.Review = (short_word _ (omega arith) (omega arith) refl, tt)
+form_usual forms.Report = (short_word _ (omega arith) (omega arith) refl, (tt, tt))
 
 -- ---- the request of some fields
 
@@ -265,6 +267,10 @@ request_of_values forms.Case v =
     record { request = requests.Query (queries.Case n.0); form_is = refl; fields_are = same_cons v.0.1 (same_cons n.1 refl); valid = (n.2, n.3) }
 request_of_values forms.Airfield v =
     record { request = requests.Query (queries.Airfield v.1.0.0); form_is = refl; fields_are = same_cons v.0.1 refl; valid = tt }
+request_of_values forms.Review v = record { request = requests.Query queries.Review; form_is = refl; fields_are = same_cons v.0.1 refl; valid = tt }
+request_of_values forms.Report v =
+    let kind = v.1.0.1 in
+    record { request = requests.Query (queries.Report kind.0); form_is = refl; fields_are = same_cons v.0.1 (same_cons kind.1 refl); valid = tt }
 
 pub request_of : (form : Form) (fields : List (List ℕ)) → HasShape (shape_of form) [] fields → RequestOf form fields
 request_of form fields h = let v = values_of (shape_of form) [] fields h in subst (RequestOf form) v.1 (request_of_values form v.0)

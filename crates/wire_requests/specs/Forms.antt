@@ -1,7 +1,7 @@
 -- The forms of records. Lengths and coordinates are whole tenths of a foot.
 use Rattle.std.specs.Prelude.{ℕ, List, [], ◌∷◌, ◌≡◌, codes}
 use Rattle.wire_values.specs.Words.{weight_word, pavement_word, urgency_word, statement_word, disposal_word, progress_word, warrant_word, grant_word}
-use Rattle.wire_values.specs.Wanted.{Wanted, Spelled, Choice, any_number, case_wanted, months_wanted, FieldIdWanted, RunwayNameWanted, WordWanted, CategoryWanted, ApproachWanted, DateWanted, OptionalDateWanted, CompletionWanted, ImpactWanted, PartyWanted}
+use Rattle.wire_values.specs.Wanted.{Wanted, Spelled, Choice, any_number, case_wanted, months_wanted, FieldIdWanted, RunwayNameWanted, WordWanted, CategoryWanted, ApproachWanted, DateWanted, OptionalDateWanted, CompletionWanted, ImpactWanted, PartyWanted, ReportWanted}
 use Rattle.wire_values.specs.Plains.{plain_word}
 use Rattle.wire_values.specs.declared.plain.Plain.{Plain}
 use Rattle.wire_values.specs.declared.plain.Plain.TheVariants as plains
@@ -31,6 +31,8 @@ form_word forms.Screen = codes "screen"
 form_word forms.Verdict = codes "verdict"
 form_word forms.Case = codes "case"
 form_word forms.Airfield = codes "airfield"
+form_word forms.Review = codes "review"
+form_word forms.Report = codes "report"
 
 -- the fields after caller and key, of the forms whose accepted reply says no more
 abbrev pub plain_shape : Plain → List Wanted
@@ -67,6 +69,8 @@ fields_of_form forms.Screen = site_shape
 fields_of_form forms.Verdict = site_shape
 fields_of_form forms.Case = case_wanted ∷ []
 fields_of_form forms.Airfield = FieldIdWanted ∷ []
+fields_of_form forms.Review = []
+fields_of_form forms.Report = ReportWanted ∷ []
 
 -- all fields of each form
 abbrev pub shape_of : Form → List Wanted

@@ -28,6 +28,8 @@ IsValidQuery (queries.Screen site) = IsValidSite site
 IsValidQuery (queries.Verdict site) = IsValidSite site
 IsValidQuery (queries.Case n) = IsCase n
 IsValidQuery (queries.Airfield id) = Unit {0}
+IsValidQuery queries.Review = Unit {0}
+IsValidQuery (queries.Report kind) = Unit {0}
 
 -- elevations and widths have nine digits here; the register refuses those outside their limits
 abbrev pub IsValidAmendment : Amendment → Type 0

@@ -9,7 +9,7 @@ use Rattle.determination_dates.specs.Text.{date_text}
 use Rattle.case_values.specs.declared.act.Act.{Act}
 use Rattle.case_values.specs.declared.act.Act.TheVariants as acts
 use Rattle.case_values.specs.declared.submission.Submission.{Submission}
-use Rattle.wire_values.specs.Words.{category_word, approach_word, weight_word, pavement_word, urgency_word, statement_word, disposal_word, progress_word, warrant_word, grant_word, impact_word, party_word, optional_date}
+use Rattle.wire_values.specs.Words.{category_word, approach_word, weight_word, pavement_word, urgency_word, statement_word, disposal_word, progress_word, warrant_word, grant_word, impact_word, party_word, optional_date, report_word}
 use Rattle.wire_values.specs.declared.plain.Plain.{Plain}
 use Rattle.wire_values.specs.declared.plain.Plain.TheVariants as plains
 use Rattle.wire_cursor.specs.Groups.{site_fields}
@@ -92,12 +92,16 @@ query_form (queries.Screen site) = forms.Screen
 query_form (queries.Verdict site) = forms.Verdict
 query_form (queries.Case n) = forms.Case
 query_form (queries.Airfield id) = forms.Airfield
+query_form queries.Review = forms.Review
+query_form (queries.Report kind) = forms.Report
 
 abbrev pub query_fields : Query → List (List ℕ)
 query_fields (queries.Screen site) = site_fields site
 query_fields (queries.Verdict site) = site_fields site
 query_fields (queries.Case n) = decimal n ∷ []
 query_fields (queries.Airfield id) = id ∷ []
+query_fields queries.Review = []
+query_fields (queries.Report kind) = report_word kind ∷ []
 
 abbrev pub query_spelling : Query → List (List ℕ)
 query_spelling q = form_word (query_form q) ∷ query_fields q

@@ -45,6 +45,10 @@ pub enum Form {
     Case,
     /// The row of an airfield.
     Airfield,
+    /// The cases that are marked for review.
+    Review,
+    /// A report.
+    Report,
 }
 
 // The form of a word.
@@ -73,6 +77,8 @@ fn form_of(word: &[u8]) -> Option<Form>
         b"verdict" => Some(Form::Verdict),
         b"case" => Some(Form::Case),
         b"airfield" => Some(Form::Airfield),
+        b"review" => Some(Form::Review),
+        b"report" => Some(Form::Report),
         _ => None,
     }
 }

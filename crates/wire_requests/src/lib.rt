@@ -21,6 +21,7 @@ pub use forms_of_acts::{act_form, plain_of};
 pub use laws::{canonical_line, first_bad_field, one_reading};
 pub use read::{RecordReader, read_record};
 pub use request::{Change, Query, ReadRefusal, Request};
+pub use wire_values::ReportKind;
 
 #[cfg(test)]
 mod case_tests;

@@ -1,4 +1,4 @@
-//! The forms that ask about a structure, a case or an airfield.
+//! The forms that ask about a structure, a case or an airfield, and for reports.
 
 ghost use Rattle.std.specs.Prelude.{◌≡◌, ◌+◌, IfOk, IfErr};
 ghost use Rattle.wire_cursor.specs.Shape.{IsBad};
@@ -52,4 +52,25 @@ pub(crate) fn airfield(cursor: &mut Cursor<'_>) -> Result<Request, BadField>
     let id = cursor.take()?;
     cursor.end()?;
     Ok(Request::Query(Query::Airfield(id)))
+}
+
+/// A question for the cases that are marked for review, after its word.
+pub(crate) fn review(cursor: &mut Cursor<'_>) -> Result<Request, BadField>
+    requires { cursor.old.before ≡ form_word forms.Review }
+    ensures read { IfOk result (λ r. IsReading forms.Review r cursor.old) }
+    ensures bad { IfErr result (λ b. IsBad (fields_of_form forms.Review) cursor.old (b.before + 1)) }
+{
+    cursor.end()?;
+    Ok(Request::Query(Query::Review))
+}
+
+/// A question for a report, after its word.
+pub(crate) fn report(cursor: &mut Cursor<'_>) -> Result<Request, BadField>
+    requires { cursor.old.before ≡ form_word forms.Report }
+    ensures read { IfOk result (λ r. IsReading forms.Report r cursor.old) }
+    ensures bad { IfErr result (λ b. IsBad (fields_of_form forms.Report) cursor.old (b.before + 1)) }
+{
+    let kind = cursor.take()?;
+    cursor.end()?;
+    Ok(Request::Query(Query::Report(kind)))
 }

@@ -1,6 +1,6 @@
 //! Questions, and the structures that they tell.
 
-use crate::{Query, Request, read_record};
+use crate::{Query, ReportKind, Request, read_record};
 use airfields::{FieldId, Filing, Flags, StructureKind};
 use std::alloc::Global;
 
@@ -77,13 +77,34 @@ fn questions(rt: HostRuntime) {
     assert_eq!(rt; id.as_bytes(), b"A1".as_slice());
 }
 
+// The report that a line asks for.
+fn report_of(alloc: Global, line: &[u8]) -> Option<ReportKind> {
+    match query_of(alloc, line) {
+        Some(Query::Report(kind)) => Some(kind),
+        _ => None,
+    }
+}
+
+#[test]
+fn reports(rt: HostRuntime) {
+    let alloc = rt.alloc();
+    assert!(rt; matches!(query_of(alloc, b"review"), Some(Query::Review)));
+    let table: [(&[u8], ReportKind); 3] = [
+        (b"report,review", ReportKind::Review),
+        (b"report,expiry", ReportKind::Expiry),
+        (b"\"report\",airfields", ReportKind::Airfields),
+    ];
+    for (line, want) in table {
+        assert_eq!(rt; report_of(alloc, line), Some(want));
+    }
+}
+
 // The structure that a query is about.
 fn filing_of(query: &Query) -> Option<&Filing> {
     match query {
         Query::Screen(filing) => Some(filing),
         Query::Verdict(filing) => Some(filing),
-        Query::Case(_) => None,
-        Query::Airfield(_) => None,
+        _ => None,
     }
 }
 

@@ -3,7 +3,7 @@
 use airfields::{FieldId, Filing};
 use case_values::Act;
 use std::marker::Model;
-use wire_values::Word;
+use wire_values::{ReportKind, Word};
 
 /// A request that changes what the desk holds; a key names each request of a caller. It has a record: each of its values is within the
 /// limits of its field.
@@ -52,6 +52,10 @@ pub enum Query {
     Case(u32),
     /// The row of the airfield of this name.
     Airfield(FieldId),
+    /// The cases that are marked for review.
+    Review,
+    /// A report.
+    Report(ReportKind),
 }
 
 /// A request.

@@ -107,7 +107,7 @@ const DROPS: [(&[u8], u32); 14] = [
     (b"drops,u,1,AAA", 1),
 ];
 
-const QUESTIONS: [(&[u8], u32); 15] = [
+const QUESTIONS: [(&[u8], u32); 22] = [
     (b"verdict", 2),
     (b"verdict,20000001,0,0,0,object,0,-,-", 2),
     (b"verdict,0,-20000001,0,0,object,0,-,-", 3),
@@ -123,6 +123,13 @@ const QUESTIONS: [(&[u8], u32); 15] = [
     (b"airfield,aaa", 2),
     (b"airfield,AAA,", 3),
     (b"airfields,AAA", 1),
+    (b"review,", 2),
+    (b"reviews", 1),
+    (b"report", 2),
+    (b"report,", 2),
+    (b"report,Review", 2),
+    (b"report,airfield", 2),
+    (b"report,review,", 3),
 ];
 
 const STRUCTURES: [(&[u8], u32); 35] = [

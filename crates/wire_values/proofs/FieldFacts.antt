@@ -28,11 +28,13 @@ use Rattle.case_values.specs.declared.act.Impact.{Impact}
 use Rattle.case_values.specs.declared.act.Impact.TheVariants as impacts
 use Rattle.case_values.specs.declared.act.Party.{Party}
 use Rattle.case_values.specs.declared.act.Party.TheVariants as parties
-use Rattle.wire_values.specs.Words.{IsWordByte, IsWord, category_word, approach_word, kind_word, marked, flag_letters, flags_text, or_dash, name_text, IsAirfieldName, IsBetween, impact_word, party_word, optional_date, IsAnyLimited}
-use Rattle.wire_values.specs.Wanted.{Wanted, Fits, mobile_limit, is_granted, Spelled, Between, Counted, Choice, FieldIdWanted, RunwayNameWanted, WordWanted, CategoryWanted, ApproachWanted, KindWanted, MobileWanted, FlagsWanted, AirfieldWanted, DateWanted, OptionalDateWanted, CompletionWanted, ImpactWanted, PartyWanted}
+use Rattle.wire_values.specs.Words.{IsWordByte, IsWord, category_word, approach_word, kind_word, marked, flag_letters, flags_text, or_dash, name_text, IsAirfieldName, IsBetween, impact_word, party_word, optional_date, IsAnyLimited, report_word}
+use Rattle.wire_values.specs.declared.report.ReportKind.{ReportKind}
+use Rattle.wire_values.specs.declared.report.ReportKind.TheVariants as reports
+use Rattle.wire_values.specs.Wanted.{Wanted, Fits, mobile_limit, is_granted, Spelled, Between, Counted, Choice, FieldIdWanted, RunwayNameWanted, WordWanted, CategoryWanted, ApproachWanted, KindWanted, MobileWanted, FlagsWanted, AirfieldWanted, DateWanted, OptionalDateWanted, CompletionWanted, ImpactWanted, PartyWanted, ReportWanted}
 use Rattle.wire_values.specs.Plainness.{is_field_byte, IsShortField, IsUsual}
 use Rattle.wire_values.proofs.Decisions.{Decided, decided_by, both_decided, either_decided, same_text, le_decided, same_decided, whole_le_decided, all_decided, spelling_decided}
-use Rattle.wire_values.proofs.Named.{own, category_named, category_again, approach_named, approach_again, kind_named, kind_again, impact_named, impact_again, party_named, party_again, number_named, number_again}
+use Rattle.wire_values.proofs.Named.{own, category_named, category_again, approach_named, approach_again, kind_named, kind_again, impact_named, impact_again, party_named, party_again, report_named, report_again, number_named, number_again}
 use Rattle.wire_values.proofs.DateNames.{date_decided, optional_decided, completion_decided, a_day, a_day_limited, date_bytes}
 use Rattle.wire_values.proofs.LetterFacts.{flags_read, flags_again}
 use Rattle.wire_values.proofs.LimitFacts.{between_short}
@@ -135,6 +137,7 @@ fits_decided OptionalDateWanted u before text = optional_decided text
 fits_decided CompletionWanted u before text = completion_decided (is_granted before) text
 fits_decided ImpactWanted u before text = spelling_decided impact_word impact_named impact_again text
 fits_decided PartyWanted u before text = spelling_decided party_word party_named party_again text
+fits_decided ReportWanted u before text = spelling_decided report_word report_named report_again text
 
 -- ---- what fits is short and plain
 
@@ -192,6 +195,11 @@ party_short : (p : Party) → IsShortField (party_word p)
 party_short parties.Sponsor = short_word _ (omega arith) (omega arith) refl
 party_short parties.Commenter = short_word _ (omega arith) (omega arith) refl
 party_short parties.LateComment = short_word _ (omega arith) (omega arith) refl
+
+report_short : (r : ReportKind) → IsShortField (report_word r)
+report_short reports.Review = short_word _ (omega arith) (omega arith) refl
+report_short reports.Expiry = short_word _ (omega arith) (omega arith) refl
+report_short reports.Airfields = short_word _ (omega arith) (omega arith) refl
 
 choice_short : (word : Bool → List ℕ) → IsShortField (word true) → IsShortField (word false) → (b : Bool) → IsShortField (word b)
 choice_short word t f true = t
@@ -269,6 +277,7 @@ fits_short OptionalDateWanted u before text h = subst IsShortField (sym h.1) (op
 fits_short CompletionWanted u before text h = subst IsShortField (sym h.1) (optional_short h.0)
 fits_short ImpactWanted u before text h = subst IsShortField (sym h.1) (impact_short h.0)
 fits_short PartyWanted u before text h = subst IsShortField (sym h.1) (party_short h.0)
+fits_short ReportWanted u before text h = subst IsShortField (sym h.1) (report_short h.0)
 
 -- ---- there is a text that fits
 
@@ -307,3 +316,4 @@ example before OptionalDateWanted u = (codes "-", (None, refl, tt))
 example before CompletionWanted u = a_completion (is_granted before)
 example before ImpactWanted u = (codes "-", (None, refl))
 example before PartyWanted u = (party_word parties.Sponsor, (parties.Sponsor, refl))
+example before ReportWanted u = (report_word reports.Review, (reports.Review, refl))

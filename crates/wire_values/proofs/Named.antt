@@ -21,7 +21,9 @@ use Rattle.case_values.specs.declared.act.Impact.TheVariants as impacts
 use Rattle.case_values.specs.declared.act.Party.{Party}
 use Rattle.case_values.specs.declared.act.Party.TheVariants as parties
 use Rattle.wire_values.specs.Letters.{begins_with}
-use Rattle.wire_values.specs.Words.{category_word, approach_word, kind_word, flags_text, name_text, IsAirfieldName, impact_word, party_word}
+use Rattle.wire_values.specs.Words.{category_word, approach_word, kind_word, flags_text, name_text, IsAirfieldName, impact_word, party_word, report_word}
+use Rattle.wire_values.specs.declared.report.ReportKind.{ReportKind}
+use Rattle.wire_values.specs.declared.report.ReportKind.TheVariants as reports
 
 -- ---- values of a list of words
 
@@ -93,6 +95,16 @@ party_again parties.Sponsor = refl
 party_again parties.Commenter = refl
 party_again parties.LateComment = refl
 
+pub report_named : List ℕ → ReportKind
+report_named word = if bytes_eq word (report_word reports.Review) then reports.Review
+    else if bytes_eq word (report_word reports.Expiry) then reports.Expiry else reports.Airfields
+
+pub report_again : (r : ReportKind) → report_named (report_word r) ≡ r
+unfolding report_named
+report_again reports.Review = refl
+report_again reports.Expiry = refl
+report_again reports.Airfields = refl
+
 -- ---- whole numbers
 
 pub own : IsNumeralModel (AllDigits 10) (digits_value 10)
@@ -141,6 +153,9 @@ one_impact = one impact_word impact_named impact_again
 
 pub one_party : (a b : Party) → party_word a ≡ party_word b → a ≡ b
 one_party = one party_word party_named party_again
+
+pub one_report : (a b : ReportKind) → report_word a ≡ report_word b → a ≡ b
+one_report = one report_word report_named report_again
 
 pub one_number : (a b : ℤ) → HasNineDigits a → HasNineDigits b → signed_decimal a ≡ signed_decimal b → a ≡ b
 one_number a b h k e = sym (number_again a h) ∙ ap number_named e ∙ number_again b k

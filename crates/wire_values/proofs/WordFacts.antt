@@ -10,7 +10,9 @@ use Rattle.case_values.specs.declared.act.Impact.{Impact}
 use Rattle.case_values.specs.declared.act.Impact.TheVariants as impacts
 use Rattle.case_values.specs.declared.act.Party.{Party}
 use Rattle.case_values.specs.declared.act.Party.TheVariants as parties
-use Rattle.wire_values.specs.Words.{category_word, approach_word, kind_word, impact_word, party_word}
+use Rattle.wire_values.specs.Words.{category_word, approach_word, kind_word, impact_word, party_word, report_word}
+use Rattle.wire_values.specs.declared.report.ReportKind.{ReportKind}
+use Rattle.wire_values.specs.declared.report.ReportKind.TheVariants as reports
 
 pub no_category : (word : List ℕ) → word ≢ codes "public" → word ≢ codes "building" → word ≢ codes "military" → word ≢ codes "federal"
     → word ≢ codes "dod" → word ≢ codes "procedure" → word ≢ codes "private" → (category : Category) → word ≢ category_word category
@@ -50,3 +52,8 @@ pub no_party : (word : List ℕ) → word ≢ codes "sponsor" → word ≢ codes
 no_party word s c l parties.Sponsor = s
 no_party word s c l parties.Commenter = c
 no_party word s c l parties.LateComment = l
+
+pub no_report : (word : List ℕ) → word ≢ codes "review" → word ≢ codes "expiry" → word ≢ codes "airfields" → (report : ReportKind) → word ≢ report_word report
+no_report word r e a reports.Review = r
+no_report word r e a reports.Expiry = e
+no_report word r e a reports.Airfields = a

@@ -15,8 +15,9 @@ use Rattle.determination_dates.specs.Text.{date_text}
 use Rattle.determination_dates.specs.declared.determination.TheConstants.{EXTENSION_MONTHS}
 use Rattle.case_values.specs.declared.act.Impact.{Impact}
 use Rattle.case_values.specs.declared.act.Party.{Party}
-use Rattle.wire_values.specs.Words.{IsWord, category_word, approach_word, kind_word, flags_text, name_text, IsAirfieldName, IsBetween, impact_word, party_word, optional_date, IsAnyLimited}
+use Rattle.wire_values.specs.Words.{IsWord, category_word, approach_word, kind_word, flags_text, name_text, IsAirfieldName, IsBetween, impact_word, party_word, optional_date, IsAnyLimited, report_word}
 use Rattle.wire_values.specs.declared.counts.TheConstants.{CASE_LIMIT}
+use Rattle.wire_values.specs.declared.report.ReportKind.{ReportKind}
 
 -- what a field may be
 pub data Wanted : Type 0 where
@@ -56,6 +57,8 @@ pub data Wanted : Type 0 where
   ImpactWanted : Wanted
   -- who petitions
   PartyWanted : Wanted
+  -- the name of a report
+  ReportWanted : Wanted
 
 -- any whole number of at most nine digits
 abbrev pub any_number : Wanted
@@ -98,3 +101,4 @@ Fits OptionalDateWanted before field = (date : Option Date) × (field ≡ option
 Fits CompletionWanted before field = (date : Option Date) × (field ≡ optional_date date) × IsAnyLimited date × (is_some date ≡ is_granted before)
 Fits ImpactWanted before field = (impact : Option Impact) × (field ≡ impact_word impact)
 Fits PartyWanted before field = (party : Party) × (field ≡ party_word party)
+Fits ReportWanted before field = (report : ReportKind) × (field ≡ report_word report)

@@ -1,4 +1,4 @@
--- The words by which records spell values.
+-- The words by which records, replies and reports spell values.
 use Rattle.std.specs.Prelude.{ℕ, ℤ, ◌≤ℤ◌, List, [], ◌∷◌, ◌++◌, ◌≤◌, ◌≡◌, ◌⊎◌, length, Bool, Option, Some, None, codes, if◌then◌else◌}
 use Rattle.std.specs.List.{All}
 use Rattle.runway_classes.specs.declared.ApproachKind.{ApproachKind}
@@ -12,10 +12,14 @@ use Rattle.airfields.specs.Names.{IsFieldId}
 use Rattle.jiff_core.specs.declared.civil.date.Date.{Date}
 use Rattle.determination_dates.specs.Days.{IsLimited}
 use Rattle.determination_dates.specs.Text.{date_text}
+use Rattle.determination_dates.specs.declared.determination.Decision.{Decision}
+use Rattle.determination_dates.specs.declared.determination.Decision.TheVariants as decisions
 use Rattle.case_values.specs.declared.act.Impact.{Impact}
 use Rattle.case_values.specs.declared.act.Impact.TheVariants as impacts
 use Rattle.case_values.specs.declared.act.Party.{Party}
 use Rattle.case_values.specs.declared.act.Party.TheVariants as parties
+use Rattle.wire_values.specs.declared.report.ReportKind.{ReportKind}
+use Rattle.wire_values.specs.declared.report.ReportKind.TheVariants as reports
 use Rattle.wire_values.specs.declared.word.TheConstants.{WORD_LIMIT}
 
 -- the code of an ASCII letter, of a digit, of a dot or of an underscore
@@ -142,3 +146,16 @@ optional_date (Some date) = date_text date
 abbrev pub IsAnyLimited : Option Date → Type 0
 IsAnyLimited None = Unit {0}
 IsAnyLimited (Some date) = IsLimited date
+
+-- ---- replies and reports
+
+-- the decision of a determination (77.31)
+abbrev pub decision_word : Decision → List ℕ
+decision_word decisions.NoHazard = codes "nohazard"
+decision_word decisions.Hazard = codes "hazard"
+
+-- the name of a report
+abbrev pub report_word : ReportKind → List ℕ
+report_word reports.Review = codes "review"
+report_word reports.Expiry = codes "expiry"
+report_word reports.Airfields = codes "airfields"

@@ -1,8 +1,9 @@
 //! Each kind of value, read and appended.
 
 use crate::{
-    CaseNumber, Disposal, FieldValue, Grant, Months, Pavement, Plain, Progress, Statement, Urgency,
-    Warrant, Weight, WholeNumber, Word, append_next, completion_date, number_within,
+    CaseNumber, Disposal, FieldValue, Grant, Months, Pavement, Plain, Progress, ReportKind,
+    Statement, Urgency, Warrant, Weight, WholeNumber, Word, append_next, completion_date,
+    number_within,
 };
 use airfields::{Category, FieldId, Flags, RunwayName, StructureKind};
 use case_values::{Impact, Party};
@@ -60,7 +61,7 @@ fn spellings(rt: HostRuntime) {
 #[test]
 fn spellings_of_cases(rt: HostRuntime) {
     let alloc = rt.alloc();
-    let table: [(Option<Vec<u8>>, Option<&[u8]>); 32] = [
+    let table: [(Option<Vec<u8>>, Option<&[u8]>); 34] = [
         (again::<Date>(alloc, b"2024-02-29"), Some(b",2024-02-29")),
         (again::<Date>(alloc, b"1900-01-01"), Some(b",1900-01-01")),
         (again::<Date>(alloc, b"2026-02-30"), None),
@@ -99,6 +100,11 @@ fn spellings_of_cases(rt: HostRuntime) {
         ),
         (again::<Party>(alloc, b"latecomment"), Some(b",latecomment")),
         (again::<Party>(alloc, b"none"), None),
+        (
+            again::<ReportKind>(alloc, b"airfields"),
+            Some(b",airfields"),
+        ),
+        (again::<ReportKind>(alloc, b"Review"), None),
     ];
     for (text, want) in &table {
         assert_eq!(rt; text.as_deref(), *want);

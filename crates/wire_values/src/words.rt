@@ -4,10 +4,11 @@ ghost use Rattle.std.specs.Prelude.{◌≡◌, ◌≢◌, Some, IfSome, IfNone, 
 ghost use Rattle.runway_classes.specs.declared.ApproachKind.{ApproachKind};
 ghost use Rattle.airfields.specs.declared.category.Category.{Category};
 ghost use Rattle.case_values.specs.declared.act.Impact.{Impact as SomeImpact};
-ghost use Rattle.wire_values.specs.Words.{category_word, approach_word, kind_word, impact_word, party_word};
-ghost use Rattle.wire_values.specs.Wanted.{CategoryWanted, ApproachWanted, KindWanted, ImpactWanted, PartyWanted};
+ghost use Rattle.wire_values.specs.Words.{category_word, approach_word, kind_word, impact_word, party_word, report_word};
+ghost use Rattle.wire_values.specs.Wanted.{CategoryWanted, ApproachWanted, KindWanted, ImpactWanted, PartyWanted, ReportWanted};
 
 use crate::field_value::{FieldValue, append_text};
+use crate::report::ReportKind;
 use airfields::{Category, StructureKind};
 use case_values::{Impact, Party};
 use grid_exact::NoMemory;
@@ -213,6 +214,30 @@ impl FieldValue for Party {
 
     fn append(&self, text: &mut String) -> Result<(), NoMemory> {
         append_text(text, text_of_party(*self))
+    }
+
+    ghost fits = { λ v _ _. (v, refl) };
+}
+
+impl FieldValue for ReportKind {
+    ghost wanted = { ReportWanted };
+
+    ghost spelled = { report_word };
+
+    ghost good = { λ _. Unit {0} };
+
+    #[tactic(auto, using(crate::proofs::WordFacts::no_report))]
+    fn parse(text: &[u8]) -> Option<ReportKind> {
+        match text {
+            b"review" => Some(ReportKind::Review),
+            b"expiry" => Some(ReportKind::Expiry),
+            b"airfields" => Some(ReportKind::Airfields),
+            _ => None,
+        }
+    }
+
+    fn append(&self, text: &mut String) -> Result<(), NoMemory> {
+        append_text(text, self.word())
     }
 
     ghost fits = { λ v _ _. (v, refl) };

@@ -5,8 +5,8 @@ use Rattle.horizontal_hull.proofs.rise.rise_of_two.Given as goal
 abbrev pub invariant-loop-least : goal.invariant-loop-least
 invariant-loop-least l = record {
   order : l.least ≤ l.reached;
-  below : l.reached < l.most;
-  reaches : in_risen l.x l.reached l.a l.b ≡ true;
+  within : l.reached ≤ l.most;
+  reaches : l.reached < l.most → in_risen l.x l.reached l.a l.b ≡ true;
   missed : (k : ℕ) → in_risen l.x k l.a l.b ≡ true → l.least ≤ k;
 }
 

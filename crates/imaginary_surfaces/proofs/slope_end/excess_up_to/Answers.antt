@@ -9,7 +9,7 @@ use Rattle.imaginary_surfaces.proofs.slope_end.excess_up_to.Goals as goal
 use Rattle.imaginary_surfaces.proofs.slope_end.excess_up_to.Goals.{else-limit-top-via-then-limit-top+else-not-is_up_to, else-limit-top-via-else-limit-top}
 
 -- where the top is above the slope, so is the limit, or at it
-limited : (c : goal.After-excess) → BelowRoot c.args.slope.now.a (c.args.slope.now.k *ℤ c.args.top -ℤ c.args.slope.now.c) c.args.slope.now.n →
+limited : (c : goal.After-excess_over) → BelowRoot c.args.slope.now.a (c.args.slope.now.k *ℤ c.args.top -ℤ c.args.slope.now.c) c.args.slope.now.n →
     Reaches c.args.slope.now.a c.args.slope.now.k c.args.slope.now.c c.args.slope.now.n c.args.limit
 limited c b =
     let s = c.args.slope.now in
@@ -26,5 +26,5 @@ pub returns-clause-exact : goal.returns-clause-exact
 returns-clause-exact c =
     let s = c.args.slope.now in
     let ft : FitsSigned w64 c.args.top = c.ranges.top in
-    let h : IsExcess (root_surface ⊤ s.a s.k s.c s.n) c.args.top c.excess.result = simp to_z-of_z at c.excess.ensures.excess in
-    root_for ⊤ (Reaches s.a s.k s.c s.n c.args.limit) s.a s.k s.c s.n c.args.top c.excess.result (λ t b. limited c b) (λ r. tt) h
+    let h : IsExcess (root_surface ⊤ s.a s.k s.c s.n) c.args.top c.excess_over.result = simp to_z-of_z at c.excess_over.ensures.excess in
+    root_for ⊤ (Reaches s.a s.k s.c s.n c.args.limit) s.a s.k s.c s.n c.args.top c.excess_over.result (λ t b. limited c b) (λ r. tt) h

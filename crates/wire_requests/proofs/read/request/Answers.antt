@@ -20,5 +20,11 @@ returns-in-Some-Case-clause-bad c = wrong_form forms.Case _ _ _ c.case.result c.
 pub returns-in-Some-Airfield-clause-bad : goal.returns-in-Some-Airfield-clause-bad
 returns-in-Some-Airfield-clause-bad c = wrong_form forms.Airfield _ _ _ c.airfield.result c.new-cursor.ensures (rw c.in-Some-Airfield.field-0-is at c.in-Some-Airfield.ensures.took) c.airfield.ensures.bad
 
+pub returns-in-Some-Review-clause-bad : goal.returns-in-Some-Review-clause-bad
+returns-in-Some-Review-clause-bad c = wrong_form forms.Review _ _ _ c.review.result c.new-cursor.ensures (rw c.in-Some-Review.field-0-is at c.in-Some-Review.ensures.took) c.review.ensures.bad
+
+pub returns-in-Some-Report-clause-bad : goal.returns-in-Some-Report-clause-bad
+returns-in-Some-Report-clause-bad c = wrong_form forms.Report _ _ _ c.report.result c.new-cursor.ensures (rw c.in-Some-Report.field-0-is at c.in-Some-Report.ensures.took) c.report.ensures.bad
+
 pub returns-in-None-clause-bad : goal.returns-in-None-clause-bad
 returns-in-None-clause-bad c = NoForm (rw c.new-cursor.ensures at c.in-None.ensures.none) refl

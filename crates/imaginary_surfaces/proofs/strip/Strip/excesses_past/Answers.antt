@@ -1,0 +1,26 @@
+use Rattle.std.proofs.Common.{FitsSigned, w64, to_z-of_z, arith, sym}
+use Rattle.std.proofs.lemmas.Int.{ints}
+use Rattle.runway_lines.specs.declared.end.End.TheVariants.{One}
+use Rattle.imaginary_surfaces.proofs.ZoneFacts.{along_first, not_ahead, past_end}
+use Rattle.imaginary_surfaces.proofs.strip.Strip.excesses_past.Goals as goal
+
+pub returns : goal.returns
+returns c =
+    let r = c.args.self.now in
+    let x = c.args.x.now in
+    let cap = c.args.cap.now in
+    let top = c.args.top in
+    let ft : FitsSigned w64 top = c.ranges.top in
+    let p = c.excesses_at-ahead.ensures.proper in
+    let none = past_end r x top cap p c.requires.top c.requires.past in
+    let other = not_ahead r One x top cap p c.requires.top (omega (arith, ints, along_first r x, c.requires.past)) in
+    record {
+      value = record {
+        primary = sym none.over;
+        approach1 = sym other.over;
+        approach2 = simp to_z-of_z at c.excesses_at-ahead.ensures.over;
+        beside_primary = sym none.beside;
+        beside_approach1 = sym other.beside;
+        beside_approach2 = simp to_z-of_z at c.excesses_at-ahead.ensures.beside;
+      };
+    }

@@ -1,0 +1,74 @@
+//! How far a top is above a slope: the least level that reaches it is looked for near a guess first.
+
+ghost use Rattle.std.specs.Prelude.{ℤ, ◌^◌, ◌≤◌, ◌≤ℤ◌, IfSome, ⊤};
+ghost use Rattle.grid_exact.specs.Excess.{IsExcess, root_surface};
+ghost use Rattle.grid_exact.specs.Level.{IsLevel, Reaches};
+
+use grid_exact::{LEVEL_LIMIT, Rising, Slope, Sloping, least_reached};
+use std::num::{nearest_i64_to_f64, nearest_u64_to_f64, saturating_f64_to_u32};
+
+/// About how high the slope is: a guess, of which nothing is asked.
+fn about_height(slope: &Slope) -> f64 {
+    let square = slope.n.min(u128::from(u64::MAX)) as u64;
+    let run = nearest_i64_to_f64(slope.a as i64) / nearest_u64_to_f64(square).sqrt();
+    (run + nearest_i64_to_f64(slope.c as i64)) / nearest_i64_to_f64(slope.k as i64)
+}
+
+/// About the least level that reaches it, or one more, and none above `top`.
+fn guess(slope: &Slope, top: i64) -> i64
+    requires top { IsLevel top }
+    ensures level { IsLevel result }
+{
+    let lowest = nearest_i64_to_f64(-LEVEL_LIMIT);
+    let guess = i64::from(saturating_f64_to_u32(about_height(slope) - lowest)) + 1 - LEVEL_LIMIT;
+    if guess < top { guess } else { top }
+}
+
+/// A level that reaches it: the guess, where it does, and else `top`.
+fn reached_level(slope: &Slope, guess: i64, top: i64) -> i64
+    requires guess { IsLevel guess }
+    requires top { IsLevel top }
+    requires reached { Reaches slope.now.a slope.now.k slope.now.c slope.now.n top }
+    ensures level { IsLevel result }
+    ensures reached { Reaches slope.now.a slope.now.k slope.now.c slope.now.n result }
+{
+    if slope.is_reached(guess) { guess } else { top }
+}
+
+/// A level under which none reaches it: the guess, where the one below it does not, and else the lowest.
+fn least_possible(slope: &Slope, guess: i64) -> i64
+    requires guess { IsLevel guess }
+    ensures level { IsLevel result }
+    ensures lowest { (z : ℤ) → Reaches slope.now.a slope.now.k slope.now.c slope.now.n z → result ≤ℤ z }
+{
+    if guess <= -LEVEL_LIMIT || slope.is_reached(guess - 1) {
+        return -LEVEL_LIMIT;
+    }
+    guess
+}
+
+/// The least level that reaches it, where `top` does.
+fn least_level(slope: &Slope, top: i64) -> i64
+    requires top { IsLevel top }
+    requires reached { Reaches slope.now.a slope.now.k slope.now.c slope.now.n top }
+    ensures level { IsLevel result }
+    ensures reached { Reaches slope.now.a slope.now.k slope.now.c slope.now.n result }
+    ensures least { (z : ℤ) → Reaches slope.now.a slope.now.k slope.now.c slope.now.n z → result ≤ℤ z }
+{
+    let guess = guess(slope, top);
+    let low = least_possible(slope, guess);
+    let high = reached_level(slope, guess, top);
+    least_reached(slope, low, high)
+}
+
+/// How far `top` is above a slope, rounded down.
+pub(crate) fn excess_over(slope: &Slope, top: i64) -> Option<u32>
+    requires top { IsLevel top }
+    ensures excess { IsExcess (root_surface ⊤ slope.now.a slope.now.k slope.now.c slope.now.n) top result }
+    ensures size { IfSome result (λ e. e ≤ 2 ^ 26) }
+{
+    if !slope.is_exceeded(top) {
+        return None;
+    }
+    Some((top - least_level(slope, top)) as u32)
+}

@@ -1,0 +1,21 @@
+-- For proofs alone: the runway of an airport that has no other.
+use Rattle.std.specs.Prelude.{◌≡◌, true, [], ◌∷◌}
+use Rattle.airfields.specs.Categories.{is_described}
+use Rattle.airfields.specs.Runways.{IsProper}
+use Rattle.airfields.specs.declared.airfield.Airport.{Airport}
+use Rattle.airfields.specs.declared.runway.Runway.{Runway}
+use Rattle.runway_lines.specs.Profiles.{profile, profile_of}
+use Rattle.runway_lines.specs.declared.centerline.Centerline.{Centerline}
+use Rattle.runway_notice.specs.Slopes.{sub_of}
+use Rattle.runway_notice.specs.declared.slope.Sub.{Sub}
+
+-- 77.9(d) describes the airport, and it has this runway alone
+pub record IsLoneOf (a : Airport) (r : Runway) : Type 0 where
+  pub described : is_described a.category ≡ true
+  pub alone : a.runways ≡ (r ∷ [])
+
+-- what is kept of such a runway
+pub record IsReady (r : Runway) (line : Centerline) (sub : Sub) : Type 0 where
+  pub proper : IsProper r
+  pub line_is : profile line ≡ profile_of r
+  pub sub_is : sub ≡ sub_of (r ∷ [])

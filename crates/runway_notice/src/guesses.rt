@@ -1,0 +1,80 @@
+//! Guesses by which exact numbers are come to sooner.
+
+ghost use Rattle.std.specs.Prelude.{◌≡◌, ◌^◌, ◌≤◌, ◌<◌, pos, unsigned_abs};
+ghost use Rattle.std.specs.Int.{int_div_euclid};
+
+use airfields::Runway;
+use grid_exact::Vector;
+use std::num::{nearest_i64_to_f64, saturating_f64_to_i64};
+
+/// No guess is farther from zero, in tenths of a foot.
+pub(crate) const GUESS_LIMIT: i64 = 1_000_000;
+
+/// What guesses about a runway start from; nothing is asked of them.
+#[derive(Clone, Copy)]
+pub(crate) struct Guesses {
+    /// About how much higher it is for each part along, as an offset counts them.
+    climb: f64,
+    /// About how far each such part is, in tenths of a foot.
+    part: f64,
+}
+
+/// About the length of a vector.
+pub(crate) fn about_length(vector: &Vector) -> f64 {
+    let x = nearest_i64_to_f64(vector.x);
+    let y = nearest_i64_to_f64(vector.y);
+    (x * x + y * y).sqrt()
+}
+
+/// About a number, rounded down; 0 where it is far from zero.
+pub(crate) fn about(number: f64) -> i64
+    ensures { unsigned_abs result ≤ unsigned_abs GUESS_LIMIT }
+{
+    let limit = nearest_i64_to_f64(GUESS_LIMIT);
+    let whole = saturating_f64_to_i64(number + limit);
+    if whole < 0 || whole > GUESS_LIMIT + GUESS_LIMIT {
+        return 0;
+    }
+    whole - GUESS_LIMIT
+}
+
+impl Guesses {
+    /// Those about a runway.
+    pub(crate) fn of(runway: &Runway) -> Guesses {
+        let length = about_length(&Vector::between(&runway.end1.at, &runway.end2.at));
+        let rise = nearest_i64_to_f64(runway.end2.z) - nearest_i64_to_f64(runway.end1.z);
+        Guesses {
+            climb: rise / (length * length),
+            part: 1.0 / length,
+        }
+    }
+
+    /// About how much higher the runway is so far along.
+    pub(crate) fn climb(&self, along: i64) -> i64
+        ensures { unsigned_abs result ≤ unsigned_abs GUESS_LIMIT }
+    {
+        about(nearest_i64_to_f64(along) * self.climb)
+    }
+
+    /// About how far so many parts are, in tenths of a foot.
+    pub(crate) fn distance(&self, parts: i64) -> f64 {
+        nearest_i64_to_f64(parts) * self.part
+    }
+}
+
+/// A quotient, rounded down: the guess, where it is that.
+#[tactic(auto, using(grid_exact::proofs::Sizes::casts))]
+pub(crate) fn quotient(guess: i64, number: i64, divisor: u64) -> i64
+    requires guess { unsigned_abs guess ≤ unsigned_abs GUESS_LIMIT }
+    requires number { unsigned_abs number ≤ 2 ^ 60 }
+    requires some { 0 < divisor }
+    requires divisor { divisor ≤ 2 ^ 37 }
+    ensures { result ≡ int_div_euclid number (pos divisor) }
+{
+    let divisor = divisor as i64;
+    let rest = number - guess * divisor;
+    if 0 <= rest && rest < divisor {
+        return guess;
+    }
+    number.div_euclid(divisor)
+}
