@@ -4,3 +4,4 @@ pub mod Limits
 pub mod Deciding
 pub mod MarksAfter
 pub mod Closing
+pub mod AmendFacts

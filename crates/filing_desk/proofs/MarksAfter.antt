@@ -416,3 +416,66 @@ marks_are s rows are =
     let beyond_rows = numbers_beyond (is_marked_in rows) (length rows) top (omega arith) (λ k h. ap is_marked_row (row_past rows k (grind (arith, common_steps, h)))) in
     let beyond_cases = numbers_beyond (is_marked s) (length s.cases) top (omega arith) (λ k h. ap (λ o. is_marked_row (with_some o (watched s))) (case_past s.cases k h)) in
     sym beyond_rows ∙ numbers_same (is_marked_in rows) (is_marked s) top (λ k. is_marked_as s rows k are) ∙ beyond_cases
+
+-- ---- whole steps
+
+-- the marks and the day, as the office keeps them
+abbrev pub AreKept : State → List (Option Row) → Type 0
+AreKept s rows = AreMarks s rows × HasDay s
+
+nothing_changed : (k : ℕ) (f : KeptCase → KeptCase) (v : Option KeptCase) → changed_at k f [] v ≡ []
+nothing_changed k f None = refl
+nothing_changed k f (Some c) = refl
+
+day_formed : (s : State) (k : ℕ) (f : KeptCase → KeptCase) → HasDay s → HasDay (record s { cases = with_case k f s.cases })
+day_formed s k f h = λ none. ap (with_case k f) (h none) ∙ nothing_changed k f (case_at [] k)
+
+-- a case is changed in what no list hangs on
+pub kept_formed : (s : State) (k : ℕ) (f : KeptCase → KeptCase) (rows : List (Option Row)) → ((c : KeptCase) → watched s (f c) ≡ watched s c) → AreKept s rows → AreKept (record s { cases = with_case k f s.cases }) rows
+kept_formed s k f rows same h = (marks_formed s k f rows same h.0, day_formed s k f h.1)
+
+lived : (s : State) (k : ℕ) (life : Life) (rows : List (Option Row)) (b : Bool) → stands_in (record s { cases = with_case k (λ c. record c { life = life }) s.cases }) k ≡ b → Goes s (steps.LifePut k life) → AreMarks s rows
+    → AreMarks (record s { cases = with_case k (λ c. record c { life = life }) s.cases }) (cond b rows (closed k rows))
+lived s k life rows true is goes are = marks_alive s k life rows goes are is
+lived s k life rows false is goes are = marks_fallen s k (λ c. record c { life = life }) rows are is
+
+pub kept_alive : (s : State) (k : ℕ) (life : Life) (rows : List (Option Row)) → Goes s (steps.LifePut k life) → AreKept s rows
+    → AreKept (stepped (steps.LifePut k life) s) (cond (stands_in (stepped (steps.LifePut k life) s) k) rows (closed k rows))
+kept_alive s k life rows goes h = (lived s k life rows (stands_in (stepped (steps.LifePut k life) s) k) refl goes h.0, day_formed s k (λ c. record c { life = life }) h.1)
+
+issued_rows : (s : State) (k : ℕ) (life : Life) (kept : KeptList) (there : KeptCase) (rows : List (Option Row)) (b : Bool) → stands_in (record s { cases = with_case k (issued_case life kept) s.cases }) k ≡ b
+    → Goes s (steps.Issued k life kept) → 1 ≤ k → k ≤ length rows → case_at s.cases k ≡ Some there → AreMarks s rows
+    → AreMarks (record s { cases = with_case k (issued_case life kept) s.cases }) (cond b (slice_set rows (k - 1) (Some (unmarked there kept))) (closed k (slice_set rows (k - 1) (Some (unmarked there kept)))))
+issued_rows s k life kept there rows true is goes low high at are =
+    marks_issued s k life kept there rows are low high at (same_lists kept.list (findings_of s.register there.submission.filing) (goes there at)) is
+issued_rows s k life kept there rows false is goes low high at are =
+    λ n. closed_put rows (unmarked there kept) k low high n ∙ marks_fallen s k (issued_case life kept) rows are is n
+
+pub kept_issued : (s : State) (k : ℕ) (life : Life) (kept : KeptList) (there : KeptCase) (old rows : List (Option Row)) → Goes s (steps.Issued k life kept) → case_at s.cases k ≡ Some there → ((n : ℕ) → row_at rows n ≡ row_at old n)
+    → k ≤ length rows → AreKept s old
+    → AreKept (stepped (steps.Issued k life kept) s)
+    (cond (stands_in (stepped (steps.Issued k life kept) s) k) (slice_set rows (k - 1) (Some (unmarked there kept))) (closed k (slice_set rows (k - 1) (Some (unmarked there kept)))))
+kept_issued s k life kept there old rows goes at same high h =
+    (issued_rows s k life kept there rows (stands_in (stepped (steps.Issued k life kept) s) k) refl goes (not_zero k at) high at (λ n. same n ∙ h.0 n), day_formed s k (issued_case life kept) h.1)
+  where
+    not_zero : (k : ℕ) → case_at s.cases k ≡ Some there → 1 ≤ k
+    not_zero zero e = absurd (cc (e))
+    not_zero (suc k) e = omega arith
+
+pub kept_opened : (s : State) (c : KeptCase) (rows : List (Option Row)) → Goes s (steps.CaseFiled c) → AreKept s rows → AreKept (stepped (steps.CaseFiled c) s) rows
+kept_opened s c rows goes h = (marks_opened s c rows goes.0 h.0, λ none. absurd (goes.1 none))
+
+pub kept_on_day : (s : State) (d : Date) (rows new : List (Option Row)) → Goes s (steps.DaySet d) → AreKept s rows → ((n : ℕ) → row_at new n ≡ cond (not (stands_in (stepped (steps.DaySet d) s) n)) None (row_at rows n))
+    → AreKept (stepped (steps.DaySet d) s) new
+kept_on_day s d rows new goes h closes = (marks_on_day s d rows new h.1 goes h.0 closes, λ none. absurd (cc (none)))
+
+pub kept_amended : (s : State) (airfields : List Airfield) (change : AirfieldChange) (rows new : List (Option Row)) → Leads s.register airfields change → AreKept s rows → ((n : ℕ) → row_at new n ≡ option_map (turned airfields change) (row_at rows n))
+    → AreKept (with_register airfields s) new
+kept_amended s airfields change rows new l h turns = (marks_amended s airfields change rows new l h.0 turns, h.1)
+
+form_stands : (day : Option Date) (c : KeptCase) (form : Option Date) → stands_on day (record c { form = form }) ≡ stands_on day c
+form_stands None c form = refl
+form_stands (Some today) c form = refl
+
+pub form_watched : (s : State) (c : KeptCase) (form : Option Date) → watched s (record c { form = form }) ≡ watched s c
+form_watched s c form = ap (λ (b : Bool). cond b (option_map (compared s c) c.list) None) (form_stands s.day c form)
