@@ -205,8 +205,8 @@ acted_goes s p (acts.Dispose number affirm) e h =
 acted_goes s p (acts.Extend number months started filing warranted) e h =
     on_case_shown s number _ e (Goes s e.step)
     (λ today c day at k.
-        let x : Extension = record { months = months; started = started; filed = filing; warranted = warranted } in
-        standing_act s number (of_record c.life.determination (moving_rules x today c.submission.fcc)) (extended number x c) (is_in_force (status_of c.life (epoch_day today))) (refusals.NotStanding (status_of c.life (epoch_day today))) today c e day at (in_force_stands (status_of c.life (epoch_day today))) (extension_puts number x c e) k) h
+    let x : Extension = record { months = months; started = started; filed = filing; warranted = warranted } in
+    standing_act s number (of_record c.life.determination (moving_rules x today c.submission.fcc)) (extended number x c) (is_in_force (status_of c.life (epoch_day today))) (refusals.NotStanding (status_of c.life (epoch_day today))) today c e day at (in_force_stands (status_of c.life (epoch_day today))) (extension_puts number x c e) k) h
 acted_goes s p (acts.Fcc number completion) e h =
     on_case_shown s number _ e (Goes s e.step)
     (λ today c day at k. standing_act s number (of_record c.life.determination (λ r. license_rules c)) (licensed number completion today c) (is_in_force (status_of c.life (epoch_day today))) (refusals.NotStanding (status_of c.life (epoch_day today))) today c e day at (in_force_stands (status_of c.life (epoch_day today))) (license_puts number completion today c e) k) h

@@ -367,28 +367,25 @@ marks_on_day s d rows new has goes are closes n =
 
 -- ---- the marked cases
 
-numbers_beyond : (f : ℕ → Bool) (m t : ℕ) → m ≤ t → ((k : ℕ) → m < k → f k ≡ false) → numbers_up_to f t ≡ numbers_up_to f m
-numbers_beyond f m zero le h = ap (numbers_up_to f) (zero_only m (omega (arith, le)))
-  where
-    zero_only : (m : ℕ) → m ≡ 0 → 0 ≡ m
-    zero_only m e = sym e
-numbers_beyond f m (suc t) le h = by_last (nat_lt m (suc t)) refl
-  where
-    nothing : (xs : List ℕ) (b : Bool) → b ≡ false → xs ++ cond b (suc t ∷ []) [] ≡ xs
-    nothing xs true e = absurd (cc (e))
-    nothing xs false e = append_none xs
-      where
-        append_none : (xs : List ℕ) → xs ++ [] ≡ xs
-        append_none [] = refl
-        append_none (x ∷ xs) = ap (λ zs. x ∷ zs) (append_none xs)
+append_none : (xs : List ℕ) → xs ++ [] ≡ xs
+append_none [] = refl
+append_none (x ∷ xs) = ap (λ zs. x ∷ zs) (append_none xs)
 
-    by_last : (b : Bool) → nat_lt m (suc t) ≡ b → numbers_up_to f (suc t) ≡ numbers_up_to f m
-    by_last true e =
-        let short : m < suc t = grind (arith, common_steps, e) in
-        nothing (numbers_up_to f t) (f (suc t)) (h (suc t) short) ∙ numbers_beyond f m t (omega (arith, short)) h
-    by_last false e =
-        let same : suc t ≡ m = grind (arith, common_steps, e, le) in
-        ap (numbers_up_to f) same
+not_put : (xs : List ℕ) (n : ℕ) (b : Bool) → b ≡ false → xs ++ cond b (n ∷ []) [] ≡ xs
+not_put xs n true e = absurd (cc (e))
+not_put xs n false e = append_none xs
+
+by_last : (f : ℕ → Bool) (m t : ℕ) (b : Bool) → nat_lt m (suc t) ≡ b → m ≤ suc t → (m ≤ t → numbers_up_to f t ≡ numbers_up_to f m) → (m < suc t → f (suc t) ≡ false) → numbers_up_to f (suc t) ≡ numbers_up_to f m
+by_last f m t true e le rest none =
+    let short : m < suc t = grind (arith, common_steps, e) in
+    not_put (numbers_up_to f t) (suc t) (f (suc t)) (none short) ∙ rest (omega (arith, short))
+by_last f m t false e le rest none =
+    let same : suc t ≡ m = grind (arith, common_steps, e, le) in
+    ap (numbers_up_to f) same
+
+numbers_beyond : (f : ℕ → Bool) (m t : ℕ) → m ≤ t → ((k : ℕ) → m < k → f k ≡ false) → numbers_up_to f t ≡ numbers_up_to f m
+numbers_beyond f m zero le h = let same : 0 ≡ m = omega (arith, le) in ap (numbers_up_to f) same
+numbers_beyond f m (suc t) le h = by_last f m t (nat_lt m (suc t)) refl le (λ short. numbers_beyond f m t short h) (h (suc t))
 
 numbers_same : (f g : ℕ → Bool) (n : ℕ) → ((k : ℕ) → f k ≡ g k) → numbers_up_to f n ≡ numbers_up_to g n
 numbers_same f g zero h = refl
