@@ -1,6 +1,9 @@
 //! The clerk of the desk.
 
-ghost use Rattle.std.specs.Prelude.{◌≡◌, IfOk, length, option_map};
+ghost use Rattle.std.specs.Prelude.{◌≡◌, List, IfOk, length, option_map};
+ghost use Rattle.desk_rules.specs.Reports.{IsExpiryOrder, expiring, review_rows};
+ghost use Rattle.oe_reports.specs.Tables.{expiry_table, review_table};
+ghost use Rattle.oe_reports.specs.declared.rows.ExpiryRow.{ExpiryRow};
 ghost use Rattle.desk_rules.specs.States.{case_at, last_number};
 ghost use Rattle.desk_rules.specs.Evaluations.{site_of};
 ghost use Rattle.desk_rules.specs.Marks.{case_view, marks};
@@ -11,7 +14,7 @@ use crate::answer::Answer;
 use crate::office::Office;
 use airfields::Filing;
 use case_records::{CaseList, CaseView};
-use grid_exact::NoMemory;
+use grid_exact::{NoMemory, Text};
 use oe_findings::Sky;
 use std::alloc::Global;
 use std::marker::Model;
@@ -66,6 +69,28 @@ impl Clerk {
         ensures { IfOk result (λ l. l ≡ marks self.now.state) }
     {
         self.office.review(alloc)
+    }
+
+    /// The report of the marked cases, in rising order.
+    ///
+    /// # Errors
+    ///
+    /// `NoMemory` where memory was refused.
+    pub fn review_report(&self, alloc: Global) -> Result<Text, NoMemory>
+        ensures { IfOk result (λ t. t ≡ review_table (review_rows self.now.state)) }
+    {
+        self.office.review_report(alloc)
+    }
+
+    /// The report of the determinations that stand and expire, by expiry and case.
+    ///
+    /// # Errors
+    ///
+    /// `NoMemory` where memory was refused.
+    pub fn expiry_report(&self, alloc: Global) -> Result<Text, NoMemory>
+        ensures { IfOk result (λ t. (rows : List ExpiryRow) × IsExpiryOrder (expiring self.now.state) rows × (t ≡ expiry_table rows)) }
+    {
+        self.office.expiry_report(alloc)
     }
 
     /// How many cases are marked for review.

@@ -1,6 +1,6 @@
 use Rattle.std.proofs.Common.{◌≡◌, Some, sym, subst}
 use Rattle.wire_requests.specs.Changes.{Asked}
-use Rattle.desk_rules.specs.States.{State, entry_of}
+use Rattle.desk_rules.specs.States.{State, entry_of, last_number}
 use Rattle.desk_rules.specs.Marks.{Goes}
 use Rattle.desk_rules.proofs.Going.{acted_goes}
 use Rattle.filing_desk.proofs.Deciding.{known_as}
@@ -16,4 +16,4 @@ returns-in-Some c =
     known_as s q e c.repeated.result there (c.repeated.ensures s)
 
 pub accept-requires-clause-goes : goal.accept-requires-clause-goes
-accept-requires-clause-goes c = subst (λ (s : State). Goes s c.in-Ok.effect.step) c.self.view_is (acted_goes c.self.inside.desk _ _ c.in-Ok.effect c.in-Ok.ensures.value)
+accept-requires-clause-goes c = subst (λ (s : State). Goes s c.in-Ok.effect.step) c.self.view_is (acted_goes c.self.inside.desk (last_number c.self.inside.desk) c.c.inside.act c.in-Ok.effect c.in-Ok.ensures.value)
