@@ -146,7 +146,10 @@ day_goes s (Some kept) d x e is h = not_before (int_lt (epoch_day d) (epoch_day 
     not_before true is none = absurd (cc (none))
     not_before false is none = grind (arith, common_steps, is)
 
-ok_same : (x e : Effect) → (Ok x : Result Effect Refusal) ≡ Ok e → x ≡ e
+abbrev come : Effect → Result Effect Refusal
+come x = Ok x
+
+ok_same : (x e : Effect) → come x ≡ come e → x ≡ e
 ok_same x e h = cc (h)
 
 goes_as : (s : State) (x e : Effect) → Goes s x.step → x ≡ e → Goes s e.step
@@ -156,9 +159,12 @@ goes_mapped : (A : Type 0) (s : State) (o : Option A) (f : A → Effect) (e : Ef
 goes_mapped A s None f e g h = absurd (cc (h))
 goes_mapped A s (Some r) f e g h = goes_as s (f r) e (g r) (some_same (f r) e h)
 
+day_there : (s : State) (today : Date) → s.day ≡ Some today → s.day ≢ None
+day_there s today day none = cc (day, none)
+
 file_goes : (s : State) (today : Date) (number : ℕ) (n : Submission) (e : Effect) → s.day ≡ Some today → ruling (file_rules s.cases) (filed number today n) ≡ Ok e → Goes s e.step
 file_goes s today number n e day h =
-    goes_mapped Timeliness s (timeliness_of today n.start n.permit n.emergency) _ e (λ t. (refl, λ (none : s.day ≡ None). cc (day, none)))
+    goes_mapped Timeliness s (timeliness_of today n.start n.permit n.emergency) _ e (λ t. (refl, day_there s today day))
     (came (slice_get (file_rules s.cases) 0) (filed number today n) e h).some
 
 form_goes : (s : State) (number : ℕ) (today : Date) (c : KeptCase) (broken : List Refusal) (e : Effect) → ruling broken (Some (form_came number today c)) ≡ Ok e → Goes s e.step
@@ -199,8 +205,8 @@ acted_goes s p (acts.Dispose number affirm) e h =
 acted_goes s p (acts.Extend number months started filing warranted) e h =
     on_case_shown s number _ e (Goes s e.step)
     (λ today c day at k.
-        let x : Extension = record { months = months; started = started; filed = filing; warranted = warranted } in
-        standing_act s number (of_record c.life.determination (moving_rules x today c.submission.fcc)) (extended number x c) (is_in_force (status_of c.life (epoch_day today))) (refusals.NotStanding (status_of c.life (epoch_day today))) today c e day at (in_force_stands (status_of c.life (epoch_day today))) (extension_puts number x c e) k) h
+    let x : Extension = record { months = months; started = started; filed = filing; warranted = warranted } in
+    standing_act s number (of_record c.life.determination (moving_rules x today c.submission.fcc)) (extended number x c) (is_in_force (status_of c.life (epoch_day today))) (refusals.NotStanding (status_of c.life (epoch_day today))) today c e day at (in_force_stands (status_of c.life (epoch_day today))) (extension_puts number x c e) k) h
 acted_goes s p (acts.Fcc number completion) e h =
     on_case_shown s number _ e (Goes s e.step)
     (λ today c day at k. standing_act s number (of_record c.life.determination (λ r. license_rules c)) (licensed number completion today c) (is_in_force (status_of c.life (epoch_day today))) (refusals.NotStanding (status_of c.life (epoch_day today))) today c e day at (in_force_stands (status_of c.life (epoch_day today))) (license_puts number completion today c e) k) h

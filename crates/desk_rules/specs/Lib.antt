@@ -3,3 +3,4 @@ pub mod Evaluations
 pub mod Machine
 pub mod Views
 pub mod Marks
+pub mod Reports

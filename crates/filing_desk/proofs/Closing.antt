@@ -5,7 +5,8 @@ use Rattle.review_marks.specs.Books.{row_at, closed}
 use Rattle.review_marks.specs.declared.row.Row.{Row}
 use Rattle.desk_rules.specs.States.{State}
 use Rattle.desk_rules.specs.Marks.{stands_in}
-use Rattle.filing_desk.proofs.Marking.{closed_row, row_past, same_number}
+use Rattle.filing_desk.proofs.MarksAfter.{closed_row, row_past}
+use Rattle.review_marks.proofs.Turning.{same_number}
 
 -- the cases above a number are closed, where their determinations do not stand
 abbrev pub IsClosedTo : State → List (Option Row) → ℕ → List (Option Row) → Type 0
@@ -48,10 +49,16 @@ closed_on s old rows k false low is h n =
     fell true false d o h = refl
     fell false false d o h = refl
 
-zero_none : (d : Bool) → (None : Option Row) ≡ cond d None None
+abbrev no_row : Option Row
+no_row = None
+
+zero_none : (d : Bool) → no_row ≡ cond d None None
 zero_none true = refl
 zero_none false = refl
 
 pub closed_all : (s : State) (old rows : List (Option Row)) → IsClosedTo s old 0 rows → (n : ℕ) → row_at rows n ≡ cond (not (stands_in s n)) None (row_at old n)
-closed_all s old rows h zero = h zero ∙ zero_none (not (stands_in s 0))
-closed_all s old rows h (suc n) = h (suc n)
+closed_all s old rows h n = h n ∙ above (nat_lt 0 n) n refl
+  where
+    above : (b : Bool) (n : ℕ) → nat_lt 0 n ≡ b → cond (b && not (stands_in s n)) None (row_at old n) ≡ cond (not (stands_in s n)) None (row_at old n)
+    above true n e = refl
+    above false n e = (let z : n ≡ 0 = grind (arith, common_steps, e) in subst (λ (k : ℕ). row_at old k ≡ cond (not (stands_in s k)) None (row_at old k)) (sym z) (zero_none (not (stands_in s 0))))

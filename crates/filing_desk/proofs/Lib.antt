@@ -2,5 +2,6 @@ pub mod Indexing
 pub mod Sound
 pub mod Limits
 pub mod Deciding
-pub mod Marking
+pub mod MarksAfter
 pub mod Closing
+pub mod AmendFacts

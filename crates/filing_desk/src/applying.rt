@@ -76,7 +76,7 @@ impl Office {
     pub(crate) fn apply(&mut self, alloc: Global, c: &Change) -> Answer
         ensures { Answers (decision self.old c.now) self.old self.new result }
     {
-        match self.desk.receipts.find(c.caller, c.key) {
+        match self.desk.entry(c.caller, c.key) {
             Some(entry) => return repeated(alloc, entry, c),
             None => {}
         }

@@ -1,17 +1,20 @@
 //! The clerk of the desk.
 
-ghost use Rattle.std.specs.Prelude.{◌≡◌, option_map};
+ghost use Rattle.std.specs.Prelude.{◌≡◌, List, IfOk, length, option_map};
+ghost use Rattle.desk_rules.specs.Reports.{IsExpiryOrder, expiring, review_rows};
+ghost use Rattle.oe_reports.specs.Tables.{expiry_table, review_table};
+ghost use Rattle.oe_reports.specs.declared.rows.ExpiryRow.{ExpiryRow};
 ghost use Rattle.desk_rules.specs.States.{case_at, last_number};
 ghost use Rattle.desk_rules.specs.Evaluations.{site_of};
-ghost use Rattle.desk_rules.specs.Views.{case_view};
+ghost use Rattle.desk_rules.specs.Marks.{case_view, marks};
 ghost use Rattle.filing_desk.specs.Answers.{decision};
 ghost use Rattle.filing_desk.specs.Clerks.{Advances};
 
 use crate::answer::Answer;
 use crate::office::Office;
-use crate::view::view_of;
 use airfields::Filing;
-use case_records::CaseView;
+use case_records::{CaseList, CaseView};
+use grid_exact::{NoMemory, Text};
 use oe_findings::Sky;
 use std::alloc::Global;
 use std::marker::Model;
@@ -49,14 +52,52 @@ impl Clerk {
         self.office.apply(alloc, c)
     }
 
-    /// What is told of the case of this number; `None` exactly where there is no such case. Whether it is marked is for the caller to say.
-    pub fn case_view(&self, number: u32, marked: bool) -> Option<CaseView>
-        ensures { result ≡ case_view self.now.state marked number }
+    /// What is told of the case of this number; `None` exactly where there is no such case.
+    pub fn case_view(&self, number: u32) -> Option<CaseView>
+        ensures { result ≡ case_view self.now.state number }
     {
-        match self.office.desk.case(number) {
-            Some(case) => Some(view_of(self.office.desk.day(), marked, number, case)),
-            None => None,
-        }
+        self.office.case_view(number)
+    }
+
+    /// The cases that are marked for review, by their numbers, rising: those whose determinations stand, and whose lists of findings over
+    /// the airfields as they stand differ from the lists that the determinations were made on.
+    ///
+    /// # Errors
+    ///
+    /// `NoMemory` where memory was refused.
+    pub fn review(&self, alloc: Global) -> Result<CaseList, NoMemory>
+        ensures { IfOk result (λ l. l ≡ marks self.now.state) }
+    {
+        self.office.review(alloc)
+    }
+
+    /// The report of the marked cases, in rising order.
+    ///
+    /// # Errors
+    ///
+    /// `NoMemory` where memory was refused.
+    pub fn review_report(&self, alloc: Global) -> Result<Text, NoMemory>
+        ensures { IfOk result (λ t. t ≡ review_table (review_rows self.now.state)) }
+    {
+        self.office.review_report(alloc)
+    }
+
+    /// The report of the determinations that stand and expire, by expiry and case.
+    ///
+    /// # Errors
+    ///
+    /// `NoMemory` where memory was refused.
+    pub fn expiry_report(&self, alloc: Global) -> Result<Text, NoMemory>
+        ensures { IfOk result (λ t. (rows : List ExpiryRow) × IsExpiryOrder (expiring self.now.state) rows × (t ≡ expiry_table rows)) }
+    {
+        self.office.expiry_report(alloc)
+    }
+
+    /// How many cases are marked for review.
+    pub fn marked(&self) -> u32
+        ensures { result ≡ length (marks self.now.state) }
+    {
+        self.office.marked()
     }
 
     /// The structure of the case of this number; `None` exactly where there is no such case.

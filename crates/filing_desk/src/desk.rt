@@ -3,7 +3,7 @@
 ghost use Rattle.std.specs.Prelude.{◌≡◌, IfSome, option_copied, slice_get};
 ghost use Rattle.case_acts.specs.Cases.{IsSound};
 ghost use Rattle.determination_dates.specs.Days.{IsLimited};
-ghost use Rattle.desk_rules.specs.States.{empty, case_at};
+ghost use Rattle.desk_rules.specs.States.{empty, case_at, entry_of};
 ghost use Rattle.desk_rules.specs.Marks.{stands_in};
 ghost use Rattle.filing_desk.specs.Desks.{AreSound};
 
@@ -11,11 +11,13 @@ use crate::receipts::Receipts;
 use crate::view::status_on;
 use case_acts::is_standing;
 use case_records::KeptCase;
+use desk_rules::Entry;
 use determination_dates::ClosedDays;
 use jiff::civil::Date;
 use oe_findings::Sky;
 use std::alloc::Global;
 use std::marker::Model;
+use wire_values::Word;
 
 /// The airfields, the day, the closed days, the cases and the accepted requests.
 #[derive(Drop)]
@@ -80,6 +82,13 @@ impl Desk {
             return None;
         }
         self.case_in(number as usize - 1)
+    }
+
+    /// The entry of this caller under this key.
+    pub(crate) fn entry(&self, caller: Word, key: Word) -> Option<&Entry>
+        ensures { option_copied result ≡ entry_of caller key self.now.entries }
+    {
+        self.receipts.find(caller, key)
     }
 
     /// Whether the determination of the case of this number stands on the desk's day.

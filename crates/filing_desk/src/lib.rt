@@ -14,6 +14,7 @@ mod opening;
 mod receipt_key;
 mod receipts;
 mod register_change;
+mod reports;
 mod steps;
 mod view;
 

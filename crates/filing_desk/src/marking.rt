@@ -8,7 +8,7 @@ ghost use Rattle.determination_dates.specs.Effects.{IsKept};
 ghost use Rattle.desk_rules.specs.States.{entry_of, with_entry, stepped};
 ghost use Rattle.desk_rules.specs.Machine.{register_rule};
 ghost use Rattle.desk_rules.specs.Marks.{Goes, stands_in};
-ghost use Rattle.review_marks.specs.Books.{row_at};
+ghost use Rattle.review_marks.specs.Books.{closed, row_at};
 
 use crate::desk::Desk;
 use crate::office::Office;
@@ -22,15 +22,22 @@ use jiff::civil::Date;
 use review_marks::MarkBook;
 use std::alloc::Global;
 
+/// Takes a case out of the book, unless its determination stands.
+fn close_fallen_one(desk: &Desk, marks: &mut MarkBook, number: u32)
+    ensures { marks.new ≡ cond (stands_in desk.now number) marks.old (closed number marks.old) }
+{
+    if !desk.stands(number) {
+        marks.close(number);
+    }
+}
+
 /// Takes the cases out of the book whose determinations do not stand.
 fn close_fallen(desk: &Desk, marks: &mut MarkBook)
     ensures { (n : ℕ) → row_at marks.new n ≡ cond (not (stands_in desk.now n)) None (row_at marks.old n) }
 {
     let mut number = marks.last_number();
     while number > 0 {
-        if !desk.stands(number) {
-            marks.close(number);
-        }
+        close_fallen_one(desk, marks, number);
         number -= 1;
     }
 }
@@ -43,12 +50,7 @@ impl Office {
         ensures same { OnErr result (self.new ≡ self.old) }
         ensures refused { IfErr result (λ why. why ≢ Refusal.NoMemory → register_rule self.old.register (steps.Amended a.now) ≡ Some why) }
     {
-        let (sky, changed) = match self.desk.sky.amended(alloc, a) {
-            Ok(amended) => amended,
-            Err(why) => return Err(Refusal::from(why)),
-        };
-        self.desk.sky.register().limits();
-        sky.register().limits();
+        let (sky, changed) = self.desk.amended(alloc, a)?;
         let change = match mark_change(&mut self.marks, &sky, &changed) {
             Ok(change) => change,
             Err(_) => return Err(Refusal::NoMemory),
@@ -78,7 +80,8 @@ impl Office {
         ensures same { OnErr result (self.new ≡ self.old) }
         ensures refused { IfErr result (λ why. why ≡ Refusal.NoMemory) }
     {
-        self.desk.open(entry, case)
+        self.desk.open(entry, case)?;
+        Ok(())
     }
 
     /// Sets the desk's day. The determinations that are expired then are no longer watched.
@@ -119,9 +122,7 @@ impl Office {
     {
         self.desk.keep(entry)?;
         self.desk.put_life(number, life);
-        if !self.desk.stands(number) {
-            self.marks.close(number);
-        }
+        close_fallen_one(&self.desk, &mut self.marks, number);
         Ok(())
     }
 
@@ -154,9 +155,7 @@ impl Office {
         self.desk.keep(entry)?;
         self.desk.issue(number, life, list);
         self.marks.commit(change);
-        if !self.desk.stands(number) {
-            self.marks.close(number);
-        }
+        close_fallen_one(&self.desk, &mut self.marks, number);
         Ok(())
     }
 

@@ -1,9 +1,17 @@
 //! The desk with the marks of its cases.
 
-ghost use Rattle.std.specs.Prelude.{◌≡◌};
+ghost use Rattle.std.specs.Prelude.{◌≡◌, List, IfOk, length};
+ghost use Rattle.desk_rules.specs.Marks.{case_view, marks};
+ghost use Rattle.desk_rules.specs.Reports.{IsExpiryOrder, expiring, review_rows};
 ghost use Rattle.desk_rules.specs.States.{empty};
+ghost use Rattle.oe_reports.specs.Tables.{expiry_table, review_table};
+ghost use Rattle.oe_reports.specs.declared.rows.ExpiryRow.{ExpiryRow};
 
 use crate::desk::Desk;
+use crate::reports::{expiry_report, review_report};
+use crate::view::view_of;
+use case_records::{CaseList, CaseView};
+use grid_exact::{NoMemory, Text};
 use review_marks::MarkBook;
 use std::alloc::Global;
 use std::marker::Model;
@@ -35,5 +43,45 @@ impl Office {
             desk: Desk::empty(alloc),
             marks: MarkBook::empty(alloc),
         }
+    }
+
+    /// What is told of the case of this number.
+    pub(crate) fn case_view(&self, number: u32) -> Option<CaseView>
+        ensures { result ≡ case_view self.now number }
+    {
+        let marked = self.marks.is_marked(number);
+        match self.desk.case(number) {
+            Some(case) => Some(view_of(self.desk.day(), marked, number, case)),
+            None => None,
+        }
+    }
+
+    /// The cases that are marked for review.
+    pub(crate) fn review(&self, alloc: Global) -> Result<CaseList, NoMemory>
+        ensures { IfOk result (λ l. l ≡ marks self.now) }
+    {
+        self.marks.list(alloc)
+    }
+
+    /// The report of the marked cases.
+    pub(crate) fn review_report(&self, alloc: Global) -> Result<Text, NoMemory>
+        ensures { IfOk result (λ t. t ≡ review_table (review_rows self.now)) }
+    {
+        let marked = self.review(alloc)?;
+        review_report(alloc, &self.desk, &marked)
+    }
+
+    /// The report of the determinations that expire.
+    pub(crate) fn expiry_report(&self, alloc: Global) -> Result<Text, NoMemory>
+        ensures { IfOk result (λ t. (rows : List ExpiryRow) × IsExpiryOrder (expiring self.now) rows × (t ≡ expiry_table rows)) }
+    {
+        expiry_report(alloc, &self.desk)
+    }
+
+    /// How many cases are marked for review.
+    pub(crate) fn marked(&self) -> u32
+        ensures { result ≡ length (marks self.now) }
+    {
+        self.marks.marked()
     }
 }

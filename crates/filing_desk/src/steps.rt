@@ -1,19 +1,25 @@
 //! What changes on the desk.
 
-ghost use Rattle.std.specs.Prelude.{◌≡◌, None, IfErr, IfSome, OnOk, OnErr};
+ghost use Rattle.std.specs.Prelude.{◌≡◌, ◌≢◌, Some, None, IfOk, IfErr, IfSome, OnOk, OnErr};
+ghost use Rattle.airport_register.specs.Amendments.{after_amendment};
+ghost use Rattle.review_marks.specs.Shares.{AreHeld, change_of};
+ghost use Rattle.review_marks.specs.Turns.{Leads};
 ghost use Rattle.case_acts.specs.declared.effect.Step.TheVariants as steps;
 ghost use Rattle.case_acts.specs.Cases.{IsSound};
 ghost use Rattle.determination_dates.specs.Days.{IsLimited};
 ghost use Rattle.determination_dates.specs.Effects.{IsKept};
 ghost use Rattle.desk_rules.specs.States.{entry_of, with_entry, stepped};
+ghost use Rattle.desk_rules.specs.Machine.{register_rule};
 ghost use Rattle.filing_desk.specs.Desks.{with_register};
 
 use crate::desk::Desk;
+use airport_register::{Amendment, Changed};
 use case_records::{KeptCase, KeptList, Refusal};
 use desk_rules::Entry;
 use determination_dates::Life;
 use jiff::civil::Date;
 use oe_findings::Sky;
+use std::alloc::Global;
 
 impl Desk {
     /// Puts an entry behind the others.
@@ -26,6 +32,28 @@ impl Desk {
         match self.receipts.keep(entry) {
             Ok(()) => Ok(()),
             Err(_) => Err(Refusal::NoMemory),
+        }
+    }
+
+    /// The airfields after an amendment, with their surfaces, and what it changes.
+    ///
+    /// # Errors
+    ///
+    /// The first rule of the register that the amendment breaks, or `NoMemory` where memory was refused.
+    pub(crate) fn amended(&self, alloc: Global, a: &Amendment) -> Result<(Sky, Changed), Refusal>
+        ensures allowed { IfOk result (λ _. register_rule self.now.register (steps.Amended a.now) ≡ None) }
+        ensures after { IfOk result (λ r. r.0 ≡ after_amendment self.now.register a.now) }
+        ensures held { IfOk result (λ r. AreHeld (change_of r.1)) }
+        ensures leads { IfOk result (λ r. Leads self.now.register r.0 (change_of r.1)) }
+        ensures refused { IfErr result (λ why. why ≢ Refusal.NoMemory → register_rule self.now.register (steps.Amended a.now) ≡ Some why) }
+    {
+        self.sky.register().limits();
+        match self.sky.amended(alloc, a) {
+            Ok((sky, changed)) => {
+                sky.register().limits();
+                Ok((sky, changed))
+            }
+            Err(why) => Err(Refusal::from(why)),
         }
     }
 

@@ -52,13 +52,13 @@ refused : (k l : Clerking) (q : Asked) (why : Refusal) (old new : List ℕ) → 
     → Advances (decision k.state q) k l (answers.Refused why) → new ≡ old ++ reply_text (change_reply (answers.Refused why)) → Tells k.state (requests.Change q) old new l.state
 refused k l q why old new (inl e) h t = NoRoom (t ∙ ap (λ (w : Refusal). old ++ reply_text (change_reply (answers.Refused w))) e) (ap (λ (c : Clerking). c.state) h.1)
 refused k l q why old new (inr other) h t =
-    Decided (t ∙ ap (λ d. old ++ reply_text (change_reply (told d))) (sym (h.0 other)))
+    Decided (change_reply (told (decision k.state q))) refl (t ∙ ap (λ d. old ++ reply_text (change_reply (told d))) (sym (h.0 other)))
     (ap (λ (c : Clerking). c.state) h.1 ∙ ap (after k.state) (sym (h.0 other)))
 
 pub changed : (k l : Clerking) (q : Asked) (a : Answer) (old new : List ℕ) → Advances (decision k.state q) k l a → new ≡ old ++ reply_text (change_reply a)
     → Tells k.state (requests.Change q) old new l.state
 changed k l q (answers.Accepted number outcome) old new h t =
-    Decided (t ∙ ap (λ r. old ++ reply_text (change_reply r)) (sym h.0)) (ap (λ (c : Clerking). c.state) h.1)
+    Decided (change_reply (told (decision k.state q))) refl (t ∙ ap (λ r. old ++ reply_text (change_reply r)) (sym h.0)) (ap (λ (c : Clerking). c.state) h.1)
 changed k l q (answers.Refused why) old new h t = refused k l q why old new (memory_or_not why) h t
 
 -- ---- an entry more at most

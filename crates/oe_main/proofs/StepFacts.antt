@@ -7,7 +7,7 @@ use Rattle.wire_requests.specs.declared.request.Request.{Request}
 use Rattle.case_records.specs.declared.refusal.Refusal.TheVariants as refusals
 use Rattle.wire_replies.specs.declared.reply.Reply.TheVariants as replies
 use Rattle.desk_rules.specs.States.{State}
-use Rattle.oe_main.specs.Desk.{Answers, Step, Blank, Told, Refused, Wanting, Tells, Decided, NoRoom, no_memory, reply_to}
+use Rattle.oe_main.specs.Desk.{Answers, Step, Blank, Told, Refused, Wanting, Tells, Decided, NoRoom, no_memory}
 
 not_blank : (line : List ℕ) → 0 < length line → line ≢ []
 not_blank line some e = omega (arith, some, ap length e)
@@ -17,7 +17,7 @@ blank s [] text e = record { reply = []; step = Blank refl refl refl; appended =
 blank s (b ∷ bs) text e = absurd (omega (arith, e))
 
 pub told : (before after : State) (r : Request) (line old new : List ℕ) → 0 < length line → IsRecord line r → Tells before r old new after → Answers before line old new after
-told before after r line old new some is (Decided t s) = record { reply = reply_text (reply_to before r); step = Told r is refl s; appended = t }
+told before after r line old new some is (Decided reply d t s) = record { reply = reply_text reply; step = Told r reply is d refl s; appended = t }
 told before after r line old new some is (NoRoom t s) = record { reply = reply_text no_memory; step = Wanting (not_blank line some) refl s; appended = t }
 
 pub refused : (s : State) (line old new : List ℕ) (field : ℕ) → 0 < length line → IsMalformed line field → new ≡ old ++ reply_text (replies.Refused (refusals.Malformed field)) → Answers s line old new s

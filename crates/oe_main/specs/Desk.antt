@@ -14,7 +14,12 @@ use Rattle.wire_requests.specs.declared.request.Request.TheVariants as requests
 use Rattle.case_records.specs.declared.case.CaseView.{CaseView}
 use Rattle.case_records.specs.declared.refusal.Refusal.TheVariants as refusals
 use Rattle.desk_rules.specs.States.{State, last_number}
-use Rattle.desk_rules.specs.Views.{case_view}
+use Rattle.desk_rules.specs.Marks.{case_view, marks}
+use Rattle.desk_rules.specs.Reports.{IsExpiryOrder, expiring, review_rows}
+use Rattle.oe_reports.specs.Tables.{airfield_table, expiry_table, review_table}
+use Rattle.oe_reports.specs.declared.rows.ExpiryRow.{ExpiryRow}
+use Rattle.wire_values.specs.declared.report.ReportKind.{ReportKind}
+use Rattle.wire_values.specs.declared.report.ReportKind.TheVariants as reports
 use Rattle.desk_rules.specs.Machine.{after}
 use Rattle.filing_desk.specs.Answers.{told, decision}
 use Rattle.filing_desk.specs.declared.answer.Answer.{Answer}
@@ -27,7 +32,7 @@ abbrev pub change_reply : Answer → Reply
 change_reply (answers.Accepted entry outcome) = replies.Accepted entry true outcome
 change_reply (answers.Refused why) = replies.Refused why
 
--- how a case stands; none is marked, since marks for review are not built yet
+-- how a case stands, and whether it is marked for review
 abbrev pub case_reply : Option CaseView → Reply
 case_reply None = replies.Refused refusals.UnknownCase
 case_reply (Some view) = replies.Case view
@@ -37,17 +42,25 @@ abbrev pub airfield_reply : Option Airfield → Reply
 airfield_reply None = replies.Refused refusals.UnknownAirfield
 airfield_reply (Some field) = replies.Airfield (airfield_row field)
 
+-- the report of the marked cases, the one of the determinations that expire, in order of expiry and case, and the one of the airfields
+abbrev pub IsReport : State → ReportKind → Reply → Type 0
+IsReport s reports.Review reply = reply ≡ replies.Report (review_table (review_rows s))
+IsReport s reports.Expiry reply = (rows : List ExpiryRow) × IsExpiryOrder (expiring s) rows × (reply ≡ replies.Report (expiry_table rows))
+IsReport s reports.Airfields reply = reply ≡ replies.Report (airfield_table s.register)
+
 -- a screening is answered with the findings over the airfields as they are, or with what they come to
-abbrev pub query_reply : State → Query → Reply
-query_reply s (queries.Screen site) = replies.Found (last_number s) (findings_of s.register site)
-query_reply s (queries.Verdict site) = replies.Verdict (last_number s) (verdict_of (findings_of s.register site))
-query_reply s (queries.Case number) = case_reply (case_view s false number)
-query_reply s (queries.Airfield id) = airfield_reply (airfield_at s.register id)
+abbrev pub IsQueryReply : State → Query → Reply → Type 0
+IsQueryReply s (queries.Screen site) reply = reply ≡ replies.Found (last_number s) (findings_of s.register site)
+IsQueryReply s (queries.Verdict site) reply = reply ≡ replies.Verdict (last_number s) (verdict_of (findings_of s.register site))
+IsQueryReply s (queries.Case number) reply = reply ≡ case_reply (case_view s number)
+IsQueryReply s queries.Review reply = reply ≡ replies.Review (marks s)
+IsQueryReply s (queries.Airfield id) reply = reply ≡ airfield_reply (airfield_at s.register id)
+IsQueryReply s (queries.Report kind) reply = IsReport s kind reply
 
 -- the reply to a request, and the state after it
-abbrev pub reply_to : State → Request → Reply
-reply_to s (requests.Query query) = query_reply s query
-reply_to s (requests.Change change) = change_reply (told (decision s change))
+abbrev pub IsReply : State → Request → Reply → Type 0
+IsReply s (requests.Query query) reply = IsQueryReply s query reply
+IsReply s (requests.Change change) reply = reply ≡ change_reply (told (decision s change))
 
 abbrev pub after_request : State → Request → State
 after_request s (requests.Query query) = s
@@ -59,7 +72,7 @@ no_memory = replies.Refused refusals.NoMemory
 
 -- a reply was appended: the reply to the request, which leads to its state, or want of memory, which changes nothing
 pub data Tells (before : State) (r : Request) (old new : List ℕ) (after : State) : Type 0 where
-  Decided : new ≡ old ++ reply_text (reply_to before r) → after ≡ after_request before r → Tells before r old new after
+  Decided : (reply : Reply) → IsReply before r reply → new ≡ old ++ reply_text reply → after ≡ after_request before r → Tells before r old new after
   NoRoom : new ≡ old ++ reply_text no_memory → after ≡ before → Tells before r old new after
 
 -- a line, the text of its reply, and the states before and after
@@ -67,7 +80,7 @@ pub data Step (before : State) (line text : List ℕ) (after : State) : Type 0 w
   -- an empty line has no reply
   Blank : line ≡ [] → text ≡ [] → after ≡ before → Step before line text after
   -- a record has its one reply
-  Told : (r : Request) → IsRecord line r → text ≡ reply_text (reply_to before r) → after ≡ after_request before r → Step before line text after
+  Told : (r : Request) (reply : Reply) → IsRecord line r → IsReply before r reply → text ≡ reply_text reply → after ≡ after_request before r → Step before line text after
   -- any other line is refused at its first wrong field
   Refused : line ≢ [] → (field : ℕ) → IsMalformed line field → text ≡ reply_text (replies.Refused (refusals.Malformed field)) → after ≡ before → Step before line text after
   -- memory may be wanting for any of them

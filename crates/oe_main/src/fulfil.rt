@@ -11,8 +11,9 @@ use airfields::{FieldId, Filing};
 use filing_desk::{Answer, Clerk};
 use grid_exact::{NoMemory, Steps};
 use oe_findings::Findings;
+use oe_reports::airfield_table;
 use oe_wire::{
-    Change, Query, Refusal, Reply, Request, append_airfield, append_found, append_reply,
+    Change, Query, Refusal, Reply, ReportKind, Request, append_airfield, append_found, append_reply,
 };
 use std::alloc::Global;
 use std::sync::ledger::Ledger;
@@ -54,14 +55,46 @@ fn append_verdict<L: Ledger>(
     )
 }
 
-/// Appends the reply with how a case stands. No case is marked for review, since marks are not built yet.
+/// Appends the reply with how a case stands.
 fn append_case(clerk: &Clerk, number: u32, text: &mut String) -> Result<(), NoMemory>
     ensures ok { OnOk result (Tells clerk.now.state (requests.Query (queries.Case number)) (string_bytes text.old) (string_bytes text.new) clerk.now.state) }
     ensures part { OnErr result (Extends (string_bytes text.old) (string_bytes text.new)) }
 {
-    match clerk.case_view(number, false) {
+    match clerk.case_view(number) {
         Some(view) => append_reply(text, &Reply::Case(view)),
         None => append_reply(text, &Reply::Refused(Refusal::UnknownCase)),
+    }
+}
+
+/// Appends the reply with the cases that are marked for review.
+fn append_review(alloc: Global, clerk: &Clerk, text: &mut String) -> Result<(), NoMemory>
+    ensures ok { OnOk result (Tells clerk.now.state (requests.Query queries.Review) (string_bytes text.old) (string_bytes text.new) clerk.now.state) }
+    ensures part { OnErr result (Extends (string_bytes text.old) (string_bytes text.new)) }
+{
+    match clerk.review(alloc) {
+        Ok(list) => append_reply(text, &Reply::Review(list)),
+        Err(_) => append_reply(text, &Reply::Refused(Refusal::NoMemory)),
+    }
+}
+
+/// Appends the reply with a report.
+fn append_report(
+    alloc: Global,
+    clerk: &Clerk,
+    kind: ReportKind,
+    text: &mut String,
+) -> Result<(), NoMemory>
+    ensures ok { OnOk result (Tells clerk.now.state (requests.Query (queries.Report kind)) (string_bytes text.old) (string_bytes text.new) clerk.now.state) }
+    ensures part { OnErr result (Extends (string_bytes text.old) (string_bytes text.new)) }
+{
+    let report = match kind {
+        ReportKind::Review => clerk.review_report(alloc),
+        ReportKind::Expiry => clerk.expiry_report(alloc),
+        ReportKind::Airfields => airfield_table(alloc, clerk.sky().register()),
+    };
+    match report {
+        Ok(table) => append_reply(text, &Reply::Report(table)),
+        Err(_) => append_reply(text, &Reply::Refused(Refusal::NoMemory)),
     }
 }
 
@@ -124,6 +157,8 @@ pub(crate) fn fulfil<L: Ledger>(
         ),
         Request::Query(Query::Verdict(filing)) => append_verdict(clerk, steps, filing, text),
         Request::Query(Query::Case(number)) => append_case(clerk, *number, text),
+        Request::Query(Query::Review) => append_review(alloc, clerk, text),
+        Request::Query(Query::Report(kind)) => append_report(alloc, clerk, *kind, text),
         Request::Query(Query::Airfield(id)) => append_named(clerk, id, text),
         Request::Change(change) => make_change(alloc, clerk, change, text),
     }

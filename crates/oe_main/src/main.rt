@@ -21,6 +21,8 @@ pub use words::Words;
 #[cfg(test)]
 mod case_tests;
 #[cfg(test)]
+mod review_tests;
+#[cfg(test)]
 mod rule_tests;
 #[cfg(test)]
 mod tests;

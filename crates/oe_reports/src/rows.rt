@@ -14,8 +14,8 @@ pub struct ReviewRow {
     pub issued: Date,
 }
 
-/// A determination that expires.
-#[derive(Clone, Copy)]
+/// A determination that expires. The order is by expiry, and by case where two expire on one day.
+#[derive(Clone, Copy, PartialEq, Eq, PartialOrd, Ord)]
 pub struct ExpiryRow {
     /// Its last day (77.33).
     pub expiry: Date,

@@ -21,14 +21,15 @@ use Rattle.case_records.specs.declared.case.KeptCase.{KeptCase}
 use Rattle.case_records.specs.declared.case.KeptList.{KeptList}
 use Rattle.case_acts.specs.Standing.{is_standing}
 use Rattle.case_acts.specs.declared.effect.Step.TheVariants as steps
-use Rattle.review_marks.specs.Books.{row_at, joined, marked_as, differs, closed, committed}
+use Rattle.review_marks.specs.Books.{row_at, joined, marked_as, marked_cases, is_marked_in, is_marked_row, numbers_up_to, differs, closed, committed}
 use Rattle.review_marks.specs.Shares.{AirfieldChange, concerns}
 use Rattle.review_marks.specs.Turns.{Leads, turned}
 use Rattle.review_marks.specs.declared.row.Row.{Row}
-use Rattle.review_marks.proofs.Unconcerned.{unconcerned}
+use Rattle.review_marks.proofs.Unconcerned.{same_lists, unconcerned}
+use Rattle.review_marks.proofs.Turning.{apart, by_places, eq_suc, same_number, suc_zero, zero_suc}
 use Rattle.desk_rules.specs.States.{State, case_at, changed_at, with_case, with_entry, stepped}
 use Rattle.desk_rules.specs.Views.{status_on}
-use Rattle.desk_rules.specs.Marks.{Goes, stands_on, stands_in, compared, watched, row_of}
+use Rattle.desk_rules.specs.Marks.{Goes, is_marked, marks, stands_on, stands_in, compared, watched, row_of}
 use Rattle.filing_desk.specs.Desks.{with_register}
 use Rattle.filing_desk.specs.Marked.{AreMarks, HasDay}
 
@@ -61,28 +62,26 @@ map_same : (o : Option KeptCase) → o ≡ option_map (λ c. c) o
 map_same None = refl
 map_same (Some c) = refl
 
+map_apart : (b : Bool) (f : KeptCase → KeptCase) (o : Option KeptCase) → b ≡ false → o ≡ option_map (λ c. cond b (f c) c) o
+map_apart true f o h = absurd (cc (h))
+map_apart false f o h = map_same o
+
 abbrev put_by_found : List KeptCase → ℕ → (KeptCase → KeptCase) → Option KeptCase → List KeptCase
 put_by_found cases k f None = cases
 put_by_found cases k f (Some c) = slice_set cases k (f c)
 
-case_placed : (cases : List KeptCase) (f : KeptCase → KeptCase) (k j : ℕ) (v : Option KeptCase) → slice_get cases k ≡ v → slice_get (put_by_found cases k f v) j ≡ option_map (λ c. cond (nat_eq k j) (f c) c) (slice_get cases j)
-case_placed [] f k j v e = rw ← e refl
-case_placed (c ∷ cases) f zero zero v e = rw ← e refl
-case_placed (c ∷ cases) f zero (suc j) v e = rw ← e (map_same (slice_get cases j))
-case_placed (c ∷ cases) f (suc k) zero None e = refl
-case_placed (c ∷ cases) f (suc k) zero (Some d) e = refl
-case_placed (c ∷ cases) f (suc k) (suc j) None e = case_placed cases f k j None e
-case_placed (c ∷ cases) f (suc k) (suc j) (Some d) e = case_placed cases f k j (Some d) e
+kept_head : (c : KeptCase) (cases : List KeptCase) (k : ℕ) (f : KeptCase → KeptCase) (v : Option KeptCase) → put_by_found (c ∷ cases) (suc k) f v ≡ c ∷ put_by_found cases k f v
+kept_head c cases k f None = refl
+kept_head c cases k f (Some d) = refl
 
-by_places : (k n : ℕ) → (k == 0) ≡ false → (n == 0) ≡ false → nat_eq (k - 1) (n - 1) ≡ nat_eq k n
-by_places zero n h e = absurd (cc (h))
-by_places (suc k) zero h e = absurd (cc (e))
-by_places (suc k) (suc n) h e = refl
-
-apart : (k n : ℕ) → (k == 0) ≡ true → (n == 0) ≡ false → nat_eq k n ≡ false
-apart zero zero h e = absurd (cc (e))
-apart zero (suc n) h e = refl
-apart (suc k) n h e = absurd (cc (h))
+case_placed : (cases : List KeptCase) (f : KeptCase → KeptCase) (k j : ℕ) → slice_get (put_by_found cases k f (slice_get cases k)) j ≡ option_map (λ c. cond (nat_eq k j) (f c) c) (slice_get cases j)
+case_placed [] f k j = refl
+case_placed (c ∷ cases) f zero zero = refl
+case_placed (c ∷ cases) f zero (suc j) = map_apart (nat_eq 0 (suc j)) f (slice_get cases j) (zero_suc j)
+case_placed (c ∷ cases) f (suc k) zero = ap (λ (xs : List KeptCase). slice_get xs 0) (kept_head c cases k f (slice_get cases k)) ∙ map_apart (nat_eq (suc k) 0) f (Some c) (suc_zero k)
+case_placed (c ∷ cases) f (suc k) (suc j) =
+    ap (λ (xs : List KeptCase). slice_get xs (suc j)) (kept_head c cases k f (slice_get cases k)) ∙ case_placed cases f k j
+    ∙ ap (λ (b : Bool). option_map (λ d. cond b (f d) d) (slice_get cases j)) (sym (eq_suc k j))
 
 changed_put : (number : ℕ) (f : KeptCase → KeptCase) (cases : List KeptCase) (v : Option KeptCase) → changed_at number f cases v ≡ put_by_found cases (number - 1) f v
 changed_put number f cases None = refl
@@ -93,15 +92,12 @@ case_by : (k : ℕ) (f : KeptCase → KeptCase) (cases : List KeptCase) (n : ℕ
 case_by k f cases n b true h e = refl
 case_by k f cases n true false h e = map_same (slice_get cases (n - 1)) ∙ ap (λ (x : Bool). option_map (λ c. cond x (f c) c) (slice_get cases (n - 1))) (sym (apart k n h e))
 case_by k f cases n false false h e =
-    ap (λ (xs : List KeptCase). slice_get xs (n - 1)) (changed_put k f cases (slice_get cases (k - 1))) ∙ case_placed cases f (k - 1) (n - 1) (slice_get cases (k - 1)) refl
+    ap (λ (xs : List KeptCase). slice_get xs (n - 1)) (changed_put k f cases (slice_get cases (k - 1))) ∙ case_placed cases f (k - 1) (n - 1)
     ∙ ap (λ (x : Bool). option_map (λ c. cond x (f c) c) (slice_get cases (n - 1))) (by_places k n h e)
 
 -- the case of a number after the one of a number was changed
 pub case_changed : (k : ℕ) (f : KeptCase → KeptCase) (cases : List KeptCase) (n : ℕ) → case_at (with_case k f cases) n ≡ option_map (λ c. cond (nat_eq k n) (f c) c) (case_at cases n)
 case_changed k f cases n = case_by k f cases n (k == 0) (n == 0) refl refl
-
-pub same_number : (x y : ℕ) → nat_eq x y ≡ true → x ≡ y
-same_number x y h = grind (arith, common_steps, h)
 
 -- where no case is watched otherwise than before
 kept_by : (s : State) (f : KeptCase → KeptCase) (b : Bool) (o : Option KeptCase) → ((c : KeptCase) → watched s (f c) ≡ watched s c) → with_some (option_map (λ c. cond b (f c) c) o) (watched s) ≡ with_some o (watched s)
@@ -141,21 +137,21 @@ marks_opened s c rows h are n = opened_at s c n (row_at rows n) (n == 0) h (are 
 get_none : (rows : List (Option Row)) (k j : ℕ) → k < length rows → slice_get (slice_set rows k None) j ≡ cond (nat_eq k j) (Some None) (slice_get rows j)
 get_none [] k j h = absurd (omega (arith, h))
 get_none (o ∷ rows) zero zero h = refl
-get_none (o ∷ rows) zero (suc j) h = refl
-get_none (o ∷ rows) (suc k) zero h = refl
-get_none (o ∷ rows) (suc k) (suc j) h = get_none rows k j (omega (arith, h))
+get_none (o ∷ rows) zero (suc j) h = ap (λ (b : Bool). cond b (Some None) (slice_get rows j)) (sym (zero_suc j))
+get_none (o ∷ rows) (suc k) zero h = ap (λ (b : Bool). cond b (Some None) (Some o)) (sym (suc_zero k))
+get_none (o ∷ rows) (suc k) (suc j) h = get_none rows k j (omega (arith, h)) ∙ ap (λ (b : Bool). cond b (Some None) (slice_get rows j)) (sym (eq_suc k j))
 
 get_some : (rows : List (Option Row)) (r : Row) (k j : ℕ) → k < length rows → slice_get (slice_set rows k (Some r)) j ≡ cond (nat_eq k j) (Some (Some r)) (slice_get rows j)
 get_some [] r k j h = absurd (omega (arith, h))
 get_some (o ∷ rows) r zero zero h = refl
-get_some (o ∷ rows) r zero (suc j) h = refl
-get_some (o ∷ rows) r (suc k) zero h = refl
-get_some (o ∷ rows) r (suc k) (suc j) h = get_some rows r k j (omega (arith, h))
+get_some (o ∷ rows) r zero (suc j) h = ap (λ (b : Bool). cond b (Some (Some r)) (slice_get rows j)) (sym (zero_suc j))
+get_some (o ∷ rows) r (suc k) zero h = ap (λ (b : Bool). cond b (Some (Some r)) (Some o)) (sym (suc_zero k))
+get_some (o ∷ rows) r (suc k) (suc j) h = get_some rows r k j (omega (arith, h)) ∙ ap (λ (b : Bool). cond b (Some (Some r)) (slice_get rows j)) (sym (eq_suc k j))
 
-past : (rows : List (Option Row)) (j : ℕ) → nat_lt j (length rows) ≡ false → slice_get rows j ≡ None
+past : (rows : List (Option Row)) (j : ℕ) → length rows ≤ j → slice_get rows j ≡ None
 past [] j h = refl
-past (o ∷ rows) zero h = absurd (cc (h))
-past (o ∷ rows) (suc j) h = past rows j h
+past (o ∷ rows) zero h = absurd (omega (arith, h))
+past (o ∷ rows) (suc j) h = past rows j (omega (arith, h))
 
 past_by_number : (rows : List (Option Row)) (n : ℕ) (d : Bool) → (n == 0) ≡ d → nat_lt (length rows) n ≡ true → cond d None (joined (slice_get rows (n - 1))) ≡ None
 past_by_number rows n true e h = refl
@@ -177,7 +173,7 @@ cond_none true o h = h
 cond_none false o h = refl
 
 none_past : (rows : List (Option Row)) (k j : ℕ) (b : Bool) → nat_lt k (length rows) ≡ false → nat_eq k j ≡ b → joined (slice_get rows j) ≡ cond b None (joined (slice_get rows j))
-none_past rows k j true h e = ap joined (past rows j (ap (λ i. nat_lt i (length rows)) (sym (same_number k j e)) ∙ h))
+none_past rows k j true h e = ap joined (past rows j (grind (arith, common_steps, h, e)))
 none_past rows k j false h e = refl
 
 closed_place : (rows : List (Option Row)) (k j : ℕ) (b : Bool) → nat_lt k (length rows) ≡ b → joined (slice_get (cond b (slice_set rows k None) rows) j) ≡ cond (nat_eq k j) None (joined (slice_get rows j))
@@ -195,14 +191,12 @@ closed_by rows k n false false h e =
 pub closed_row : (rows : List (Option Row)) (k n : ℕ) → row_at (closed k rows) n ≡ cond (nat_eq k n) None (row_at rows n)
 closed_row rows k n = closed_by rows k n (k == 0) (n == 0) refl refl
 
+apart_zero : (k n : ℕ) → (k == 0) ≡ false → (n == 0) ≡ true → nat_eq k n ≡ false
+apart_zero k n h e = grind (arith, common_steps, h, e)
+
 put_by : (rows : List (Option Row)) (r : Row) (k n : ℕ) (d : Bool) → (k == 0) ≡ false → k - 1 < length rows → (n == 0) ≡ d
     → cond d None (joined (slice_get (slice_set rows (k - 1) (Some r)) (n - 1))) ≡ cond (nat_eq k n) (Some r) (cond d None (joined (slice_get rows (n - 1))))
-put_by rows r k n true h fits e = ap (λ (x : Bool). cond x (Some r) None) (sym (other k n h e))
-  where
-    other : (k n : ℕ) → (k == 0) ≡ false → (n == 0) ≡ true → nat_eq k n ≡ false
-    other zero n h e = absurd (cc (h))
-    other (suc k) zero h e = refl
-    other (suc k) (suc n) h e = absurd (cc (e))
+put_by rows r k n true h fits e = ap (λ (x : Bool). cond x (Some r) None) (sym (apart_zero k n h e))
 put_by rows r k n false h fits e =
     ap joined (get_some rows r (k - 1) (n - 1) fits) ∙ joined_cond (nat_eq (k - 1) (n - 1)) (Some r) (slice_get rows (n - 1))
     ∙ ap (λ (x : Bool). cond x (Some r) (joined (slice_get rows (n - 1)))) (by_places k n h e)
@@ -232,8 +226,7 @@ stands_then s k f c b at h =
     ap (λ o. option_map_or (stands_on s.day) o false) (sym found) ∙ h
   where
     itself : (k : ℕ) → nat_eq k k ≡ true
-    itself zero = refl
-    itself (suc k) = itself k
+    itself k = grind (arith, common_steps)
 
 pub marks_alive : (s : State) (k : ℕ) (life : Life) (rows : List (Option Row)) → Goes s (steps.LifePut k life) → AreMarks s rows
     → stands_in (record s { cases = with_case k (λ c. record c { life = life }) s.cases }) k ≡ true → AreMarks (record s { cases = with_case k (λ c. record c { life = life }) s.cases }) rows
@@ -371,3 +364,115 @@ pub marks_on_day : (s : State) (d : Date) (rows new : List (Option Row)) → Has
 marks_on_day s d rows new has goes are closes n =
     closes n ∙ ap (cond (not (stands_in (record s { day = Some d }) n)) None) (are n)
     ∙ day_at s d (case_at s.cases n) (λ c at none. none_found s.cases n c (has none) at) goes
+
+-- ---- the marked cases
+
+append_none : (xs : List ℕ) → xs ++ [] ≡ xs
+append_none [] = refl
+append_none (x ∷ xs) = ap (λ zs. x ∷ zs) (append_none xs)
+
+not_put : (xs : List ℕ) (n : ℕ) (b : Bool) → b ≡ false → xs ++ cond b (n ∷ []) [] ≡ xs
+not_put xs n true e = absurd (cc (e))
+not_put xs n false e = append_none xs
+
+by_last : (f : ℕ → Bool) (m t : ℕ) (b : Bool) → nat_lt m (suc t) ≡ b → m ≤ suc t → (m ≤ t → numbers_up_to f t ≡ numbers_up_to f m) → (m < suc t → f (suc t) ≡ false) → numbers_up_to f (suc t) ≡ numbers_up_to f m
+by_last f m t true e le rest none =
+    let short : m < suc t = grind (arith, common_steps, e) in
+    not_put (numbers_up_to f t) (suc t) (f (suc t)) (none short) ∙ rest (omega (arith, short))
+by_last f m t false e le rest none =
+    let same : suc t ≡ m = grind (arith, common_steps, e, le) in
+    ap (numbers_up_to f) same
+
+numbers_beyond : (f : ℕ → Bool) (m t : ℕ) → m ≤ t → ((k : ℕ) → m < k → f k ≡ false) → numbers_up_to f t ≡ numbers_up_to f m
+numbers_beyond f m zero le h = let same : 0 ≡ m = omega (arith, le) in ap (numbers_up_to f) same
+numbers_beyond f m (suc t) le h = by_last f m t (nat_lt m (suc t)) refl le (λ short. numbers_beyond f m t short h) (h (suc t))
+
+numbers_same : (f g : ℕ → Bool) (n : ℕ) → ((k : ℕ) → f k ≡ g k) → numbers_up_to f n ≡ numbers_up_to g n
+numbers_same f g zero h = refl
+numbers_same f g (suc n) h = ap (λ xs. xs ++ cond (f (suc n)) (suc n ∷ []) []) (numbers_same f g n h) ∙ ap (λ (b : Bool). numbers_up_to g n ++ cond b (suc n ∷ []) []) (h (suc n))
+
+case_past : (cases : List KeptCase) (n : ℕ) → length cases < n → case_at cases n ≡ None
+case_past cases n h = by (n == 0)
+  where
+    past : (cases : List KeptCase) (i : ℕ) → length cases ≤ i → slice_get cases i ≡ None
+    past [] i h = refl
+    past (c ∷ cases) zero h = absurd (omega (arith, h))
+    past (c ∷ cases) (suc i) h = past cases i (omega (arith, h))
+
+    by : (b : Bool) → cond b None (slice_get cases (n - 1)) ≡ None
+    by true = refl
+    by false = past cases (n - 1) (omega (arith, h))
+
+pub is_marked_as : (s : State) (rows : List (Option Row)) (n : ℕ) → AreMarks s rows → is_marked_in rows n ≡ is_marked s n
+is_marked_as s rows n are = ap is_marked_row (are n)
+
+-- the marked cases of the book are those of the state
+pub marks_are : (s : State) (rows : List (Option Row)) → AreMarks s rows → marked_cases rows ≡ marks s
+marks_are s rows are =
+    let top = length rows + length s.cases in
+    let beyond_rows = numbers_beyond (is_marked_in rows) (length rows) top (omega arith) (λ k h. ap is_marked_row (row_past rows k (grind (arith, common_steps, h)))) in
+    let beyond_cases = numbers_beyond (is_marked s) (length s.cases) top (omega arith) (λ k h. ap (λ o. is_marked_row (with_some o (watched s))) (case_past s.cases k h)) in
+    sym beyond_rows ∙ numbers_same (is_marked_in rows) (is_marked s) top (λ k. is_marked_as s rows k are) ∙ beyond_cases
+
+-- ---- whole steps
+
+-- the marks and the day, as the office keeps them
+abbrev pub AreKept : State → List (Option Row) → Type 0
+AreKept s rows = AreMarks s rows × HasDay s
+
+nothing_changed : (k : ℕ) (f : KeptCase → KeptCase) (v : Option KeptCase) → changed_at k f [] v ≡ []
+nothing_changed k f None = refl
+nothing_changed k f (Some c) = refl
+
+day_formed : (s : State) (k : ℕ) (f : KeptCase → KeptCase) → HasDay s → HasDay (record s { cases = with_case k f s.cases })
+day_formed s k f h = λ none. ap (with_case k f) (h none) ∙ nothing_changed k f (case_at [] k)
+
+-- a case is changed in what no list hangs on
+pub kept_formed : (s : State) (k : ℕ) (f : KeptCase → KeptCase) (rows : List (Option Row)) → ((c : KeptCase) → watched s (f c) ≡ watched s c) → AreKept s rows → AreKept (record s { cases = with_case k f s.cases }) rows
+kept_formed s k f rows same h = (marks_formed s k f rows same h.0, day_formed s k f h.1)
+
+lived : (s : State) (k : ℕ) (life : Life) (rows : List (Option Row)) (b : Bool) → stands_in (record s { cases = with_case k (λ c. record c { life = life }) s.cases }) k ≡ b → Goes s (steps.LifePut k life) → AreMarks s rows
+    → AreMarks (record s { cases = with_case k (λ c. record c { life = life }) s.cases }) (cond b rows (closed k rows))
+lived s k life rows true is goes are = marks_alive s k life rows goes are is
+lived s k life rows false is goes are = marks_fallen s k (λ c. record c { life = life }) rows are is
+
+pub kept_alive : (s : State) (k : ℕ) (life : Life) (rows : List (Option Row)) → Goes s (steps.LifePut k life) → AreKept s rows
+    → AreKept (stepped (steps.LifePut k life) s) (cond (stands_in (stepped (steps.LifePut k life) s) k) rows (closed k rows))
+kept_alive s k life rows goes h = (lived s k life rows (stands_in (stepped (steps.LifePut k life) s) k) refl goes h.0, day_formed s k (λ c. record c { life = life }) h.1)
+
+issued_rows : (s : State) (k : ℕ) (life : Life) (kept : KeptList) (there : KeptCase) (rows : List (Option Row)) (b : Bool) → stands_in (record s { cases = with_case k (issued_case life kept) s.cases }) k ≡ b
+    → Goes s (steps.Issued k life kept) → 1 ≤ k → k ≤ length rows → case_at s.cases k ≡ Some there → AreMarks s rows
+    → AreMarks (record s { cases = with_case k (issued_case life kept) s.cases }) (cond b (slice_set rows (k - 1) (Some (unmarked there kept))) (closed k (slice_set rows (k - 1) (Some (unmarked there kept)))))
+issued_rows s k life kept there rows true is goes low high at are =
+    marks_issued s k life kept there rows are low high at (same_lists kept.list (findings_of s.register there.submission.filing) (goes there at)) is
+issued_rows s k life kept there rows false is goes low high at are =
+    λ n. closed_put rows (unmarked there kept) k low high n ∙ marks_fallen s k (issued_case life kept) rows are is n
+
+pub kept_issued : (s : State) (k : ℕ) (life : Life) (kept : KeptList) (there : KeptCase) (old rows : List (Option Row)) → Goes s (steps.Issued k life kept) → case_at s.cases k ≡ Some there → ((n : ℕ) → row_at rows n ≡ row_at old n)
+    → k ≤ length rows → AreKept s old
+    → AreKept (stepped (steps.Issued k life kept) s)
+    (cond (stands_in (stepped (steps.Issued k life kept) s) k) (slice_set rows (k - 1) (Some (unmarked there kept))) (closed k (slice_set rows (k - 1) (Some (unmarked there kept)))))
+kept_issued s k life kept there old rows goes at same high h =
+    (issued_rows s k life kept there rows (stands_in (stepped (steps.Issued k life kept) s) k) refl goes (not_zero k at) high at (λ n. same n ∙ h.0 n), day_formed s k (issued_case life kept) h.1)
+  where
+    not_zero : (k : ℕ) → case_at s.cases k ≡ Some there → 1 ≤ k
+    not_zero zero e = absurd (cc (e))
+    not_zero (suc k) e = omega arith
+
+pub kept_opened : (s : State) (c : KeptCase) (rows : List (Option Row)) → Goes s (steps.CaseFiled c) → AreKept s rows → AreKept (stepped (steps.CaseFiled c) s) rows
+kept_opened s c rows goes h = (marks_opened s c rows goes.0 h.0, λ none. absurd (goes.1 none))
+
+pub kept_on_day : (s : State) (d : Date) (rows new : List (Option Row)) → Goes s (steps.DaySet d) → AreKept s rows → ((n : ℕ) → row_at new n ≡ cond (not (stands_in (stepped (steps.DaySet d) s) n)) None (row_at rows n))
+    → AreKept (stepped (steps.DaySet d) s) new
+kept_on_day s d rows new goes h closes = (marks_on_day s d rows new h.1 goes h.0 closes, λ none. absurd (cc (none)))
+
+pub kept_amended : (s : State) (airfields : List Airfield) (change : AirfieldChange) (rows new : List (Option Row)) → Leads s.register airfields change → AreKept s rows → ((n : ℕ) → row_at new n ≡ option_map (turned airfields change) (row_at rows n))
+    → AreKept (with_register airfields s) new
+kept_amended s airfields change rows new l h turns = (marks_amended s airfields change rows new l h.0 turns, h.1)
+
+form_stands : (day : Option Date) (c : KeptCase) (form : Option Date) → stands_on day (record c { form = form }) ≡ stands_on day c
+form_stands None c form = refl
+form_stands (Some today) c form = refl
+
+pub form_watched : (s : State) (c : KeptCase) (form : Option Date) → watched s (record c { form = form }) ≡ watched s c
+form_watched s c form = ap (λ (b : Bool). cond b (option_map (compared s c) c.list) None) (form_stands s.day c form)

@@ -1,0 +1,103 @@
+//! The reports on the desk's cases.
+
+ghost use Rattle.std.specs.Prelude.{◌≡◌, ◌++◌, List, OnOk, IfOk, option_to_list};
+ghost use Rattle.oe_reports.specs.Tables as tables;
+ghost use Rattle.oe_reports.specs.declared.rows.ExpiryRow.{ExpiryRow as AnExpiryRow};
+ghost use Rattle.desk_rules.specs.Marks.{marks};
+ghost use Rattle.desk_rules.specs.Reports as spec;
+
+use crate::desk::Desk;
+use case_records::CaseList;
+use determination_dates::expiry;
+use grid_exact::{NoMemory, Text};
+use oe_reports::{ExpiryRow, ReviewRow, expiry_table, review_table};
+use std::alloc::Global;
+
+/// What was decided of a case, and when.
+fn review_row(desk: &Desk, number: u32) -> Option<ReviewRow>
+    ensures { result ≡ spec.review_row desk.now number }
+{
+    let case = desk.case(number)?;
+    let record = case.life.determination?;
+    Some(ReviewRow {
+        case: number,
+        decision: record.decision,
+        issued: record.issued,
+    })
+}
+
+/// Puts a row behind others, where there is one.
+fn put_row<T: Drop>(rows: &mut Vec<T>, row: Option<T>) -> Result<(), NoMemory>
+    ensures { OnOk result (rows.new.items ≡ rows.old.items ++ option_to_list row) }
+{
+    if let Some(row) = row {
+        rows.push(row)?;
+    }
+    Ok(())
+}
+
+/// The rows of the marked cases.
+fn review_rows(alloc: Global, desk: &Desk, marked: &[u32]) -> Result<Vec<ReviewRow>, NoMemory>
+    ensures { IfOk result (λ rows. rows.items ≡ spec.review_rows_of desk.now marked.now) }
+{
+    let mut rows = Vec::new(alloc);
+    for number in marked {
+        put_row(&mut rows, review_row(desk, *number))?;
+    }
+    Ok(rows)
+}
+
+/// The report of the marked cases.
+///
+/// # Errors
+///
+/// `NoMemory` where memory was refused.
+pub(crate) fn review_report(alloc: Global, desk: &Desk, marked: &CaseList) -> Result<Text, NoMemory>
+    requires { marked.now ≡ marks desk.now }
+    ensures { IfOk result (λ text. text ≡ tables.review_table (spec.review_rows desk.now)) }
+{
+    let rows = review_rows(alloc, desk, marked.as_slice())?;
+    review_table(alloc, rows.as_slice())
+}
+
+/// When the determination of a case expires, where it stands on the desk's day and has an expiry.
+fn expiry_row(desk: &Desk, number: u32) -> Option<ExpiryRow>
+    ensures { result ≡ spec.expiry_row desk.now number }
+{
+    if !desk.stands(number) {
+        return None;
+    }
+    let case = desk.case(number)?;
+    let record = case.life.determination?;
+    Some(ExpiryRow {
+        expiry: expiry(&record)?,
+        case: number,
+    })
+}
+
+/// The rows of the determinations that expire, in order of number. More cases than `u32` has numbers are told as memory refused.
+fn expiry_rows(alloc: Global, desk: &Desk) -> Result<Vec<ExpiryRow>, NoMemory>
+    ensures { IfOk result (λ rows. rows.items ≡ spec.expiring desk.now) }
+{
+    let Ok(last) = u32::try_from(desk.cases.len()) else {
+        return Err(NoMemory);
+    };
+    let mut rows = Vec::new(alloc);
+    for place in 0..last {
+        put_row(&mut rows, expiry_row(desk, place + 1))?;
+    }
+    Ok(rows)
+}
+
+/// The report of the determinations that expire, by expiry, and by case where two expire on one day.
+///
+/// # Errors
+///
+/// `NoMemory` where memory was refused.
+pub(crate) fn expiry_report(alloc: Global, desk: &Desk) -> Result<Text, NoMemory>
+    ensures { IfOk result (λ text. (rows : List AnExpiryRow) × spec.IsExpiryOrder (spec.expiring desk.now) rows × (text ≡ tables.expiry_table rows)) }
+{
+    let mut rows = expiry_rows(alloc, desk)?;
+    rows.sort_unstable();
+    expiry_table(alloc, rows.as_slice())
+}
