@@ -1,0 +1,9 @@
+-- What a desk holds, counted.
+use Rattle.std.specs.Prelude.{ℕ, ◌-◌, ◌^◌, length, min}
+use Rattle.desk_rules.specs.States.{State, last_number}
+use Rattle.desk_generator.specs.declared.tally.Tally.{Tally}
+
+-- how many airfields, cases and accepted requests there are, where so many cases are marked; the count of cases stands still at the end
+-- of its type
+abbrev pub tally_of : ℕ → State → Tally
+tally_of marked s = record { airfields = length s.register; cases = min (length s.cases) (2 ^ 32 - 1); entries = last_number s; marked = marked }
