@@ -1,0 +1,28 @@
+-- Draws by a fixed rule.
+use Rattle.std.specs.Prelude.{ℕ, zero, suc, ◌+◌, ◌*◌, ◌/◌, ◌%◌, ◌^◌, ◌==◌, ℤ, pos, ◌-ℤ◌, if◌then◌else◌}
+use Rattle.runway_classes.specs.declared.ApproachKind.{ApproachKind}
+use Rattle.runway_classes.specs.declared.ApproachKind.TheVariants.{Visual, NonprecisionAbove, NonprecisionLow, Precision}
+use Rattle.desk_generator.specs.declared.draws.TheConstants.{MULTIPLIER, INCREMENT, LOW_PART, COORDINATES, FARTHEST, APPROACHES}
+
+-- the number of a source after a draw
+unfoldable pub next : ℕ → ℕ
+next s = (s * MULTIPLIER + INCREMENT) % 2 ^ 64
+
+-- and after so many
+abbrev pub advanced : ℕ → ℕ → ℕ
+advanced zero s = s
+advanced (suc k) s = advanced k (next s)
+
+-- what is drawn of n numbers where the number of the source is s after the draw
+unfoldable pub drawn : ℕ → ℕ → ℕ
+drawn n s = s / LOW_PART % n
+
+abbrev pub coordinate : ℕ → ℤ
+coordinate s = pos (drawn COORDINATES s) -ℤ FARTHEST
+
+-- the kind of approaches of this number
+abbrev pub kind_of : ℕ → ApproachKind
+kind_of n = if n == 0 then Visual else (if n == 1 then NonprecisionAbove else (if n == 2 then NonprecisionLow else Precision))
+
+abbrev pub approach : ℕ → ApproachKind
+approach s = kind_of (drawn APPROACHES s)
