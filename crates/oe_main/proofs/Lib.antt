@@ -2,3 +2,4 @@ pub mod WordFacts
 pub mod StepFacts
 pub mod RunFacts
 pub mod ChangeFacts
+pub mod QueryFacts

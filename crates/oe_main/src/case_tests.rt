@@ -6,7 +6,12 @@ use std::process::Abort;
 use std::test::Fail;
 
 /// The records of one session, after one airport with its runway where it is `near`, have these replies.
-pub(crate) fn session(rt: &impl Abort, alloc: Global, near: bool, table: &[(&str, &str)]) -> Result<(), Fail> {
+pub(crate) fn session(
+    rt: &impl Abort,
+    alloc: Global,
+    near: bool,
+    table: &[(&str, &str)],
+) -> Result<(), Fail> {
     let mut records = String::new(alloc);
     let mut replies = String::new(alloc);
     if near {

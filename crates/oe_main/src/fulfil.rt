@@ -6,6 +6,7 @@ ghost use Rattle.desk_rules.specs.States.{last_number};
 ghost use Rattle.oe_main.specs.Desk.{Tells, change_reply};
 ghost use Rattle.wire_requests.specs.declared.request.Request.TheVariants as requests;
 ghost use Rattle.wire_requests.specs.declared.request.Query.TheVariants as queries;
+ghost use Rattle.wire_values.specs.declared.report.ReportKind.TheVariants as reports;
 
 use airfields::{FieldId, Filing};
 use filing_desk::{Answer, Clerk};
@@ -77,6 +78,39 @@ fn append_review(alloc: Global, clerk: &Clerk, text: &mut String) -> Result<(), 
     }
 }
 
+/// Appends the report of the marked cases.
+fn append_review_report(alloc: Global, clerk: &Clerk, text: &mut String) -> Result<(), NoMemory>
+    ensures ok { OnOk result (Tells clerk.now.state (requests.Query (queries.Report reports.Review)) (string_bytes text.old) (string_bytes text.new) clerk.now.state) }
+    ensures part { OnErr result (Extends (string_bytes text.old) (string_bytes text.new)) }
+{
+    match clerk.review_report(alloc) {
+        Ok(table) => append_reply(text, &Reply::Report(table)),
+        Err(_) => append_reply(text, &Reply::Refused(Refusal::NoMemory)),
+    }
+}
+
+/// Appends the report of the determinations that expire.
+fn append_expiry_report(alloc: Global, clerk: &Clerk, text: &mut String) -> Result<(), NoMemory>
+    ensures ok { OnOk result (Tells clerk.now.state (requests.Query (queries.Report reports.Expiry)) (string_bytes text.old) (string_bytes text.new) clerk.now.state) }
+    ensures part { OnErr result (Extends (string_bytes text.old) (string_bytes text.new)) }
+{
+    match clerk.expiry_report(alloc) {
+        Ok(table) => append_reply(text, &Reply::Report(table)),
+        Err(_) => append_reply(text, &Reply::Refused(Refusal::NoMemory)),
+    }
+}
+
+/// Appends the report of the airfields.
+fn append_airfield_report(alloc: Global, clerk: &Clerk, text: &mut String) -> Result<(), NoMemory>
+    ensures ok { OnOk result (Tells clerk.now.state (requests.Query (queries.Report reports.Airfields)) (string_bytes text.old) (string_bytes text.new) clerk.now.state) }
+    ensures part { OnErr result (Extends (string_bytes text.old) (string_bytes text.new)) }
+{
+    match airfield_table(alloc, clerk.sky().register()) {
+        Ok(table) => append_reply(text, &Reply::Report(table)),
+        Err(_) => append_reply(text, &Reply::Refused(Refusal::NoMemory)),
+    }
+}
+
 /// Appends the reply with a report.
 fn append_report(
     alloc: Global,
@@ -87,14 +121,10 @@ fn append_report(
     ensures ok { OnOk result (Tells clerk.now.state (requests.Query (queries.Report kind)) (string_bytes text.old) (string_bytes text.new) clerk.now.state) }
     ensures part { OnErr result (Extends (string_bytes text.old) (string_bytes text.new)) }
 {
-    let report = match kind {
-        ReportKind::Review => clerk.review_report(alloc),
-        ReportKind::Expiry => clerk.expiry_report(alloc),
-        ReportKind::Airfields => airfield_table(alloc, clerk.sky().register()),
-    };
-    match report {
-        Ok(table) => append_reply(text, &Reply::Report(table)),
-        Err(_) => append_reply(text, &Reply::Refused(Refusal::NoMemory)),
+    match kind {
+        ReportKind::Review => append_review_report(alloc, clerk, text),
+        ReportKind::Expiry => append_expiry_report(alloc, clerk, text),
+        ReportKind::Airfields => append_airfield_report(alloc, clerk, text),
     }
 }
 
@@ -124,7 +154,6 @@ fn reply_of(answer: Answer) -> Reply
 }
 
 /// Makes a change, or refuses it, and appends the reply.
-#[tactic(auto, using(crate::proofs::ChangeFacts::changed, crate::proofs::ChangeFacts::counted))]
 fn make_change(
     alloc: Global,
     clerk: &mut Clerk,

@@ -49,10 +49,7 @@ fn marks_come_and_go(rt: HostRuntime) -> Result<(), Fail> {
         ("review", "review,2,1,2"),
         ("abandon,u,11,2", "ok,11,published,abandon,2"),
         ("review", "review,1,1"),
-        (
-            "report,expiry",
-            "report,expiry,1\n2027-08-24       1",
-        ),
+        ("report,expiry", "report,expiry,1\n2027-08-24       1"),
         ("day,u,12,2027-08-25", "ok,12,published,day"),
         ("review", "review,0"),
         ("report,expiry", "report,expiry,0"),
@@ -65,7 +62,10 @@ fn marks_come_and_go(rt: HostRuntime) -> Result<(), Fail> {
 #[test]
 fn reports(rt: HostRuntime) -> Result<(), Fail> {
     let table = [
-        ("heliport,u,3,HHH,public,0,0,1000,0,1000,500", "ok,3,published,heliport"),
+        (
+            "heliport,u,3,HHH,public,0,0,1000,0,1000,500",
+            "ok,3,published,heliport",
+        ),
         (
             "report,airfields",
             "report,airfields,2\nAAA       airport      1000   1\nHHH       heliport      500   0",

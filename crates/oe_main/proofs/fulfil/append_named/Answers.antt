@@ -1,0 +1,14 @@
+use Rattle.std.proofs.Common.{ap, ◌∙◌, List}
+use Rattle.airport_register.specs.Amendments.{airfield_at}
+use Rattle.airfields.specs.declared.airfield.Airfield.{Airfield}
+use Rattle.oe_main.proofs.QueryFacts.{airfield_told, no_airfield_told, on_ok}
+use Rattle.oe_main.proofs.fulfil.append_named.Goals as goal
+
+pub returns-in-Some-clause-ok : goal.returns-in-Some-clause-ok
+returns-in-Some-clause-ok c =
+    on_ok c.append_airfield.result
+    (airfield_told c.args.clerk.now.state _ _ c.args.id.now c.in-Some.airfield.now (c.in-Some.ensures.found ∙ ap (λ (xs : List Airfield). airfield_at xs c.args.id.now) (c.register.ensures ∙ c.sky.ensures))) c.append_airfield.ensures.ok
+
+pub returns-in-None-clause-ok : goal.returns-in-None-clause-ok
+returns-in-None-clause-ok c =
+    on_ok c.append_reply.result (no_airfield_told c.args.clerk.now.state _ _ c.args.id.now (c.in-None.ensures.found ∙ ap (λ (xs : List Airfield). airfield_at xs c.args.id.now) (c.register.ensures ∙ c.sky.ensures))) c.append_reply.ensures.ok
