@@ -1,4 +1,5 @@
-pub mod WordFacts
+pub mod CommandFacts
+pub mod GenerateFacts
 pub mod StepFacts
 pub mod RunFacts
 pub mod ChangeFacts

@@ -1,9 +1,6 @@
--- A run that reads nothing, and what the end of a session says of the status.
-use Rattle.std.proofs.Common.{ℕ, List, [], Option, Some, None, refl, sym, ap, append-nil, ◌≡◌, ◌≢◌, ◌∷◌, ◌∙◌, ◌⊎◌, inl, inr}
-use Rattle.std.specs.Io.KnownBytes.{Appends}
-use Rattle.std.specs.Str.Lines.{lines}
-use Rattle.oe_session.specs.Machine.{Starts}
-use Rattle.oe_session.specs.Session.{Begun, Answered, WritesWhole, HasCauses}
+-- What the end of a session says of the status.
+use Rattle.std.proofs.Common.{ℕ, List, Option, refl, sym, ap, ◌≡◌, ◌≢◌, ◌∙◌, ◌⊎◌, inl, inr}
+use Rattle.oe_session.specs.Session.{Answered, WritesWhole, HasCauses}
 use Rattle.oe_session.specs.declared.session.Ended.{Ended}
 use Rattle.oe_session.specs.declared.session.Ended.TheVariants as endings
 use Rattle.desk_rules.specs.States.{State, empty}
@@ -11,19 +8,9 @@ use Rattle.oe_main.specs.declared.status.Status.{Status}
 use Rattle.oe_main.specs.declared.status.Status.TheVariants as statuses
 use Rattle.oe_main.specs.Statuses.{status_of}
 use Rattle.oe_main.specs.Desk.{Step}
+use Rattle.oe_main.specs.Generating.{IsGenerateEnd}
+use Rattle.oe_http.specs.Causes.{Rose}
 use Rattle.oe_main.specs.Runs.{AllAnswered, RunWrites, RunCauses}
-
-appends_nothing : (h : Option (List ℕ)) → Appends h h []
-appends_nothing None = tt
-appends_nothing (Some hs) = sym (append-nil hs)
-
-starts_nothing : (s : State) (ls : List (List ℕ)) → Starts Step s ls []
-starts_nothing s [] = refl
-starts_nothing s (l ∷ ls) = inl refl
-
-pub begun_nothing : (x h : Option (List ℕ)) → Begun Step empty x h h
-begun_nothing None h = tt
-begun_nothing (Some xs) h = ([], appends_nothing h, starts_nothing empty (lines xs))
 
 -- the end of the session that a status tells of
 abbrev pub ending : Status → Ended
@@ -71,3 +58,9 @@ run_causes e x y r0 r1 w0 w1 h = record {
   write = λ s. h.write (told_by e statuses.WriteFault s);
   long = λ s. h.long (told_by e statuses.InputLong s);
 }
+
+-- a run that makes a desk by draws reads nothing
+pub generate_causes : (s : Status) (x y : Option (List ℕ)) (r0 r1 w0 w1 : ℕ) → IsGenerateEnd s → (s ≡ statuses.WriteFault → Rose w0 w1) → RunCauses s x y r0 r1 w0 w1
+generate_causes s x y r0 r1 w0 w1 (inl d) cause = record { read = λ e. cc; write = cause; long = λ e. cc }
+generate_causes s x y r0 r1 w0 w1 (inr (inl f)) cause = record { read = λ e. cc; write = cause; long = λ e. cc }
+generate_causes s x y r0 r1 w0 w1 (inr (inr m)) cause = record { read = λ e. cc; write = cause; long = λ e. cc }

@@ -1,3 +1,5 @@
 pub mod Statuses
 pub mod Desk
+pub mod Commands
 pub mod Runs
+pub mod Generating

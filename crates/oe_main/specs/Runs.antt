@@ -1,5 +1,5 @@
 -- How a run of the program ends, and what it has read and written then.
-use Rattle.std.specs.Prelude.{ℕ, List, [], ◌∷◌, ◌≡◌, ◌≢◌, ◌⊎◌, Option, codes}
+use Rattle.std.specs.Prelude.{ℕ, List, ◌≡◌, ◌⊎◌, Option}
 use Rattle.oe_http.specs.Causes.{Rose}
 use Rattle.oe_http.specs.declared.lines.TheConstants.{INPUT_LIMIT}
 use Rattle.oe_session.specs.Session.{Answered, AnsweredFront, AnsweredRead, ReadToEnd, TookAtLeast}
@@ -16,7 +16,7 @@ AllAnswered input held_old held_new = (after : State) × Answered Step empty aft
 abbrev pub ReadAnswered : Option (List ℕ) → Option (List ℕ) → Option (List ℕ) → Option (List ℕ) → Type 0
 ReadAnswered input left held_old held_new = (after : State) × AnsweredRead Step empty after input left held_old held_new
 
--- what was read and written, by the status
+-- what a desk has read and written, by the status
 pub record RunWrites (status : Status) (input left held_old held_new : Option (List ℕ)) : Type 0 where
   -- at the end of the input nothing of it is left
   pub read_to_end : status ≡ statuses.Done → ReadToEnd input left
@@ -24,11 +24,6 @@ pub record RunWrites (status : Status) (input left held_old held_new : Option (L
   pub whole : (status ≡ statuses.ReadFault) ⊎ (status ≡ statuses.InputLong) → ReadAnswered input left held_old held_new
   -- where memory is wanting, no part of a reply was written
   pub memory : status ≡ statuses.NoMemory → AnsweredFront Step empty input held_old held_new
-
--- Usage is the status exactly where the words are not the one word `desk`
-pub record TellsUsage (words : List (List ℕ)) (status : Status) : Type 0 where
-  pub usage : words ≢ codes "desk" ∷ [] → status ≡ statuses.Usage
-  pub command : words ≡ codes "desk" ∷ [] → status ≢ statuses.Usage
 
 -- why a run ended so: a fault of a stream is told only where its count rose, and a long input only after its limit
 pub record RunCauses (status : Status) (input left : Option (List ℕ)) (read_old read_new write_old write_new : ℕ) : Type 0 where

@@ -5,6 +5,7 @@
 
 mod desk;
 mod fulfil;
+mod generate;
 mod run;
 mod status;
 mod words;
@@ -16,10 +17,12 @@ pub use status::Status;
 use std::env;
 use std::io::ErrorKind;
 use std::process::ExitCode;
-pub use words::Words;
+pub use words::{Command, SEED_LIMIT, Words};
 
 #[cfg(test)]
 mod case_tests;
+#[cfg(test)]
+mod generate_tests;
 #[cfg(test)]
 mod review_tests;
 #[cfg(test)]

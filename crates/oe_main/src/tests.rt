@@ -11,7 +11,7 @@ pub(crate) const RUNWAY: &str = "runway,u,2,AAA,09/27,other,hard,-50000,0,1000,P
 
 pub(crate) const PUBLISHED: &str = "ok,1,published,airport\nok,2,published,runway\n";
 
-fn words(alloc: Global, list: &[&str]) -> Result<Words, Fail> {
+pub(crate) fn words(alloc: Global, list: &[&str]) -> Result<Words, Fail> {
     let mut words = Words::new(alloc);
     for word in list {
         words.push(word)?;
@@ -363,5 +363,10 @@ fn other_words_are_no_command(rt: HostRuntime) -> Result<(), Fail> {
     assert_eq!(rt; status_of(rt.alloc(), &[])?, Status::Usage);
     assert_eq!(rt; status_of(rt.alloc(), &["desks"])?, Status::Usage);
     assert_eq!(rt; status_of(rt.alloc(), &["desk", "desk"])?, Status::Usage);
+    assert_eq!(rt; status_of(rt.alloc(), &["generate", "7"])?, Status::Usage);
+    assert_eq!(rt;
+        status_of(rt.alloc(), &["generate", "7", "1", "1"])?,
+        Status::Usage
+    );
     Ok(())
 }

@@ -1,10 +1,31 @@
 //! The words of a command line.
 
-ghost use Rattle.std.specs.Prelude.{◌≡◌, List, ℕ, [], ◌∷◌, ◌++◌, OnOk, OnErr, ◌≢◌, true, false, codes, length, map, string_bytes};
+ghost use Rattle.std.specs.Prelude.{◌≡◌, ◌≤◌, ◌<◌, ◌^◌, Some, List, ℕ, [], OnOk, OnErr, ◌∷◌, ◌++◌, ◌≢◌, true, false, codes, map, string_bytes, IfSome, IfNone};
+ghost use Rattle.std.specs.Fmt.{decimal};
+ghost use Rattle.oe_main.specs.Commands.{Says};
 
+use desk_generator::COUNT_LIMIT;
 use grid_exact::NoMemory;
+use itoa::Buffer;
 use std::alloc::Global;
 use std::marker::Model;
+
+/// The greatest number with which draws begin.
+pub const SEED_LIMIT: u64 = 0x7FFF_FFFF_FFFF_FFFF;
+
+/// What the words ask for.
+#[derive(Clone, Copy, Debug, PartialEq, Eq)]
+pub enum Command {
+    /// `desk`: the desk answers the input.
+    Desk,
+    /// `generate SEED COUNT`: a desk is made by draws, and what it holds is told.
+    Generate {
+        /// Where the draws begin, at most `SEED_LIMIT`.
+        seed: u64,
+        /// How many cases there are, 1 to `COUNT_LIMIT`.
+        count: u32,
+    },
+}
 
 /// Words after the program's name. A clause sees the list of their texts.
 #[derive(Drop)]
@@ -44,29 +65,80 @@ impl Words {
         Ok(())
     }
 
-    /// How many words there are.
-    pub fn len(&self) -> usize
-        ensures { result ≡ length self.now }
+    /// What the words ask for; `None` exactly where they are no command.
+    pub fn asks_for(&self) -> Option<Command>
+        ensures some { IfSome result (λ c. Says self.now c) }
+        ensures none { IfNone result ((c : Command) → Says self.now c → ⊥) }
     {
-        self.items.len()
-    }
-
-    /// Whether the words are the command `desk`.
-    pub fn is_desk(&self) -> bool
-        ensures yes { result ≡ true → self.now ≡ codes "desk" ∷ [] }
-        ensures no { result ≡ false → self.now ≢ codes "desk" ∷ [] }
-    {
-        is_only(self.items.as_slice(), "desk")
+        command_of(self.items.as_slice())
     }
 }
 
-/// Whether some words are this one alone.
-fn is_only(words: &[String], word: &str) -> bool
-    ensures yes { result ≡ true → map (λ s. string_bytes s) words.now ≡ word.now ∷ [] }
-    ensures no { result ≡ false → map (λ s. string_bytes s) words.now ≢ word.now ∷ [] }
+/// The command that some words are.
+fn command_of(words: &[String]) -> Option<Command>
+    ensures some { IfSome result (λ c. Says (map (λ s. string_bytes s) words.now) c) }
+    ensures none { IfNone result ((c : Command) → Says (map (λ s. string_bytes s) words.now) c → ⊥) }
 {
-    if words.len() != 1 {
-        return false;
+    match words {
+        [word] => desk_command(word.as_str()),
+        [word, seed, count] => generate_command(word.as_str(), seed.as_str(), count.as_str()),
+        _ => None,
     }
-    words[0].as_str() == word
+}
+
+/// The command that this one word is.
+fn desk_command(word: &str) -> Option<Command>
+    ensures some { IfSome result (λ c. Says (word.now ∷ []) c) }
+    ensures none { IfNone result ((c : Command) → Says (word.now ∷ []) c → ⊥) }
+{
+    if word == "desk" {
+        return Some(Command::Desk);
+    }
+    None
+}
+
+/// The command that these three words are.
+fn generate_command(word: &str, seed: &str, count: &str) -> Option<Command>
+    ensures some { IfSome result (λ c. Says (word.now ∷ seed.now ∷ count.now ∷ []) c) }
+    ensures none { IfNone result ((c : Command) → Says (word.now ∷ seed.now ∷ count.now ∷ []) c → ⊥) }
+{
+    if word != "generate" {
+        return None;
+    }
+    let seed = number_within(seed, 0, SEED_LIMIT)?;
+    let count = number_within(count, 1, u64::from(COUNT_LIMIT))?;
+    Some(Command::Generate {
+        seed,
+        count: count as u32,
+    })
+}
+
+/// The number that a word spells, where it is from `least` to `most`.
+fn number_within(word: &str, least: u64, most: u64) -> Option<u64>
+    ensures some { IfSome result (λ n. word.now ≡ decimal n) }
+    ensures within { IfSome result (λ n. (least ≤ n) × (n ≤ most)) }
+    ensures none { IfNone result ((n : ℕ) → least ≤ n → n ≤ most → word.now ≢ decimal n) }
+{
+    let number = number(word)?;
+    if number < least || number > most {
+        return None;
+    }
+    Some(number)
+}
+
+/// The number that a word spells: digits without a sign or a leading zero.
+fn number(word: &str) -> Option<u64>
+    ensures some { IfSome result (λ n. word.now ≡ decimal n) }
+    ensures one { (n : ℕ) → n < 2 ^ 64 → word.now ≡ decimal n → result ≡ Some n }
+{
+    match word.parse::<u64>() {
+        Ok(number) => {
+            if Buffer::new().format(number) == word {
+                Some(number)
+            } else {
+                None
+            }
+        }
+        Err(_) => None,
+    }
 }

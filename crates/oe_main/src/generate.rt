@@ -1,0 +1,47 @@
+//! The command `generate`: a desk that is made by draws, told in one line.
+
+ghost use Rattle.std.specs.Prelude.{◌≡◌, ◌≤◌, IfOk, string_bytes};
+ghost use Rattle.oe_http.specs.Causes.{Rose};
+ghost use Rattle.oe_main.specs.Generating.{GenerateWrites, IsGenerateEnd, generated_line};
+ghost use Rattle.desk_generator.specs.declared.generator.TheConstants.{COUNT_LIMIT};
+
+use crate::status::Status;
+use desk_generator::{COUNT_LIMIT, Tally, generated};
+use grid_exact::NoMemory;
+use oe_http::{Sink, write_whole};
+use std::alloc::Global;
+
+/// The line that tells what the desk holds that these draws lead to.
+fn tally_text(alloc: Global, seed: u64, count: u32) -> Result<String, NoMemory>
+    requires { count ≤ COUNT_LIMIT }
+    ensures { IfOk result (λ text. string_bytes text ≡ generated_line seed count) }
+{
+    let tally = Tally::of(&generated(alloc, seed, count)?);
+    let Tally {
+        airfields,
+        cases,
+        entries,
+        marked,
+    } = tally;
+    let text = format!(in alloc;
+        "airfields {airfields} cases {cases} entries {entries} marked {marked}\n"
+    )?;
+    Ok(text)
+}
+
+/// Makes the desk of these draws in memory, and writes the one line of what it holds.
+#[tactic(auto, using(crate::proofs::GenerateFacts::line_written, crate::proofs::GenerateFacts::line_cut, crate::proofs::GenerateFacts::none_made))]
+pub(crate) fn generate<O: Sink>(alloc: Global, seed: u64, count: u32, output: &mut O) -> Status
+    requires { count ≤ COUNT_LIMIT }
+    ensures writes { GenerateWrites seed count result (O.held output.old) (O.held output.new) }
+    ensures ends { IsGenerateEnd result }
+    ensures cause { result ≡ Status.WriteFault → Rose (O.faults output.old) (O.faults output.new) }
+{
+    let Ok(text) = tally_text(alloc, seed, count) else {
+        return Status::NoMemory;
+    };
+    match write_whole(output, text.as_bytes()) {
+        Ok(()) => Status::Done,
+        Err(_) => Status::WriteFault,
+    }
+}
