@@ -44,6 +44,7 @@ fn close_fallen(desk: &Desk, marks: &mut MarkBook)
 
 impl Office {
     /// Amends the register, where its rules allow that, and marks the determinations whose lists are other ones then.
+    #[tactic(auto, using(review_marks::proofs::Abouts::shown))]
     fn amend(&mut self, alloc: Global, entry: Entry, a: &Amendment) -> Result<(), Refusal>
         requires new { entry_of entry.change.caller entry.change.key self.old.entries ≡ None }
         ensures done { OnOk result ((register_rule self.old.register (steps.Amended a.now) ≡ None) × (self.new ≡ with_entry entry (stepped (steps.Amended a.now) self.old))) }

@@ -3,7 +3,7 @@
 ghost use Rattle.std.specs.Prelude.{◌≡◌, ◌<◌, ℕ, IfOk, option_map};
 ghost use Rattle.review_marks.specs.Books.{row_at, committed, HasRoom};
 ghost use Rattle.review_marks.specs.Shares.{AreHeld, change_of};
-ghost use Rattle.review_marks.specs.Turns.{turned};
+ghost use Rattle.review_marks.specs.Turns.{turned, Shows};
 
 use airport_register::Changed;
 use grid_exact::{NoMemory, Steps};
@@ -20,6 +20,7 @@ fn counted_change<L: Ledger>(
     blank: Blank,
 ) -> Result<MarkChange, NoMemory>
     requires held { AreHeld (change_of changed.now) }
+    requires shows { Shows sky.now (change_of changed.now) }
     requires name { blank.name ≡ L.name }
     requires parts { blank.parts ≡ L.parts }
     requires some { 0 < L.parts }
@@ -37,6 +38,7 @@ pub(crate) fn mark_change(
     changed: &Changed,
 ) -> Result<MarkChange, NoMemory>
     requires held { AreHeld (change_of changed.now) }
+    requires shows { Shows sky.now (change_of changed.now) }
     ensures same { marks.new ≡ marks.old }
     ensures room { IfOk result (λ c. HasRoom marks.old c) }
     ensures turned { IfOk result (λ c. (n : ℕ) → row_at (committed c marks.old) n ≡ option_map (turned sky.now (change_of changed.now)) (row_at marks.old n)) }

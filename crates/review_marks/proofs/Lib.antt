@@ -1,3 +1,4 @@
 pub mod Unconcerned
+pub mod Abouts
 pub mod Turning
 pub mod Reaching

@@ -1,16 +1,18 @@
 -- What one airfield gives to the list of findings of a structure, and which cases a change of it concerns.
-use Rattle.std.specs.Prelude.{◌≡◌, ℕ, ◌&&◌, ◌||◌, nat_eq, not, Bool, true, false, is_none, List, [], Option, Some, None, if◌then◌else◌}
+use Rattle.std.specs.Prelude.{◌≡◌, ℕ, ◌&&◌, ◌||◌, nat_eq, not, Bool, true, false, is_none, List, [], ◌∷◌, ◌++◌, Option, Some, None, if◌then◌else◌}
 use Rattle.std.specs.Option.{option_map, option_map_or}
 use Rattle.std.specs.Cmp.Lexicographic.{pointwise}
 use Rattle.std.specs.Arc.{arc_value}
+use Rattle.std.specs.List.{filter}
 use Rattle.airfields.specs.Airfields.{IsHeld, category_of}
 use Rattle.airfields.specs.Categories.{is_described}
 use Rattle.airfields.specs.Sites.{Site}
 use Rattle.airfields.specs.declared.airfield.Airfield.{Airfield}
 use Rattle.airport_register.specs.declared.amendment.Changed.{Changed}
 use Rattle.notice_slopes.specs.Exemptions.{exemption_of}
-use Rattle.airfield_findings.specs.Entries.{of_airfield, slope_entries}
+use Rattle.airfield_findings.specs.Entries.{field_key, of_airfield, slope_entries}
 use Rattle.airfield_findings.specs.declared.finding.Finding.{Finding}
+use Rattle.airfield_findings.specs.declared.finding.Rule.TheVariants as rules
 use Rattle.review_marks.specs.Books.{differs}
 use Rattle.review_marks.specs.declared.row.Row.{Row}
 use Rattle.review_marks.specs.declared.share.Share.{Share}
@@ -42,6 +44,26 @@ differ_bools a b = (a && not b) || (not a && b)
 
 abbrev pub differ_shares : Share → Share → Bool
 differ_shares a b = differs a.standards b.standards || differs a.slope b.slope || differ_bools a.is_on b.is_on
+
+-- ---- what it gives to the list, whole
+
+-- an entry is about the airfield of this name
+abbrev pub is_about : List ℕ → Finding → Bool
+is_about id f = option_map_or (pointwise nat_eq id) f.key.field false
+
+-- the entries of a list that are about it
+abbrev pub about : List ℕ → List Finding → List Finding
+about id list = filter (is_about id) list
+
+-- the entry of 77.9(d), construction on the airfield
+abbrev pub on_entries : List ℕ → Bool → List Finding
+on_entries id is_on = if is_on then record { rule = rules.NoticeD; key = field_key id 0; excess = 0 } ∷ [] else []
+
+-- its entries in the list of a structure: its standards, and where notice is due its notice slope and that of construction on it
+abbrev pub entries_by : List ℕ → Site → Share → List Finding
+entries_by id site share = share.standards ++ share.slope ++ on_entries id (is_due site && share.is_on)
+
+-- ---- changes
 
 -- the airfield of a name before a change and after it, where there is one
 pub record AirfieldChange : Type 0 where

@@ -23,6 +23,11 @@ pub record Leads (before after : List Airfield) (c : AirfieldChange) : Type 0 wh
   pub is_there : c.is_now ≡ airfield_at after c.id
   pub put : after ≡ replaced c.id c.is_now before
 
+-- the airfields, which rise by their names, are those after a change of one of them
+pub record Shows (airfields : List Airfield) (c : AirfieldChange) : Type 0 where
+  pub rises : Rises name_cmp id_of airfields
+  pub is_there : c.is_now ≡ airfield_at airfields c.id
+
 -- how many cases of the book it concerns
 abbrev pub concerned_count : AirfieldChange → List (Option Row) → ℕ
 concerned_count c [] = 0

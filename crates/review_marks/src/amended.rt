@@ -2,15 +2,17 @@
 
 ghost use Rattle.std.specs.Prelude.{◌≡◌, ◌<◌, ◌≤◌, ◌+◌, ◌++◌, ◌∷◌, [], ℕ, List, Some, IfOk, IfSome, OnOk, option_map, cond, false, length};
 ghost use Rattle.airfields.specs.declared.airfield.Airfield.{Airfield as AnAirfield};
-ghost use Rattle.review_marks.specs.Books.{row_at, committed, HasRoom, IsExact};
-ghost use Rattle.review_marks.specs.Shares.{AreHeld, change_of, concerns, concerns_row};
-ghost use Rattle.review_marks.specs.Turns.{by_mark, turned, concerned_count, ClimbsTo, HasReached, IsTurnedTo, Leads};
+ghost use Rattle.oe_findings.specs.List.{findings_of};
+ghost use Rattle.review_marks.specs.Books.{differs, row_at, committed, HasRoom, IsExact};
+ghost use Rattle.review_marks.specs.Shares.{AreHeld, change_of, concerns, concerns_row, share_of};
+ghost use Rattle.review_marks.specs.Turns.{by_mark, turned, concerned_count, ClimbsTo, HasReached, IsTurnedTo, Leads, Shows};
 ghost use Rattle.review_marks.specs.declared.row.Row.{Row as ARow};
 
 use crate::book::MarkBook;
 use crate::change::{Mark, MarkChange};
 use crate::listing::{differ, findings};
-use crate::share::FieldChange;
+use crate::row::Row;
+use crate::share::{FieldChange, Share};
 use airport_register::Changed;
 use grid_exact::{NoMemory, Steps};
 use oe_findings::Sky;
@@ -58,6 +60,30 @@ impl MarkBook {
         Ok(numbers)
     }
 
+    /// Whether a case whose list the change concerns is marked after it. Its list is worked out only where what the stored list has about the
+    /// airfield does not tell already that the lists differ.
+    #[tactic(auto, using(crate::proofs::Abouts::marked_at_once))]
+    fn is_marked_now<L: Ledger>(
+        &self,
+        row: &Row,
+        share: Share,
+        sky: &Sky,
+        change: &FieldChange,
+        steps: &mut Steps<L>,
+    ) -> Result<bool, NoMemory>
+        requires share { share ≡ share_of change.now.id change.now.is_now row.now.filing }
+        requires shows { Shows sky.now change.now }
+        ensures mark { IfOk result (λ b. b ≡ differs row.now.stored (findings_of sky.now row.now.filing)) }
+        ensures steps { steps.new ≤ steps.old + 1 }
+    {
+        if change.contradicts(self.alloc, &row.filing, share, &row.stored)? {
+            return Ok(true);
+        }
+        steps.tick();
+        let list = findings(self.alloc, sky, &row.filing)?;
+        Ok(differ(&row.stored, &list))
+    }
+
     /// The mark of a case after the change, where that is another one.
     fn rechecked<L: Ledger>(
         &self,
@@ -66,6 +92,7 @@ impl MarkBook {
         change: &FieldChange,
         steps: &mut Steps<L>,
     ) -> Result<Option<Mark>, NoMemory>
+        requires { Shows sky.now change.now }
         ensures case { IfOk result (λ o. IfSome o (λ m. m.case ≡ number)) }
         ensures mark { IfOk result (λ o. (r : ARow) → row_at self.now number ≡ Some r → by_mark o r ≡ turned sky.now change.now r) }
         ensures steps { steps.new ≤ steps.old + cond (concerns_row change.now (row_at self.now number)) 1 0 }
@@ -73,12 +100,10 @@ impl MarkBook {
         let Some(row) = self.row(number) else {
             return Ok(None);
         };
-        if !change.concerns(self.alloc, &row.filing)? {
+        let Some(share) = change.new_share(self.alloc, &row.filing)? else {
             return Ok(None);
-        }
-        steps.tick();
-        let list = findings(self.alloc, sky, &row.filing)?;
-        let marked = differ(&row.stored, &list);
+        };
+        let marked = self.is_marked_now(row, share, sky, change, steps)?;
         if marked == row.marked {
             return Ok(None);
         }
@@ -97,6 +122,7 @@ impl MarkBook {
         marks: &mut Vec<Mark>,
         steps: &mut Steps<L>,
     ) -> Result<(), NoMemory>
+        requires { Shows sky.now change.now }
         ensures turned { OnOk result ((ks : List ℕ) → IsTurnedTo sky.now change.now self.now marks.old.items ks → IsTurnedTo sky.now change.now self.now marks.new.items (ks ++ number ∷ [])) }
         ensures steps { steps.new ≤ steps.old + cond (concerns_row change.now (row_at self.now number)) 1 0 }
     {
@@ -113,8 +139,9 @@ impl MarkBook {
     /// case's list over the airfields of `sky` differs from its stored list, where it said so over those before the change. The book stays
     /// as it is.
     ///
-    /// A case is looked at again only where the airfield, as it was or as it is now, gives other entries to the case's list than before; a
-    /// step is one such list. So its point lies under a surface or slope of one of the two, or its structure is on the airfield.
+    /// A case is looked at again only where the airfield, as it was or as it is now, gives other entries to the case's list than before. So its
+    /// point lies under a surface or slope of one of the two, or its structure is on the airfield. Where the stored list has other entries about
+    /// the airfield than it gives now, the case is marked; else its list is worked out, and a step is one such list.
     ///
     /// # Errors
     ///
@@ -126,6 +153,7 @@ impl MarkBook {
         steps: &mut Steps<L>,
     ) -> Result<MarkChange, NoMemory>
         requires held { AreHeld (change_of changed.now) }
+        requires shows { Shows sky.now (change_of changed.now) }
         ensures same { self.new ≡ self.old }
         ensures room { IfOk result (λ c. HasRoom self.old c) }
         ensures turned { IfOk result (λ c. (n : ℕ) → row_at (committed c self.old) n ≡ option_map (turned sky.now (change_of changed.now)) (row_at self.old n)) }

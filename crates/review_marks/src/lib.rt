@@ -4,6 +4,7 @@
 //! would now be another one, in an entry, in its excess or in its order.
 #![tactic(auto)]
 
+mod about;
 mod added;
 mod amended;
 mod book;

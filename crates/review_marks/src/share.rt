@@ -1,17 +1,19 @@
 //! What one airfield gives to the list of findings of a structure.
 
-ghost use Rattle.std.specs.Prelude.{◌≡◌, Some, IfOk, option_map, false};
+ghost use Rattle.std.specs.Prelude.{◌≡◌, Some, None, IfOk, IfSome, option_map, is_some, false};
 ghost use Rattle.std.specs.Arc.{arc_value};
 ghost use Rattle.airfields.specs.declared.airfield.Airfield.{Airfield as AnAirfield};
 ghost use Rattle.airfields.specs.Airfields.{IsHeld, category_of};
 ghost use Rattle.airfields.specs.Categories.{is_described};
 ghost use Rattle.airfield_findings.specs.Prepared.{airfield_of};
-ghost use Rattle.airfield_findings.specs.Entries.{of_airfield, slope_entries};
-ghost use Rattle.review_marks.specs.Shares.{given, names, is_described_field, is_due as is_due_of, share_of, differ_shares, AirfieldChange, AreHeld, change_of, concerns};
+ghost use Rattle.airfield_findings.specs.Entries.{field_key, of_airfield, slope_entries};
+ghost use Rattle.review_marks.specs.Books.{differs};
+ghost use Rattle.review_marks.specs.Shares.{about, entries_by, given, names, is_described_field, is_due as is_due_of, share_of, differ_shares, AirfieldChange, AreHeld, change_of, concerns};
 ghost use Rattle.std.specs.Prelude.{if◌then◌else◌, []};
 
+use crate::about::entries_about;
 use crate::listing::differ;
-use airfield_findings::{Findings, Prepared, put_airfield, put_slope};
+use airfield_findings::{Finding, Findings, Prepared, Rule, SurfaceKey, put_airfield, put_slope};
 use airfields::{Airfield, FieldId, Filing};
 use airport_register::Changed;
 use grid_exact::NoMemory;
@@ -170,6 +172,33 @@ impl Share {
             || (self.is_on && !other.is_on)
             || (!self.is_on && other.is_on)
     }
+
+    /// The entries of the airfield of this name in the list of the structure.
+    fn entries(self, id: &FieldId, filing: &Filing) -> Result<Findings, NoMemory>
+        ensures { IfOk result (λ l. l ≡ entries_by id.now filing.now self) }
+    {
+        let is_told = exempt(filing).is_none() && self.is_on;
+        let mut list = self.standards.followed_by(self.slope)?;
+        if is_told {
+            list.push(construction(id))?;
+        }
+        Ok(list)
+    }
+}
+
+/// The entry of 77.9(d), construction on the airfield of this name.
+fn construction(id: &FieldId) -> Finding
+    ensures { result ≡ record { rule = Rule.NoticeD; key = field_key id.now 0; excess = 0 } }
+{
+    Finding {
+        rule: Rule::NoticeD,
+        key: SurfaceKey {
+            field: Some(*id),
+            runway: None,
+            part: 0,
+        },
+        excess: 0,
+    }
 }
 
 /// An airfield before and after a change, with their surfaces.
@@ -216,12 +245,31 @@ impl FieldChange {
         self.before.reaches(filing) || self.after.reaches(filing) || is_on(&self.id, filing)
     }
 
-    /// Whether the airfield gives other entries to the list of a structure than before.
-    pub(crate) fn concerns(&self, alloc: Global, filing: &Filing) -> Result<bool, NoMemory>
-        ensures { IfOk result (λ b. b ≡ concerns self.now filing.now) }
+    /// What the airfield gives to the list of a structure now, where that is something else than before.
+    pub(crate) fn new_share(&self, alloc: Global, filing: &Filing) -> Result<Option<Share>, NoMemory>
+        ensures concerned { IfOk result (λ o. is_some o ≡ concerns self.now filing.now) }
+        ensures share { IfOk result (λ o. IfSome o (λ s. s ≡ share_of self.now.id self.now.is_now filing.now)) }
     {
         let before = self.before.share(alloc, &self.id, filing)?;
         let after = self.after.share(alloc, &self.id, filing)?;
-        Ok(before.differs(&after))
+        if before.differs(&after) {
+            return Ok(Some(after));
+        }
+        Ok(None)
+    }
+
+    /// Whether a stored list has other entries about the airfield than it gives now.
+    pub(crate) fn contradicts(
+        &self,
+        alloc: Global,
+        filing: &Filing,
+        share: Share,
+        stored: &Findings,
+    ) -> Result<bool, NoMemory>
+        ensures { IfOk result (λ b. b ≡ differs (about self.now.id stored.now) (entries_by self.now.id filing.now share)) }
+    {
+        let told = entries_about(alloc, &self.id, stored)?;
+        let given = share.entries(&self.id, filing)?;
+        Ok(differ(&told, &given))
     }
 }
