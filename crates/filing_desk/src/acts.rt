@@ -86,7 +86,11 @@ impl Desk {
         let Some(case) = self.case(number) else {
             return Err(Refusal::UnknownCase);
         };
-        let Ok(list) = findings(alloc, &self.sky, &case.submission.filing) else {
+        let Ok(found) = findings(alloc, &self.sky, &case.submission.filing) else {
+            return Err(Refusal::NoMemory);
+        };
+        // a copy has room for its findings and no more, and it is kept for good
+        let Ok(list) = found.copy(alloc) else {
             return Err(Refusal::NoMemory);
         };
         let kept = KeptList {
