@@ -1,5 +1,5 @@
 -- The entries of a list of findings that are about one airfield are those that this airfield gives to it.
-use Rattle.std.proofs.Common.{◌≡◌, ◌≢◌, ℕ, ℤ,  Bool, true, false, ◌&&◌, not, List, [], ◌∷◌, ◌++◌, Option, Some, None, refl, sym, ap, ◌∙◌, get_or, is_none, if◌then◌else◌, nat_eq, cond, append-nil, append_assoc, subst}
+use Rattle.std.proofs.Common.{◌≡◌, ◌≢◌, ℕ, ℤ, Bool, true, false, ◌&&◌, not, List, [], ◌∷◌, ◌++◌, Option, Some, None, refl, sym, ap, ◌∙◌, get_or, is_none, if◌then◌else◌, nat_eq, cond, append-nil, append_assoc, subst}
 use Rattle.std.proofs.lemmas.Bool.{and_parts}
 use Rattle.std.proofs.lemmas.Cmp.{nat_list_cmp_total}
 use Rattle.std.proofs.lemmas.List.Folds.{list_all-append}
@@ -124,30 +124,30 @@ none_of k id h (x ∷ xs) a =
 about_runway : (id : List ℕ) (at : Point) (top : ℤ) (cap : Cap) (r : Runway) → AreAbout id (of_runway id at top cap r)
 about_runway id at top cap r =
     about_both id _ _ (about_both id _ _ (about_both id _ _ (about_both id _ _ (about_both id _ _
-        (about_entry id rules.Primary (runway_key id r.name 0) (primary_excess r at top) refl)
-        (about_entry id rules.Approach (runway_key id r.name 1) (approach_excess r ends.One at top) refl))
-        (about_entry id rules.Approach (runway_key id r.name 2) (approach_excess r ends.Two at top) refl))
-        (about_entry id rules.Transition (runway_key id r.name 0) (primary_transition_excess r at cap top) refl))
-        (about_entry id rules.Transition (runway_key id r.name 1) (approach_transition_excess r ends.One at cap top) refl))
-        (about_entry id rules.Transition (runway_key id r.name 2) (approach_transition_excess r ends.Two at cap top) refl)
+    (about_entry id rules.Primary (runway_key id r.name 0) (primary_excess r at top) refl)
+    (about_entry id rules.Approach (runway_key id r.name 1) (approach_excess r ends.One at top) refl))
+    (about_entry id rules.Approach (runway_key id r.name 2) (approach_excess r ends.Two at top) refl))
+    (about_entry id rules.Transition (runway_key id r.name 0) (primary_transition_excess r at cap top) refl))
+    (about_entry id rules.Transition (runway_key id r.name 1) (approach_transition_excess r ends.One at cap top) refl))
+    (about_entry id rules.Transition (runway_key id r.name 2) (approach_transition_excess r ends.Two at cap top) refl)
 
 about_surfaces : (at : Point) (top : ℤ) (a : Airport) → AreAbout a.id (of_surfaces at top a)
 about_surfaces at top a =
     about_both a.id _ _ (about_both a.id _ _
-        (about_entry a.id rules.Horizontal (field_key a.id 0) (horizontal_excess (dome_of a) at top) refl)
-        (about_entry a.id rules.Conical (field_key a.id 0) (conical_excess (dome_of a) at top) refl))
-        (about_if a.id (has_civil_surfaces a.category) (flat_map (of_runway a.id at top (cap_of (dome_of a) at)) a.runways)
-            (about_each a.id (of_runway a.id at top (cap_of (dome_of a) at)) a.runways (about_runway a.id at top (cap_of (dome_of a) at))))
+    (about_entry a.id rules.Horizontal (field_key a.id 0) (horizontal_excess (dome_of a) at top) refl)
+    (about_entry a.id rules.Conical (field_key a.id 0) (conical_excess (dome_of a) at top) refl))
+    (about_if a.id (has_civil_surfaces a.category) (flat_map (of_runway a.id at top (cap_of (dome_of a) at)) a.runways)
+    (about_each a.id (of_runway a.id at top (cap_of (dome_of a) at)) a.runways (about_runway a.id at top (cap_of (dome_of a) at))))
 
 about_pad : (at : Point) (top : ℤ) (h : Heliport) → AreAbout h.id (of_pad at top h)
 about_pad at top h =
     about_both h.id _ _ (about_both h.id _ _ (about_both h.id _ _ (about_both h.id _ _ (about_both h.id _ _
-        (about_entry h.id rules.PadPrimary (field_key h.id 0) (pad_primary_excess h at top) refl)
-        (about_entry h.id rules.PadApproach (field_key h.id 1) (pad_approach_excess h pad_ends.One at top) refl))
-        (about_entry h.id rules.PadApproach (field_key h.id 2) (pad_approach_excess h pad_ends.Two at top) refl))
-        (about_entry h.id rules.PadTransition (field_key h.id 0) (pad_transition_excess h sides.Primary at top) refl))
-        (about_entry h.id rules.PadTransition (field_key h.id 1) (pad_transition_excess h sides.ApproachOne at top) refl))
-        (about_entry h.id rules.PadTransition (field_key h.id 2) (pad_transition_excess h sides.ApproachTwo at top) refl)
+    (about_entry h.id rules.PadPrimary (field_key h.id 0) (pad_primary_excess h at top) refl)
+    (about_entry h.id rules.PadApproach (field_key h.id 1) (pad_approach_excess h pad_ends.One at top) refl))
+    (about_entry h.id rules.PadApproach (field_key h.id 2) (pad_approach_excess h pad_ends.Two at top) refl))
+    (about_entry h.id rules.PadTransition (field_key h.id 0) (pad_transition_excess h sides.Primary at top) refl))
+    (about_entry h.id rules.PadTransition (field_key h.id 1) (pad_transition_excess h sides.ApproachOne at top) refl))
+    (about_entry h.id rules.PadTransition (field_key h.id 2) (pad_transition_excess h sides.ApproachTwo at top) refl)
 
 about_standards : (site : Site) (a : Airfield) → AreAbout (id_of a) (of_airfield site a)
 about_standards site (AnAirport a) = about_both a.id _ _ (about_entry a.id rules.Near (field_key a.id 0) (near_excess a site) refl) (about_surfaces site.at (standards_top site) a)

@@ -246,7 +246,11 @@ impl FieldChange {
     }
 
     /// What the airfield gives to the list of a structure now, where that is something else than before.
-    pub(crate) fn new_share(&self, alloc: Global, filing: &Filing) -> Result<Option<Share>, NoMemory>
+    pub(crate) fn new_share(
+        &self,
+        alloc: Global,
+        filing: &Filing,
+    ) -> Result<Option<Share>, NoMemory>
         ensures concerned { IfOk result (λ o. is_some o ≡ concerns self.now filing.now) }
         ensures share { IfOk result (λ o. IfSome o (λ s. s ≡ share_of self.now.id self.now.is_now filing.now)) }
     {
