@@ -56,7 +56,7 @@ rises (e ∷ es) h = (below (key_of e) es (left_of _ _ h), rises es (right_of _ 
 -- the map's put is the list's
 put_step : (x y : Entry) (ys : List Entry) (o : Ordering) → key_cmp (key_of x) (key_of y) ≡ o → map pair_of (put_by key_cmp key_of x ys) ≡ put key_cmp (key_of x) (pair_of x).1 (map pair_of ys)
     → map pair_of (listed.by_order o (x ∷ y ∷ ys) (x ∷ ys) (y ∷ put_by key_cmp key_of x ys))
-      ≡ by_order o (pair_of x ∷ pair_of y ∷ map pair_of ys) ((key_of y, (pair_of x).1) ∷ map pair_of ys) (pair_of y ∷ put key_cmp (key_of x) (pair_of x).1 (map pair_of ys))
+    ≡ by_order o (pair_of x ∷ pair_of y ∷ map pair_of ys) ((key_of y, (pair_of x).1) ∷ map pair_of ys) (pair_of y ∷ put key_cmp (key_of x) (pair_of x).1 (map pair_of ys))
 put_step x y ys Less e r = refl
 put_step x y ys Equal e r = ap (λ k. (k, (pair_of x).1) ∷ map pair_of ys) (key_cmp-same (key_of x) (key_of y) e)
 put_step x y ys Greater e r = ap (λ l. pair_of y ∷ l) r
@@ -70,7 +70,7 @@ other k x = not (eq_by_cmp key_cmp k x)
 
 removed_step : (k : Key) (y : Entry) (ys : List Entry) (o : Ordering) → map pair_of (removed_by key_cmp key_of k ys) ≡ where_key key_cmp (other k) (map pair_of ys)
     → map pair_of (cond (is_eq o) (removed_by key_cmp key_of k ys) (y ∷ removed_by key_cmp key_of k ys))
-      ≡ cond (not (is_eq o)) (pair_of y ∷ where_key key_cmp (other k) (map pair_of ys)) (where_key key_cmp (other k) (map pair_of ys))
+    ≡ cond (not (is_eq o)) (pair_of y ∷ where_key key_cmp (other k) (map pair_of ys)) (where_key key_cmp (other k) (map pair_of ys))
 removed_step k y ys Less r = ap (λ l. pair_of y ∷ l) r
 removed_step k y ys Equal r = r
 removed_step k y ys Greater r = ap (λ l. pair_of y ∷ l) r
@@ -98,23 +98,26 @@ pub removed_becomes : (old new : List Entry) (k : Key) → IsRising old → new 
 removed_becomes old new k r e =
     let pairs : map pair_of new ≡ where_key key_cmp (other k) (map pair_of old) = ap (map pair_of) e ∙ removed_pairs k old in
     let up : IsRising new = subst (λ l. T (is_sorted key_cmp l)) (sym pairs) (is_sorted-where_key key_cmp (other k) (map pair_of old) r) in
-    record { rising = up; seen_as = same_map key_cmp_total key_cmp-same _ _ (λ q. get-from_sorted key_cmp (map pair_of new) q up ∙ ap (find key_cmp q) pairs
-    ∙ find-where_key key_cmp (other k) q (λ x t. ap (λ o. not (is_eq o)) (sym (alike_right key_cmp_total q x k t))) (map pair_of old)
-    ∙ turned (eq_by_cmp key_cmp k q) _ _ ∙ ap (λ b. cond b None (find key_cmp q (map pair_of old))) ((eq_by_cmp_equiv key_cmp_total).symm k q)
-    ∙ ap (cond (eq_by_cmp key_cmp q k) None) (sym (get-from_sorted key_cmp (map pair_of old) q r)) ∙ sym (get-remove key_cmp_total _ k q)) }
+    record {
+      rising = up;
+      seen_as = same_map key_cmp_total key_cmp-same _ _ (λ q. get-from_sorted key_cmp (map pair_of new) q up ∙ ap (find key_cmp q) pairs
+          ∙ find-where_key key_cmp (other k) q (λ x t. ap (λ o. not (is_eq o)) (sym (alike_right key_cmp_total q x k t))) (map pair_of old)
+          ∙ turned (eq_by_cmp key_cmp k q) _ _ ∙ ap (λ b. cond b None (find key_cmp q (map pair_of old))) ((eq_by_cmp_equiv key_cmp_total).symm k q)
+          ∙ ap (cond (eq_by_cmp key_cmp q k) None) (sym (get-from_sorted key_cmp (map pair_of old) q r)) ∙ sym (get-remove key_cmp_total _ k q));
+    }
 
 -- what is done at the place that a search answers
 pub set_becomes : (x : Entry) (xs zs new : List Entry) (i : ℕ) (k : Key) (v : List ℕ) → IsRising xs → zs ≡ xs → pair_of x ≡ (k, v) → i < length zs → IsBinarySearchResult (λ e. key_cmp (key_of e) k) zs (Ok i)
     → new ≡ set xs i x → Becomes new (maps.insert (seen xs) k v)
 set_becomes x xs zs new i k v r z p l h e =
     put_becomes x xs new k v r p (e ∙ search_set key_cmp key_cmp_total key_of x xs i (rises xs r) (subst (λ l. i < length l) z l)
-      (subst (λ q. IsBinarySearchResult (λ e. key_cmp (key_of e) q) xs (Ok i)) (sym (ap (λ (q : Key × List ℕ). q.0) p)) (subst (λ l. IsBinarySearchResult (λ e. key_cmp (key_of e) k) l (Ok i)) z h)))
+    (subst (λ q. IsBinarySearchResult (λ e. key_cmp (key_of e) q) xs (Ok i)) (sym (ap (λ (q : Key × List ℕ). q.0) p)) (subst (λ l. IsBinarySearchResult (λ e. key_cmp (key_of e) k) l (Ok i)) z h)))
 
 pub insert_becomes : (x : Entry) (xs zs new : List Entry) (i : ℕ) (k : Key) (v : List ℕ) → IsRising xs → zs ≡ xs → pair_of x ≡ (k, v) → i ≤ length zs → IsBinarySearchResult (λ e. key_cmp (key_of e) k) zs (Err i)
     → new ≡ insert xs i x → Becomes new (maps.insert (seen xs) k v)
 insert_becomes x xs zs new i k v r z p l h e =
     put_becomes x xs new k v r p (e ∙ search_insert key_cmp key_cmp_total key_of x xs i (rises xs r) (subst (λ l. i ≤ length l) z l)
-      (subst (λ q. IsBinarySearchResult (λ e. key_cmp (key_of e) q) xs (Err i)) (sym (ap (λ (q : Key × List ℕ). q.0) p)) (subst (λ l. IsBinarySearchResult (λ e. key_cmp (key_of e) k) l (Err i)) z h)))
+    (subst (λ q. IsBinarySearchResult (λ e. key_cmp (key_of e) q) xs (Err i)) (sym (ap (λ (q : Key × List ℕ). q.0) p)) (subst (λ l. IsBinarySearchResult (λ e. key_cmp (key_of e) k) l (Err i)) z h)))
 
 pub remove_becomes : (xs zs new : List Entry) (i : ℕ) (d : Entry) (k : Key) → IsRising xs → zs ≡ xs → i < length zs → IsBinarySearchResult (λ e. key_cmp (key_of e) k) zs (Ok i)
     → new ≡ remove xs i → Becomes new (maps.remove (seen xs) k)
@@ -133,10 +136,11 @@ zero_less Greater h = absurd (omega arith)
 
 pub above_all : (xs : List Entry) (o : Option (Bor Entry)) (last : Bor Entry) (k : Key) → option_copied o ≡ slice_get xs (length xs - 1) → o ≡ Some last → key_cmp (key_of last.now) k ≡ Less
     → IsBinarySearchResult (λ e. key_cmp (key_of e) k) xs (Err (length xs))
-above_all xs o last k at is h up =
-    (λ j d a b. zero_less _ (let there : get_or xs (length xs - 1) d ≡ last.now = slice_get-get_or xs (length xs - 1) d last.now (sym at ∙ ap option_copied is) in
-        subst (λ o. ordering_index (key_cmp (key_of (get_or xs j d)) k) ≤ ordering_index o) (ap (λ e. key_cmp (key_of e) k) there ∙ h) (up j (length xs - 1) d (omega arith) (omega arith))),
-     λ j d a b. absurd (omega arith))
+above_all xs o last k at is h up = (
+  λ j d a b. zero_less _ (let there : get_or xs (length xs - 1) d ≡ last.now = slice_get-get_or xs (length xs - 1) d last.now (sym at ∙ ap option_copied is) in
+      subst (λ o. ordering_index (key_cmp (key_of (get_or xs j d)) k) ≤ ordering_index o) (ap (λ e. key_cmp (key_of e) k) there ∙ h) (up j (length xs - 1) d (omega arith) (omega arith))),
+  λ j d a b. absurd (omega arith),
+)
   where
     slice_get-get_or : (ys : List Entry) (i : ℕ) (d y : Entry) → slice_get ys i ≡ Some y → get_or ys i d ≡ y
     slice_get-get_or [] i d y e = absurd cc
