@@ -45,6 +45,7 @@ fn load_shaped<S: Alter>(alloc: Global, conn: &mut Connection<S>) -> Result<(Tab
 }
 
 /// What a first load gives.
+#[derive(Drop)]
 pub struct Opened<S: Alter> {
     /// The store.
     pub conn: Connection<S>,

@@ -2,6 +2,7 @@
 
 use grid_exact::NoMemory;
 use sqlite::{Error, ErrorCode};
+use std::alloc::AllocError;
 
 /// Why a call over a store stops.
 #[derive(Clone, Copy, Debug, PartialEq, Eq)]
@@ -23,6 +24,12 @@ impl From<Error> for Stop {
         } else {
             Stop::Refused(error)
         }
+    }
+}
+
+impl From<AllocError> for Stop {
+    fn from(_: AllocError) -> Stop {
+        Stop::NoMemory
     }
 }
 
