@@ -1,4 +1,3 @@
-use Rattle.std.proofs.Common.{sym, ap, ◌∙◌, slice_get, Option, Some, None}
 use Rattle.oe_keeper.proofs.InOrder.{nth_some, nth_none}
 use Rattle.oe_keeper.proofs.tables.Tables.nth.Goals as goal
 

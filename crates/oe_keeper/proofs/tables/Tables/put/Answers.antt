@@ -1,7 +1,7 @@
-use Rattle.std.proofs.Common.{refl, ap, ◌∙◌, T, map}
+use Rattle.std.proofs.Common.{refl, ap, ◌∙◌}
 use Rattle.std.specs.FinMap as maps
 use Rattle.oe_keeper.specs.Kept.{place}
-use Rattle.oe_keeper.proofs.InOrder.{Becomes, set_becomes, insert_becomes}
+use Rattle.oe_keeper.proofs.InOrder.{set_becomes, insert_becomes}
 use Rattle.oe_keeper.proofs.tables.Tables.put.Goals as goal
 
 pub invariant_of-self : goal.invariant_of-self

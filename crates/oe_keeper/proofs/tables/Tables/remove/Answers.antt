@@ -1,7 +1,7 @@
 use Rattle.std.proofs.Common.{sym, ap, ◌∙◌}
 use Rattle.std.specs.FinMap as maps
 use Rattle.oe_keeper.specs.Kept.{place}
-use Rattle.oe_keeper.proofs.InOrder.{Becomes, remove_becomes, kept_becomes}
+use Rattle.oe_keeper.proofs.InOrder.{remove_becomes, kept_becomes}
 use Rattle.oe_keeper.proofs.tables.Tables.remove.Goals as goal
 
 pub invariant_of-self : goal.invariant_of-self
