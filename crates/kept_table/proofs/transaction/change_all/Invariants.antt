@@ -1,0 +1,14 @@
+use Rattle.std.proofs.Common.{◌≡◌, ◌≤◌, IsTrue, take}
+use Rattle.sqlite.specs.Held.{state}
+use Rattle.sqlite.specs.State.{HasCleanDisk, KeepsCommit}
+use Rattle.sqlite_trees.specs.View.{doubt}
+use Rattle.kept_table.specs.Model.{Holds}
+use Rattle.oe_keeper.specs.Kept.{Kept, all_changed}
+use Rattle.kept_table.proofs.transaction.change_all.Given as goal
+
+abbrev pub invariant-changes : goal.invariant-changes
+invariant-changes g l =
+    let old = state g.S.Store l.fn.tx.conn.now in
+    let now = state g.S.Store l.tx.conn.now in
+    (l.tx.conn.ghost_name ≡ l.fn.tx.conn.ghost_name) × (doubt old.is_clean ≤ doubt now.is_clean)
+    × (HasCleanDisk now → IsTrue old.in_transaction → IsTrue now.in_transaction × KeepsCommit old now × ((tables : Kept) → Holds old tables → Holds now (all_changed tables (take l.it-index l.changes))))

@@ -1,0 +1,90 @@
+//! The first load of a store that was just opened.
+
+ghost use Rattle.std.specs.Prelude.{◌≡◌, IsTrue, IfOk, IfSome};
+ghost use Rattle.sqlite.specs.Held.{state};
+ghost use Rattle.sqlite.specs.State.{HasCleanDisk};
+ghost use Rattle.sqlite_trees.specs.View.{IsShaped};
+ghost use Rattle.sqlite_trees.specs.declared.store.Shape.TheVariants.{Table};
+ghost use Rattle.kept_table.specs.Model.{Holds};
+ghost use Rattle.kept_table.specs.Shape.{kept_schema, no_schema};
+
+use crate::schema::has_shape;
+use crate::stop::Stop;
+use crate::store::{create, is_blank, load_blank, load_rows};
+use oe_keeper::Tables;
+use sqlite::{Alter, Connection};
+use sqlite_trees::store::Store;
+use std::alloc::Global;
+
+/// The same store opened once more, which shows that its rowids rise.
+fn opened_again<S: Alter + Drop>(alloc: Global, conn: Connection<S>) -> Option<Connection<S>>
+    ensures { IfSome result (λ c. HasCleanDisk (state S.Store c) → (state S.Store c).now.schema ≡ kept_schema → IsShaped Table ((state S.Store c).now.trees 0)) }
+{
+    let mut store = conn.into_store();
+    store.rollback();
+    if store.is_broken() {
+        return None;
+    }
+    match Connection::over(alloc, store) {
+        Ok(conn) => Some(conn),
+        Err(_) => None,
+    }
+}
+
+/// The rows of the table, and whether the store is that one table.
+fn load_shaped<S: Alter>(alloc: Global, conn: &mut Connection<S>) -> Result<(Tables, bool), Stop>
+    requires { HasCleanDisk (state S.Store conn.old) → (state S.Store conn.old).now.schema ≡ kept_schema → IsShaped Table ((state S.Store conn.old).now.trees 0) }
+    ensures told { HasCleanDisk (state S.Store conn.new) → IsTrue (state S.Store conn.new).is_open → IfOk result (λ r. IsTrue r.1 → Holds (state S.Store conn.new) r.0) }
+{
+    if !conn.is_autocommit() {
+        return Err(Stop::NotReady);
+    }
+    let is_told = has_shape(conn.schema());
+    let tables = load_rows(alloc, conn)?;
+    Ok((tables, is_told))
+}
+
+/// What a first load gives.
+#[derive(Drop)]
+pub struct Opened<S: Alter> {
+    /// The store.
+    pub conn: Connection<S>,
+    /// Its rows.
+    pub tables: Tables,
+    /// Whether the store is the one table and no more, as this crate makes it: from then on it tells its rows.
+    pub is_told: bool,
+}
+
+/// The rows of a store that was just opened, with its table made where it is not there. A store that was not empty is read and checked once more.
+///
+/// # Errors
+///
+/// `Refused` where the store refuses, `BadRow` where a row cannot stand in the table, `NotReady` within a transaction or where the store is broken,
+/// `NoMemory` where memory was refused. The store is closed then.
+pub fn load_opened<S: Alter + Drop>(
+    alloc: Global,
+    conn: Connection<S>,
+) -> Result<Opened<S>, Stop>
+    ensures told { IfOk result (λ r. HasCleanDisk (state S.Store r.conn) → IsTrue (state S.Store r.conn).is_open → IsTrue r.is_told → Holds (state S.Store r.conn) r.tables) }
+    ensures blank { (state S.Store conn).now.schema ≡ no_schema → IfOk result (λ r. IsTrue r.is_told) }
+{
+    let mut conn = conn;
+    if is_blank(conn.schema()) {
+        let tables = load_blank(alloc, &mut conn)?;
+        return Ok(Opened {
+            conn,
+            tables,
+            is_told: true,
+        });
+    }
+    create(&mut conn)?;
+    let Some(mut conn) = opened_again(alloc, conn) else {
+        return Err(Stop::NotReady);
+    };
+    let (tables, is_told) = load_shaped(alloc, &mut conn)?;
+    Ok(Opened {
+        conn,
+        tables,
+        is_told,
+    })
+}

@@ -1,0 +1,49 @@
+//! What is done over a store that holds the table, in terms of the rows that the store tells.
+
+ghost use Rattle.std.specs.Prelude.{◌≡◌, IfOk, OnOk, OnErr};
+ghost use Rattle.sqlite.specs.Held.{state};
+ghost use Rattle.oe_keeper.specs.Kept.{Kept, all_changed};
+ghost use Rattle.kept_table.specs.Model.{TellsIn, IsHeld, StaysIn, StaysSilentIn};
+
+use crate::stop::Stop;
+use crate::store::load_rows;
+use crate::transaction::apply;
+use oe_keeper::{RowChange, Tables};
+use sqlite::{Alter, Connection};
+use std::alloc::Global;
+
+/// The rows of the table, read whole.
+///
+/// # Errors
+///
+/// `Refused` where the store refuses, `BadRow` where a row cannot stand in the table, `NotReady` within a transaction, `NoMemory` where memory was
+/// refused. The rows stay as they were.
+pub fn load_again<S: Alter>(alloc: Global, conn: &mut Connection<S>) -> Result<Tables, Stop>
+    ensures held { IsHeld (state S.Store conn.old) → IsHeld (state S.Store conn.new) }
+    ensures rows { IsHeld (state S.Store conn.old) → IfOk result (λ rows. (now : Kept) → TellsIn (state S.Store conn.new) now → now ≡ rows) }
+    ensures stays { StaysIn (state S.Store conn.old) (state S.Store conn.new) }
+    ensures silent { IsHeld (state S.Store conn.old) → StaysSilentIn (state S.Store conn.old) (state S.Store conn.new) }
+{
+    if !conn.is_autocommit() {
+        return Err(Stop::NotReady);
+    }
+    load_rows(alloc, conn)
+}
+
+/// Makes all the changes, in order, or none of them: one transaction.
+///
+/// # Errors
+///
+/// `Refused` where the store refuses, `NotReady` within a transaction, `NoMemory` where memory was refused. The rows stay as they were.
+pub fn change_told<S: Alter>(conn: &mut Connection<S>, changes: &[RowChange]) -> Result<(), Stop>
+    ensures held { IsHeld (state S.Store conn.old) → IsHeld (state S.Store conn.new) }
+    ensures all { OnOk result ((before now : Kept) → TellsIn (state S.Store conn.old) before → TellsIn (state S.Store conn.new) now → now ≡ all_changed before changes.now) }
+    ensures none { OnErr result (StaysIn (state S.Store conn.old) (state S.Store conn.new)) }
+    ensures silent { IsHeld (state S.Store conn.old) → StaysSilentIn (state S.Store conn.old) (state S.Store conn.new) }
+{
+    if !conn.is_autocommit() {
+        return Err(Stop::NotReady);
+    }
+    apply(conn, changes)?;
+    Ok(())
+}

@@ -1,0 +1,121 @@
+//! A keeper in memory, which fails at listed calls.
+
+ghost use Rattle.std.specs.Prelude.{◌≡◌, ◌≤◌, IfOk, OnOk, OnErr};
+ghost use Rattle.std.proofs.Common.{◌∙◌, sym};
+ghost use Rattle.oe_keeper.specs.Kept.{Kept, all_changed};
+ghost use Rattle.oe_keeper.specs.Memory.{HasRows, IsFresh, IsUnfailing, IsCounted, fails_next, has_failed};
+ghost use Rattle.oe_keeper.specs.Keeping.{Stays, StaysSilent, HasAll, HasCause, IfFailed, Rose};
+
+use crate::change::RowChange;
+use crate::fail_list::FailList;
+use crate::keeper::{KeepErr, Keeper};
+use crate::tables::Tables;
+use grid_exact::NoMemory;
+use std::alloc::Global;
+
+/// A keeper in memory, which tells its rows. It counts the calls of `load` and `apply` from 1, fails at exactly the listed ones, and does not look
+/// at the place.
+#[derive(Debug, Drop)]
+pub struct MemoryKeeper {
+    tables: Tables,
+    fail: FailList,
+    calls: u64,
+    faults: u64,
+}
+
+impl MemoryKeeper {
+    /// A keeper of these rows that was not called yet. It takes no memory.
+    pub fn new(_alloc: Global, tables: Tables, fail: FailList) -> MemoryKeeper
+        ensures { IsFresh result tables fail }
+    {
+        MemoryKeeper {
+            tables,
+            fail,
+            calls: 0,
+            faults: 0,
+        }
+    }
+
+    /// Counts the call, and answers whether it is to fail.
+    fn is_to_fail(&mut self) -> bool
+        ensures tables { self.new.tables ≡ self.old.tables }
+        ensures faults { self.new.faults ≡ self.old.faults }
+        ensures counted { IsCounted self.old self.new }
+        ensures answer { result ≡ fails_next self.old }
+    {
+        self.calls = self.calls.saturating_add(1);
+        self.fail.has(self.calls)
+    }
+
+    /// Counts a fault.
+    fn fault(&mut self) -> KeepErr
+        ensures rows { self.new.tables ≡ self.old.tables }
+        ensures fail { self.new.fail ≡ self.old.fail }
+        ensures calls { self.new.calls ≡ self.old.calls }
+        ensures counted { self.old.faults ≤ self.new.faults }
+        ensures rose { Rose self.old.faults self.new.faults }
+        ensures answer { result ≡ KeepErr.Failed }
+    {
+        self.faults = self.faults.saturating_add(1);
+        KeepErr::Failed
+    }
+
+    /// A copy of the rows with the changes.
+    fn changed(&self, alloc: Global, changes: &[RowChange]) -> Result<Tables, NoMemory>
+        ensures { IfOk result (λ t. t ≡ all_changed self.now.tables changes.now) }
+    {
+        let mut next = self.tables.copy(alloc)?;
+        'changes: for change in changes {
+            next.change(alloc, change)?;
+        }
+        Ok(next)
+    }
+}
+
+impl Keeper for MemoryKeeper {
+    ghost Tells = { HasRows };
+
+    ghost faults = { λ k. k.faults };
+
+    ghost IsLoaded = { λ k. Unit {0} };
+
+    ghost IsSteady = { IsUnfailing };
+
+    fn load(&mut self, alloc: Global, _place: Option<&str>) -> Result<Tables, KeepErr>
+        ensures rows { IfOk result (λ rows. (now : Kept) → HasRows self.new now → now ≡ rows) }
+        ensures stays { Stays HasRows self.old self.new }
+        ensures silent { OnErr result (StaysSilent HasRows self.old self.new) }
+        ensures loaded { OnOk result ∥ Unit {0} ∥₁ }
+        ensures cause { HasCause self.old.faults self.new.faults result }
+        ensures steady { IsUnfailing self.old → IsUnfailing self.new }
+        ensures unfailing { IsUnfailing self.old → IfFailed result ⊥ }
+        ensures counted { IsCounted self.old self.new }
+        ensures exact { has_failed result ≡ fails_next self.old }
+    {
+        if self.is_to_fail() {
+            Err(self.fault())
+        } else {
+            Ok(self.tables.copy(alloc)?)
+        }
+    }
+
+    fn apply(&mut self, alloc: Global, changes: &[RowChange]) -> Result<(), KeepErr>
+        ensures all { OnOk result (HasAll HasRows self.old self.new changes.now) }
+        ensures none { OnErr result (Stays HasRows self.old self.new) }
+        ensures silent { StaysSilent HasRows self.old self.new }
+        ensures loaded { ∥ Unit {0} ∥₁ }
+        ensures cause { HasCause self.old.faults self.new.faults result }
+        ensures steady { IsUnfailing self.old → IsUnfailing self.new }
+        ensures unfailing { IsUnfailing self.old → IfFailed result ⊥ }
+        ensures counted { IsCounted self.old self.new }
+        ensures exact { has_failed result ≡ fails_next self.old }
+    {
+        if self.is_to_fail() {
+            return Err(self.fault());
+        }
+        self.tables = self.changed(alloc, changes)?;
+        Ok(())
+    }
+
+    ghost one = { λ k a b p q. p ∙ sym q };
+}

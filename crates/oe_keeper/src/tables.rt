@@ -1,0 +1,118 @@
+//! The rows of the five tables.
+
+ghost use Rattle.std.specs.Prelude.{◌≡◌, IfOk, OnOk, OnErr, slice_get};
+ghost use Rattle.std.specs.Option.{option_map};
+ghost use Rattle.std.specs.FinMap as maps;
+ghost use Rattle.oe_keeper.specs.Kept.{changed, place};
+
+use crate::change::{RowChange, Table};
+use crate::rows::{Entry, copies, place_of, row_at};
+use grid_exact::NoMemory;
+use std::alloc::Global;
+use std::marker::Model;
+
+/// The rows of the five tables, seen as one map from a table's place and a key to a row, and walked in order of table
+/// and key.
+#[derive(Debug, Drop)]
+pub struct Tables {
+    rows: Vec<Entry>,
+}
+
+impl Model for Tables {
+    ghost use Rattle.std.specs.Prelude.{map, T};
+    ghost use Rattle.std.specs.FinMap as maps;
+    ghost use Rattle.oe_keeper.specs.Kept.{Kept, kept_code, key_cmp};
+    ghost use Rattle.oe_keeper.specs.Walk.{pair_of};
+
+    ghost Value = { Kept };
+
+    ghost coded = { kept_code };
+
+    ghost view = { λ a. maps.from_sorted (map pair_of a.rows.items) };
+
+    ghost invariant = { λ a. T (maps.is_sorted key_cmp (map pair_of a.rows.items)) };
+}
+
+impl Tables {
+    /// No rows. It takes no memory.
+    pub fn empty(alloc: Global) -> Tables
+        ensures { result ≡ maps.empty }
+    {
+        Tables {
+            rows: Vec::new(alloc),
+        }
+    }
+
+    /// How many rows there are, in all five tables.
+    pub fn len(&self) -> usize
+        ensures { result ≡ maps.len self.now }
+    {
+        self.rows.as_slice().len()
+    }
+
+    /// The table, the key and the row at place `i` in order of table and key, counted from 0.
+    pub fn nth(&self, i: usize) -> Option<(Table, &str, &str)>
+        ensures { option_map (λ r. ((place r.0, r.1.now), r.2.now)) result ≡ slice_get (maps.entries self.now) i }
+    {
+        match row_at(self.rows.as_slice(), i) {
+            Some(entry) => Some((entry.table, entry.key.as_str(), entry.row.as_str())),
+            None => None,
+        }
+    }
+
+    /// A copy.
+    pub(crate) fn copy(&self, alloc: Global) -> Result<Tables, NoMemory>
+        ensures { IfOk result (λ t. t ≡ self.now) }
+    {
+        let rows = copies(alloc, self.rows.as_slice())?;
+        Ok(Tables { rows })
+    }
+
+    /// Puts the row under the key, instead of the one that is there.
+    fn put(&mut self, alloc: Global, table: Table, key: &str, row: &str) -> Result<(), NoMemory>
+        ensures ok { OnOk result (self.new ≡ maps.insert self.old (place table, key.now) row.now) }
+        ensures err { OnErr result (self.new ≡ self.old) }
+    {
+        let entry = Entry::new(alloc, table, key, row)?;
+        match place_of(self.rows.as_slice(), table, key) {
+            Ok(i) => {
+                self.rows[i] = entry;
+                Ok(())
+            }
+            Err(i) => {
+                self.rows.insert(i, entry)?;
+                Ok(())
+            }
+        }
+    }
+
+    /// Takes the row under the key out, if there is one.
+    fn remove(&mut self, table: Table, key: &str)
+        ensures { self.new ≡ maps.remove self.old (place table, key.now) }
+    {
+        if let Ok(i) = place_of(self.rows.as_slice(), table, key) {
+            self.rows.remove(i);
+        }
+    }
+
+    /// Puts the row or takes it out, as the change says. A row whose key is above all others is put at once; any other moves the rows
+    /// after it.
+    ///
+    /// # Errors
+    ///
+    /// `NoMemory` where memory was refused. The rows then stay as they were.
+    pub fn change(&mut self, alloc: Global, c: &RowChange) -> Result<(), NoMemory>
+        ensures ok { OnOk result (self.new ≡ changed self.old c.now) }
+        ensures err { OnErr result (self.new ≡ self.old) }
+    {
+        match c {
+            RowChange::Put { table, key, row } => {
+                self.put(alloc, *table, key.as_str(), row.as_str())
+            }
+            RowChange::Remove { table, key } => {
+                self.remove(*table, key.as_str());
+                Ok(())
+            }
+        }
+    }
+}

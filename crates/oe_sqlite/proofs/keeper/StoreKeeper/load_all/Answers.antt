@@ -1,0 +1,15 @@
+use Rattle.std.proofs.Math.Logic.{∥∥₁_map}
+use Rattle.oe_sqlite.proofs.Telling.{rows_told, silent_told, always_err}
+use Rattle.oe_sqlite.proofs.keeper.StoreKeeper.load_all.Goals as goal
+
+pub invariant_of-self : goal.invariant_of-self
+invariant_of-self g c = record { held = ∥∥₁_map c.args.self.now.held (λ h t. c.load_again.ensures.held (h t)) }
+
+pub returns-then-self-clause-rows : goal.returns-then-self-clause-rows
+returns-then-self-clause-rows g c = rows_told c.load_again.result c.args.self.now.is_told c.args.self.now.place c.load_again.new.self c.args.self.now.held c.load_again.ensures.rows
+
+pub returns-then-self-clause-stays : goal.returns-then-self-clause-stays
+returns-then-self-clause-stays g c before now b n = c.load_again.ensures.stays before now b.1 n.1
+
+pub returns-then-self-clause-silent : goal.returns-then-self-clause-silent
+returns-then-self-clause-silent g c = always_err c.load_again.result (silent_told c.args.self.now.is_told c.args.self.now.place c.load_again.new.self c.args.self.now.held c.load_again.ensures.silent)

@@ -1,0 +1,32 @@
+use Rattle.std.proofs.Common.{◌≡◌, sym, subst}
+use Rattle.std.specs.Prelude.{IfOk, OnOk, OnErr}
+use Rattle.oe_keeper.specs.Kept.{Kept}
+use Rattle.oe_keeper.specs.Keeping.{Stays, StaysSilent, HasAll}
+use Rattle.oe_sqlite.specs.Places.{TellsAt, IsHeldAt}
+use Rattle.oe_sqlite.specs.declared.place.Place.{Place}
+use Rattle.oe_sqlite.specs.declared.place.Place.TheVariants.{Memory, File}
+use Rattle.oe_sqlite.proofs.place.Place.change.Goals as goal
+
+pub returns-in-Memory-clause-held : goal.returns-in-Memory-clause-held
+returns-in-Memory-clause-held g c = subst (λ (p : Place _ _). IsHeldAt p → IsHeldAt {g = g.D.Disk} (Memory c.change_told.new.conn)) (sym c.in-Memory.is) c.change_told.ensures.held
+
+pub returns-in-Memory-clause-all : goal.returns-in-Memory-clause-all
+returns-in-Memory-clause-all g c = subst (λ (p : Place _ _). OnOk c.change_told.result (HasAll TellsAt p (Memory c.change_told.new.conn) c.args.changes.now)) (sym c.in-Memory.is) c.change_told.ensures.all
+
+pub returns-in-Memory-clause-none : goal.returns-in-Memory-clause-none
+returns-in-Memory-clause-none g c = subst (λ (p : Place _ _). OnErr c.change_told.result (Stays TellsAt p (Memory c.change_told.new.conn))) (sym c.in-Memory.is) c.change_told.ensures.none
+
+pub returns-in-Memory-clause-silent : goal.returns-in-Memory-clause-silent
+returns-in-Memory-clause-silent g c = subst (λ (p : Place _ _). IsHeldAt p → StaysSilent TellsAt p (Memory c.change_told.new.conn)) (sym c.in-Memory.is) (λ held now told. ∣ c.change_told.ensures.silent held now told ∣₁)
+
+pub returns-in-File-clause-held : goal.returns-in-File-clause-held
+returns-in-File-clause-held g c = subst (λ (p : Place _ _). IsHeldAt p → IsHeldAt (File c.change_told-in-File.new.conn)) (sym c.in-File.is) c.change_told-in-File.ensures.held
+
+pub returns-in-File-clause-all : goal.returns-in-File-clause-all
+returns-in-File-clause-all g c = subst (λ (p : Place _ _). OnOk c.change_told-in-File.result (HasAll TellsAt p (File c.change_told-in-File.new.conn) c.args.changes.now)) (sym c.in-File.is) c.change_told-in-File.ensures.all
+
+pub returns-in-File-clause-none : goal.returns-in-File-clause-none
+returns-in-File-clause-none g c = subst (λ (p : Place _ _). OnErr c.change_told-in-File.result (Stays TellsAt p (File c.change_told-in-File.new.conn))) (sym c.in-File.is) c.change_told-in-File.ensures.none
+
+pub returns-in-File-clause-silent : goal.returns-in-File-clause-silent
+returns-in-File-clause-silent g c = subst (λ (p : Place _ _). IsHeldAt p → StaysSilent TellsAt p (File c.change_told-in-File.new.conn)) (sym c.in-File.is) (λ held now told. ∣ c.change_told-in-File.ensures.silent held now told ∣₁)

@@ -1,0 +1,39 @@
+-- The rows that a place tells.
+use Rattle.std.specs.Prelude.{◌≡◌, Bool, IsTrue}
+use Rattle.std.proofs.Common.{sym, ◌∙◌}
+use Rattle.sqlite_disk.specs.declared.Disk.{Ghosts}
+use Rattle.sqlite.specs.Held.{state}
+use Rattle.sqlite.specs.Files.{file_state}
+use Rattle.sqlite.specs.Steps.{over_memory}
+use Rattle.oe_keeper.specs.Kept.{Kept}
+use Rattle.kept_table.specs.Model.{IsHeld, TellsIn}
+use Rattle.kept_table.specs.Shape.{no_schema}
+use Rattle.oe_sqlite.specs.declared.place.Place.{Place}
+use Rattle.oe_sqlite.specs.declared.place.Place.TheVariants.{Nowhere, Memory, File}
+
+-- it shows some rows whenever its store is clean and open
+abbrev pub IsHeldAt : {D : Type 0} {g : Ghosts D} → Place D g → Type 0
+IsHeldAt Nowhere = Unit {0}
+IsHeldAt (Memory conn) = IsHeld (state over_memory conn)
+IsHeldAt (File conn) = IsHeld (file_state conn)
+
+-- its store, which is clean and open, holds the one table with these rows
+abbrev pub TellsAt : {D : Type 0} {g : Ghosts D} → Place D g → Kept → Type 0
+TellsAt Nowhere rows = ⊥
+TellsAt (Memory conn) rows = TellsIn (state over_memory conn) rows
+TellsAt (File conn) rows = TellsIn (file_state conn) rows
+
+-- the same, where a load has found the store to be the one table
+abbrev pub TellsWith : {D : Type 0} {g : Ghosts D} → Bool → Place D g → Kept → Type 0
+TellsWith is_told place rows = IsTrue is_told × TellsAt place rows
+
+-- its store has no table, index or view
+abbrev pub IsBlankAt : {D : Type 0} {g : Ghosts D} → Place D g → Type 0
+IsBlankAt Nowhere = ⊥
+IsBlankAt (Memory conn) = (state over_memory conn).now.schema ≡ no_schema
+IsBlankAt (File conn) = (file_state conn).now.schema ≡ no_schema
+
+pub told_once : {D : Type 0} {g : Ghosts D} (place : Place D g) (a b : Kept) → TellsAt place a → TellsAt place b → a ≡ b
+told_once Nowhere a b p q = absurd p
+told_once (Memory conn) a b p q = sym p.2.are ∙ q.2.are
+told_once (File conn) a b p q = sym p.2.are ∙ q.2.are

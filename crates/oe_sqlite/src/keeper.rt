@@ -1,0 +1,167 @@
+//! The keeper.
+
+ghost use Rattle.std.specs.Prelude.{◌≡◌, false, None, Err, IsTrue, IfOk, OnOk, OnErr};
+ghost use Rattle.oe_keeper.specs.Kept.{Kept};
+ghost use Rattle.oe_keeper.specs.Keeping.{HasCause, IfFailed, Stays, StaysSilent, HasAll};
+ghost use Rattle.oe_sqlite.specs.declared.place.Place.TheVariants.{Nowhere};
+ghost use Rattle.oe_sqlite.specs.Places.{TellsWith, IsHeldAt, IsBlankAt, told_once};
+
+use crate::opens::{HostFiles, Opens};
+use crate::place::Place;
+use kept_table::Stop;
+use oe_keeper::{KeepErr, Keeper, RowChange, Tables};
+use sqlite::Connection;
+use std::alloc::Global;
+
+/// A keeper over the files of the machine.
+pub type SqliteKeeper<'a> = StoreKeeper<HostFiles<'a>>;
+
+/// A keeper over one store of SQLite, which holds all rows in its table `kept`. It tells its rows from the first load on that found the store to
+/// be that one table and no more; this is always so in memory.
+#[derive(Drop)]
+pub struct StoreKeeper<O: Opens> {
+    opener: O,
+    place: Place<O::Disk>,
+    is_told: bool,
+    faults: u64,
+    ghost held: { ∥ (IsTrue is_told → IsHeldAt place) ∥₁ },
+}
+
+/// What the keeper answers where its store stopped. All but want of memory is a fault, and is counted.
+fn count(faults: &mut u64, stop: Stop) -> KeepErr
+    ensures { HasCause {T = Unit {0}} faults.old faults.new (Err result) }
+{
+    if stop == Stop::NoMemory {
+        return KeepErr::NoMemory;
+    }
+    *faults = faults.saturating_add(1);
+    KeepErr::Failed
+}
+
+impl<'a> StoreKeeper<HostFiles<'a>> {
+    /// A keeper that has no store yet. Its first `load` opens a file through `rt`, or a store in memory.
+    pub fn new(rt: &'a HostRuntime) -> SqliteKeeper<'a>
+        ensures { result.place ≡ Nowhere }
+    {
+        StoreKeeper::over(HostFiles::new(rt))
+    }
+}
+
+impl<O: Opens> StoreKeeper<O> {
+    /// A keeper that has no store yet. Its first `load` opens one by the opener, or in memory.
+    pub fn over(opener: O) -> StoreKeeper<O>
+        ensures { result.place ≡ Nowhere }
+    {
+        StoreKeeper {
+            opener,
+            place: Place::Nowhere,
+            is_told: false,
+            faults: 0,
+        }
+    }
+
+    /// Opens the store of a place.
+    fn open(&mut self, alloc: Global, path: Option<&str>) -> Result<Place<O::Disk>, Stop>
+        ensures faults { self.new.faults ≡ self.old.faults }
+        ensures told { self.new.is_told ≡ self.old.is_told }
+        ensures place { self.new.place ≡ self.old.place }
+        ensures memory { path.entry ≡ None → IfOk result IsBlankAt }
+    {
+        match path {
+            Some(path) => Ok(Place::File(self.opener.open(path)?)),
+            None => Ok(Place::Memory(Connection::open_in_memory(alloc)?)),
+        }
+    }
+
+    /// The rows of a keeper that tells none yet.
+    fn load_untold(&mut self, alloc: Global, path: Option<&str>) -> Result<Tables, Stop>
+        requires { self.old.is_told ≡ false }
+        ensures faults { self.new.faults ≡ self.old.faults }
+        ensures rows { IfOk result (λ rows. (now : Kept) → TellsWith self.new.is_told self.new.place now → now ≡ rows) }
+        ensures untold { OnErr result (self.new.is_told ≡ false) }
+        ensures memory { self.old.place ≡ Nowhere → path.entry ≡ None → OnOk result (IsTrue self.new.is_told) }
+    {
+        if matches!(&self.place, Place::Nowhere) {
+            let opened = self.open(alloc, path)?;
+            let (place, tables, is_told) = opened.load_first(alloc)?;
+            self.place = place;
+            self.is_told = is_told;
+            return Ok(tables);
+        }
+        self.place.load_again(alloc)
+    }
+
+    /// The rows of the store, which is opened where there is none yet.
+    fn load_all(&mut self, alloc: Global, path: Option<&str>) -> Result<Tables, Stop>
+        ensures faults { self.new.faults ≡ self.old.faults }
+        ensures rows { IfOk result (λ rows. (now : Kept) → TellsWith self.new.is_told self.new.place now → now ≡ rows) }
+        ensures stays { Stays (λ k. TellsWith k.is_told k.place) self.old self.new }
+        ensures silent { OnErr result (StaysSilent (λ k. TellsWith k.is_told k.place) self.old self.new) }
+        ensures memory { self.old.place ≡ Nowhere → path.entry ≡ None → OnOk result (IsTrue self.new.is_told) }
+        ensures still { IsTrue self.old.is_told → IsTrue self.new.is_told }
+    {
+        if self.is_told {
+            self.place.load_again(alloc)
+        } else {
+            self.load_untold(alloc, path)
+        }
+    }
+
+    /// Makes all the changes, in order, or none of them.
+    fn change_all(&mut self, changes: &[RowChange]) -> Result<(), Stop>
+        ensures faults { self.new.faults ≡ self.old.faults }
+        ensures all { OnOk result (HasAll (λ k. TellsWith k.is_told k.place) self.old self.new changes.now) }
+        ensures none { OnErr result (Stays (λ k. TellsWith k.is_told k.place) self.old self.new) }
+        ensures silent { StaysSilent (λ k. TellsWith k.is_told k.place) self.old self.new }
+        ensures still { IsTrue self.old.is_told → IsTrue self.new.is_told }
+    {
+        self.place.change(changes)
+    }
+}
+
+impl<O: Opens> Keeper for StoreKeeper<O> {
+    ghost Tells = { λ k. TellsWith k.is_told k.place };
+
+    ghost faults = { λ k. k.faults };
+
+    ghost IsLoaded = { λ k. Unit {0} };
+
+    ghost IsSteady = { λ k. ⊥ };
+
+    fn load(&mut self, alloc: Global, place: Option<&str>) -> Result<Tables, KeepErr>
+        ensures rows { IfOk result (λ rows. (now : Kept) → TellsWith self.new.is_told self.new.place now → now ≡ rows) }
+        ensures stays { Stays (λ k. TellsWith k.is_told k.place) self.old self.new }
+        ensures silent { OnErr result (StaysSilent (λ k. TellsWith k.is_told k.place) self.old self.new) }
+        ensures loaded { OnOk result ∥ Unit {0} ∥₁ }
+        ensures cause { HasCause self.old.faults self.new.faults result }
+        ensures steady { ⊥ → ⊥ }
+        ensures unfailing { ⊥ → IfFailed result ⊥ }
+
+        // A store in memory is told from its first load on, and what is told stays so.
+        ensures memory { self.old.place ≡ Nowhere → place.entry ≡ None → OnOk result (IsTrue self.new.is_told) }
+        ensures still { IsTrue self.old.is_told → IsTrue self.new.is_told }
+    {
+        match self.load_all(alloc, place) {
+            Ok(tables) => Ok(tables),
+            Err(stop) => Err(count(&mut self.faults, stop)),
+        }
+    }
+
+    fn apply(&mut self, _alloc: Global, changes: &[RowChange]) -> Result<(), KeepErr>
+        ensures all { OnOk result (HasAll (λ k. TellsWith k.is_told k.place) self.old self.new changes.now) }
+        ensures none { OnErr result (Stays (λ k. TellsWith k.is_told k.place) self.old self.new) }
+        ensures silent { StaysSilent (λ k. TellsWith k.is_told k.place) self.old self.new }
+        ensures loaded { ∥ Unit {0} ∥₁ }
+        ensures cause { HasCause self.old.faults self.new.faults result }
+        ensures steady { ⊥ → ⊥ }
+        ensures unfailing { ⊥ → IfFailed result ⊥ }
+        ensures still { IsTrue self.old.is_told → IsTrue self.new.is_told }
+    {
+        match self.change_all(changes) {
+            Ok(()) => Ok(()),
+            Err(stop) => Err(count(&mut self.faults, stop)),
+        }
+    }
+
+    ghost one = { λ k a b p q. told_once k.place a b p.1 q.1 };
+}
