@@ -14,8 +14,9 @@ use Rattle.httparse.specs.Spans.{RequestExceeds}
 use Rattle.httparse.proofs.GrammarLemmas.{cons-append, request_tree, request_pieces, print_request-append, ReadsRequest-append, request_prefix_free}
 use Rattle.httparse.proofs.PieceLemmas.{RequestStart_deterministic, Section_skip, Stops_token, token_is_no_newline, print_field-append}
 use Rattle.http_heads.specs.Heads.{IsHead, open_head, IsCrowded, IsTooLarge, IsHopeless, IsGood, RefusesLarge, RefusesMalformed, IsOpen}
+use Rattle.http_heads.specs.declared.decision.TheConstants.{HEAD_LIMIT, MOST_FIELDS}
 
--- ---- lists
+-- lists
 
 -- a front that leaves a byte is a front of the list without its last byte
 pub front_of_push : (q r x : List ℕ) (b : ℕ) → q ++ r ≡ x ++ b ∷ [] → 0 < length r → (u : List ℕ) × (q ++ u ≡ x)
@@ -50,7 +51,7 @@ before_last (d ∷ f) (z ∷ x) y b c e some =
     let more = before_last f x y b c tail some in
     (more.0, rw (head, more.1) refl)
 
--- ---- heads and their open part
+-- heads and their open part
 
 pub print_open : (h : RequestHead) → print_request h ≡ open_head h ++ print_end h.last
 unfolding print_request
@@ -121,7 +122,7 @@ closed_is k good = (
   sym (append-nil _ ∙ print_open (record k { last = lf })),
 )
 
--- ---- what a front of a head is not
+-- what a front of a head is not
 
 pub not_hopeless : (q r : List ℕ) (h : RequestHead) → IsHead (q ++ r) h → IsHopeless q → ⊥
 not_hopeless q r h x hopeless = hopeless.never r h x
@@ -145,7 +146,7 @@ pub crowded_refuses : (bytes q r : List ℕ) → bytes ≡ q ++ r → IsCrowded 
 crowded_refuses bytes q r e crowded =
     record { front = q; rest = r; parts = e; large = inl crowded; first = crowded_first q crowded }
 
--- ---- inside the target
+-- inside the target
 
 All-back : {X : Type 0} (test : X → Type 0) (u r : List X) → All test (u ++ r) → All test r
 All-back test [] r all = all
@@ -197,7 +198,7 @@ target_open bytes q r x e hopeless =
     cases (inl h) = in_target x.0 x.1 x.2 q r h.0 x.3 x.4 h.1 h.2 hopeless
     cases (inr h) = in_method x.0 x.1 q h.0 x.3 h.1 hopeless
 
--- ---- what a parse says
+-- what a parse says
 
 pub never_now : (bytes : List ℕ) → NeverHasRequest bytes → HasNoRequest bytes
 never_now bytes never h rest x = never [] h rest (subst (λ (t : List ℕ). ReadsRequest t h rest) (sym (append-nil bytes)) x)
@@ -206,7 +207,7 @@ no_good : (bytes q r : List ℕ) → bytes ≡ q ++ r → HasNoRequest bytes →
 no_good bytes q r e none good =
     none good.0 r (subst (λ (t : List ℕ). ReadsRequest t good.0 r) (sym e) (ReadsRequest-append q good.0 [] r good.1))
 
-not_large : (bytes q r : List ℕ) → bytes ≡ q ++ r → length bytes < 16384
+not_large : (bytes q r : List ℕ) → bytes ≡ q ++ r → length bytes < HEAD_LIMIT
     → ((q r : List ℕ) → bytes ≡ q ++ r → IsCrowded q → ⊥) → IsTooLarge q → ⊥
 not_large bytes q r e short uncrowded (inl crowded) = uncrowded q r e crowded
 not_large bytes q r e short uncrowded (inr long) = omega (arith, ap length e, length-append q r, long.0)
@@ -217,19 +218,19 @@ may_not_hopeless bytes q r e (inl may) hopeless =
     (subst (λ (t : List ℕ). IsHead t may.1) (ap (λ (t : List ℕ). t ++ may.0) e ∙ append_assoc q r may.0) may.2)
 may_not_hopeless bytes q r e (inr target) hopeless = target_open bytes q r target e hopeless
 
-pub still_open : (bytes : List ℕ) → MayBecomeRequest bytes → HasNoRequest bytes → length bytes < 16384
+pub still_open : (bytes : List ℕ) → MayBecomeRequest bytes → HasNoRequest bytes → length bytes < HEAD_LIMIT
     → ((q r : List ℕ) → bytes ≡ q ++ r → IsCrowded q → ⊥) → IsOpen bytes
 still_open bytes may none short uncrowded = record {
   none = λ q r e. (not_large bytes q r e short uncrowded, may_not_hopeless bytes q r e may, no_good bytes q r e none);
 }
 
-pub open_in_target : (bytes : List ℕ) → EndsInTarget bytes → NeverHasRequest bytes → length bytes < 16384
+pub open_in_target : (bytes : List ℕ) → EndsInTarget bytes → NeverHasRequest bytes → length bytes < HEAD_LIMIT
     → ((q r : List ℕ) → bytes ≡ q ++ r → IsCrowded q → ⊥) → IsOpen bytes
 open_in_target bytes target never short uncrowded = record {
   none = λ q r e. (not_large bytes q r e short uncrowded, target_open bytes q r target e, no_good bytes q r e (never_now bytes never));
 }
 
-pub malformed : (bytes : List ℕ) → NeverHasRequest bytes → (EndsInTarget bytes → ⊥) → length bytes < 16384
+pub malformed : (bytes : List ℕ) → NeverHasRequest bytes → (EndsInTarget bytes → ⊥) → length bytes < HEAD_LIMIT
     → ((q r : List ℕ) → bytes ≡ q ++ r → IsCrowded q → ⊥) → RefusesMalformed bytes
 malformed bytes never past short uncrowded = record {
   front = bytes;
@@ -239,7 +240,7 @@ malformed bytes never past short uncrowded = record {
   first = λ q r e. (not_large bytes q r e short uncrowded, no_good bytes q r e (never_now bytes never));
 }
 
--- ---- more than 64 fields
+-- more fields than a head may have
 
 -- a field's line begins with a byte other than CR and LF
 first_byte : (name tail : List ℕ) → IsToken name → (b : ℕ) × (y : List ℕ) × (name ++ tail ≡ b ∷ y) × (b ≢ 13) × (b ≢ 10)
@@ -263,12 +264,12 @@ pub record Over (h : RequestHead) : Type 0 where
   pub byte : ℕ
   pub rest : List ℕ
   pub good : IsRequestHead head
-  pub full : length head.fields ≡ 64
+  pub full : length head.fields ≡ MOST_FIELDS
   pub no_return : byte ≢ 13
   pub no_feed : byte ≢ 10
   pub opens : open_head h ≡ open_head head ++ byte ∷ rest
 
-over_with : (h : RequestHead) (fs ds : List Field) → IsRequestHead h → h.fields ≡ fs ++ ds → length fs ≡ 64 → 0 < length ds → Over h
+over_with : (h : RequestHead) (fs ds : List Field) → IsRequestHead h → h.fields ≡ fs ++ ds → length fs ≡ MOST_FIELDS → 0 < length ds → Over h
 over_with h fs [] good e full some = absurd (omega (arith, some))
 over_with h fs (d ∷ ds) good e full some =
     let all : All IsField (fs ++ d ∷ ds) = subst (All IsField) e good.fields in
@@ -281,27 +282,32 @@ over_with h fs (d ∷ ds) good e full some =
       head = record h { fields = fs };
       byte = line.0;
       rest = line.1;
-      good = record { method = good.method; target = good.target; target_text = good.target_text; minor = good.minor; fields = All-front IsField fs (d ∷ ds) all };
+      good = record { method = good.method; target = good.target; target_text = good.target_text; minor = good.minor; fields = All-front IsField fs
+          (d ∷ ds) all };
       full = full;
       no_return = line.3;
       no_feed = line.4;
       opens = ap (λ (t : List ℕ). print_blank h.blank ++ h.method ++ 32 ∷ h.target ++ 32 ∷ print_version h.minor ++ print_end h.line_end ++ t) lines
-          ∙ regroup_open (print_blank h.blank) h.method h.target (print_version h.minor) (print_end h.line_end) (flat_map print_field fs) (line.0 ∷ line.1);
+          ∙ regroup_open (print_blank h.blank) h.method h.target (print_version h.minor) (print_end h.line_end) (flat_map print_field fs)
+              (line.0 ∷ line.1);
     }
 
-pub over : (h : RequestHead) → IsRequestHead h → 64 < length h.fields → Over h
+pub over : (h : RequestHead) → IsRequestHead h → MOST_FIELDS < length h.fields → Over h
 over h good many =
-    over_with h (take 64 h.fields) (drop 64 h.fields) good (sym (take-append-drop 64 h.fields)) (omega (arith, length-take 64 h.fields)) (omega (arith, length-drop 64 h.fields))
+    over_with h (take MOST_FIELDS h.fields) (drop MOST_FIELDS h.fields) good (sym (take-append-drop MOST_FIELDS h.fields)) (omega
+        (arith, length-take MOST_FIELDS h.fields)) (omega (arith, length-drop MOST_FIELDS h.fields))
 
-pub too_many : (bytes : List ℕ) → RequestExceeds 64 bytes → (q r : List ℕ) × (bytes ≡ q ++ r) × IsCrowded q
+pub too_many : (bytes : List ℕ) → RequestExceeds MOST_FIELDS bytes → (q r : List ℕ) × (bytes ≡ q ++ r) × IsCrowded q
 too_many bytes x =
     let o = over x.3 x.4.0 x.5 in
     let e : x.0 ++ 10 ∷ [] ≡ open_head o.head ++ o.byte ∷ (o.rest ++ print_end x.3.last) =
-        x.4.1 ∙ append-nil _ ∙ print_open x.3 ∙ ap (λ (t : List ℕ). t ++ print_end x.3.last) o.opens ∙ append_assoc (open_head o.head) (o.byte ∷ o.rest) (print_end x.3.last) in
+        x.4.1 ∙ append-nil _ ∙ print_open x.3 ∙ ap (λ (t : List ℕ). t ++ print_end x.3.last) o.opens
+            ∙ append_assoc (open_head o.head) (o.byte ∷ o.rest) (print_end x.3.last) in
     let s = before_last x.0 (open_head o.head) (o.rest ++ print_end x.3.last) o.byte 10 e (some_end o.rest x.3.last) in (
       open_head o.head ++ o.byte ∷ [],
       s.0 ++ x.1,
-      x.2 ∙ ap (λ (t : List ℕ). t ++ x.1) s.1 ∙ append_assoc (open_head o.head) (o.byte ∷ s.0) x.1 ∙ sym (append_assoc (open_head o.head) (o.byte ∷ []) (s.0 ++ x.1)),
+      x.2 ∙ ap (λ (t : List ℕ). t ++ x.1) s.1 ∙ append_assoc (open_head o.head) (o.byte ∷ s.0) x.1
+          ∙ sym (append_assoc (open_head o.head) (o.byte ∷ []) (s.0 ++ x.1)),
       record { head = o.head; byte = o.byte; good = o.good; full = o.full; no_return = o.no_return; no_feed = o.no_feed; bytes_are = refl },
     )
   where
@@ -309,7 +315,7 @@ too_many bytes x =
     some_end t crlf = omega (arith, length-append t (13 ∷ 10 ∷ []))
     some_end t lf = omega (arith, length-append t (10 ∷ []))
 
--- ---- bytes at the limit
+-- bytes at the limit
 
 pub refuses_more : (bytes more : List ℕ) → RefusesLarge bytes → RefusesLarge (bytes ++ more)
 refuses_more bytes more x = record {
@@ -329,33 +335,38 @@ malformed_more bytes more x = record {
   first = x.first;
 }
 
-pub at_limit : (bytes : List ℕ) → 16384 ≤ length bytes → IsOpen (take 16383 bytes)
-    → ((h : RequestHead) (rest : List ℕ) → ReadsRequest bytes h rest → length h.fields ≤ 64 → length (print_request h) ≤ 16384 → ⊥)
+pub at_limit : (bytes : List ℕ) → HEAD_LIMIT ≤ length bytes → IsOpen (take (HEAD_LIMIT - 1) bytes)
+    → ((h : RequestHead) (rest : List ℕ) → ReadsRequest bytes h rest → length h.fields ≤ MOST_FIELDS → length (print_request h) ≤ HEAD_LIMIT → ⊥)
     → RefusesLarge bytes
 at_limit bytes long open_front none = record {
-  front = take 16384 bytes;
-  rest = drop 16384 bytes;
-  parts = sym (take-append-drop 16384 bytes);
+  front = take HEAD_LIMIT bytes;
+  rest = drop HEAD_LIMIT bytes;
+  parts = sym (take-append-drop HEAD_LIMIT bytes);
   large = inr (
-    omega (arith, length-take 16384 bytes),
-    λ good. none good.0 (drop 16384 bytes)
-        (subst (λ (t : List ℕ). ReadsRequest t good.0 (drop 16384 bytes)) (take-append-drop 16384 bytes) (ReadsRequest-append (take 16384 bytes) good.0 [] (drop 16384 bytes) good.1))
-        good.2 (omega (arith, ap length (good.1.1 ∙ append-nil _), length-take 16384 bytes)),
+    omega (arith, length-take HEAD_LIMIT bytes),
+    λ good. none good.0 (drop HEAD_LIMIT bytes)
+        (subst (λ (t : List ℕ). ReadsRequest t good.0 (drop HEAD_LIMIT bytes)) (take-append-drop HEAD_LIMIT bytes) (ReadsRequest-append
+            (take HEAD_LIMIT bytes) good.0 [] (drop HEAD_LIMIT bytes) good.1))
+        good.2 (omega (arith, ap length (good.1.1 ∙ append-nil _), length-take HEAD_LIMIT bytes)),
   );
   first = λ q r e some. let front = shorter q r e some in let x = open_front.none q front.0 front.1 in (x.1, x.2);
 }
   where
-    cases : (q r : List ℕ) → length q < 16384
-        → ((u : List ℕ) × (q ≡ take 16383 bytes ++ u) × (u ++ r ≡ drop 16383 bytes)) ⊎ ((u : List ℕ) × (q ++ u ≡ take 16383 bytes))
-        → (s : List ℕ) × (take 16383 bytes ≡ q ++ s)
-    cases q r few (inl x) = ([], sym (append-nil _ ∙ x.1 ∙ ap (λ (t : List ℕ). take 16383 bytes ++ t) (nil_from_length x.0 (omega (arith, ap length x.1, length-append (take 16383 bytes) x.0, length-take 16383 bytes))) ∙ append-nil _))
+    cases : (q r : List ℕ) → length q < HEAD_LIMIT
+        → ((u : List ℕ) × (q ≡ take (HEAD_LIMIT - 1) bytes ++ u) × (u ++ r ≡ drop (HEAD_LIMIT - 1) bytes)) ⊎ ((u : List ℕ) × (q
+            ++ u ≡ take (HEAD_LIMIT - 1) bytes))
+        → (s : List ℕ) × (take (HEAD_LIMIT - 1) bytes ≡ q ++ s)
+    cases q r few (inl x) = ([], sym (append-nil _ ∙ x.1 ∙ ap (λ (t : List ℕ). take (HEAD_LIMIT - 1) bytes
+        ++ t) (nil_from_length x.0 (omega (arith, ap length x.1, length-append (take (HEAD_LIMIT - 1) bytes) x.0, length-take
+        (HEAD_LIMIT - 1) bytes))) ∙ append-nil _))
     cases q r few (inr x) = (x.0, sym x.1)
-    shorter : (q r : List ℕ) → take 16384 bytes ≡ q ++ r → 0 < length r → (s : List ℕ) × (take 16383 bytes ≡ q ++ s)
+    shorter : (q r : List ℕ) → take HEAD_LIMIT bytes ≡ q ++ r → 0 < length r → (s : List ℕ) × (take (HEAD_LIMIT - 1) bytes ≡ q ++ s)
     shorter q r e some =
-        cases q (r ++ drop 16384 bytes) (omega (arith, ap length e, length-append q r, length-take 16384 bytes))
-        (two_fronts q (r ++ drop 16384 bytes) (take 16383 bytes) (drop 16383 bytes)
-        (sym (append_assoc q r (drop 16384 bytes)) ∙ ap (λ (t : List ℕ). t ++ drop 16384 bytes) (sym e) ∙ take-append-drop 16384 bytes ∙ sym (take-append-drop 16383 bytes)))
+        cases q (r ++ drop HEAD_LIMIT bytes) (omega (arith, ap length e, length-append q r, length-take HEAD_LIMIT bytes))
+        (two_fronts q (r ++ drop HEAD_LIMIT bytes) (take (HEAD_LIMIT - 1) bytes) (drop (HEAD_LIMIT - 1) bytes)
+        (sym (append_assoc q r (drop HEAD_LIMIT bytes)) ∙ ap (λ (t : List ℕ). t ++ drop HEAD_LIMIT bytes) (sym e)
+            ∙ take-append-drop HEAD_LIMIT bytes ∙ sym (take-append-drop (HEAD_LIMIT - 1) bytes)))
 
 -- the same, where the limit of fields is given as a length
-pub too_many_at : (room : ℕ) → room ≡ 64 → (bytes : List ℕ) → RequestExceeds room bytes → (q r : List ℕ) × (bytes ≡ q ++ r) × IsCrowded q
+pub too_many_at : (room : ℕ) → room ≡ MOST_FIELDS → (bytes : List ℕ) → RequestExceeds room bytes → (q r : List ℕ) × (bytes ≡ q ++ r) × IsCrowded q
 too_many_at room is bytes x = too_many bytes (subst (λ (n : ℕ). RequestExceeds n bytes) is x)

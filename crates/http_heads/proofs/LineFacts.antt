@@ -12,6 +12,8 @@ use Rattle.httparse.proofs.GrammarLemmas.{cons-append}
 use Rattle.http_heads.specs.Heads.{open_head}
 use Rattle.http_heads.specs.Feeds.{is_feed, feeds_before, IsFirstVisible, IsBehind}
 use Rattle.http_heads.proofs.HeadFacts.{open_head-append, regroup_open}
+use Rattle.http_heads.specs.declared.decision.TheConstants.{MOST_FIELDS}
+use Rattle.http_heads.specs.declared.lines.TheConstants.{LINES}
 
 feeds : List ℕ → ℕ
 feeds xs = count_by is_feed xs
@@ -53,14 +55,16 @@ field_feeds f good =
 fields_feeds : (fs : List Field) → All IsField fs → count_by is_feed (flat_map print_field fs) ≡ length fs
 fields_feeds [] all = refl
 fields_feeds (f ∷ fs) all =
-    omega (arith, feeds-append (print_field f) (flat_map print_field fs), field_feeds f (All-head IsField f fs all), fields_feeds fs (All-tail IsField f fs all))
+    omega (arith, feeds-append (print_field f) (flat_map print_field fs), field_feeds f (All-head IsField f fs all), fields_feeds fs
+        (All-tail IsField f fs all))
 
 -- the lines of a head behind its empty lines
 abbrev pub body : RequestHead → List ℕ
 body h = h.method ++ 32 ∷ (h.target ++ 32 ∷ (print_version h.minor ++ (print_end h.line_end ++ flat_map print_field h.fields)))
 
 pub open_is : (h : RequestHead) (tail : List ℕ) → open_head h ++ tail ≡ print_blank h.blank ++ (body h ++ tail)
-open_is h tail = open_head-append h tail ∙ ap (λ (t : List ℕ). print_blank h.blank ++ t) (sym (nested h.method h.target (print_version h.minor) (print_end h.line_end) (flat_map print_field h.fields) tail))
+open_is h tail = open_head-append h tail ∙ ap (λ (t : List ℕ). print_blank h.blank
+    ++ t) (sym (nested h.method h.target (print_version h.minor) (print_end h.line_end) (flat_map print_field h.fields) tail))
   where
     nested : (b c d e f r : List ℕ) → (b ++ 32 ∷ (c ++ 32 ∷ (d ++ (e ++ f)))) ++ r ≡ b ++ 32 ∷ (c ++ 32 ∷ (d ++ (e ++ (f ++ r))))
     nested b c d e f r = simp (append_assoc, cons-append)
@@ -70,7 +74,8 @@ body_feeds h good =
     let fs = flat_map print_field h.fields in
     let e = print_end h.line_end in
     let v = print_version h.minor in
-    omega (arith, skip 32 (h.target ++ 32 ∷ (v ++ (e ++ fs))) refl, skip 32 (v ++ (e ++ fs)) refl, feeds-append h.method (32 ∷ (h.target ++ 32 ∷ (v ++ (e ++ fs)))), feeds-append h.target (32 ∷ (v ++ (e ++ fs))), feeds-append v (e ++ fs), feeds-append e fs,
+    omega (arith, skip 32 (h.target ++ 32 ∷ (v ++ (e ++ fs))) refl, skip 32 (v ++ (e ++ fs)) refl, feeds-append h.method (32 ∷ (h.target ++ 32 ∷ (v
+        ++ (e ++ fs)))), feeds-append h.target (32 ∷ (v ++ (e ++ fs))), feeds-append v (e ++ fs), feeds-append e fs,
     end_feeds h.line_end, version_feeds h.minor good.minor, fields_feeds h.fields good.fields,
     no_feeds is_token_byte token_feed h.method good.method.1, no_feeds is_uri_byte refl h.target good.target.1)
 
@@ -93,7 +98,8 @@ fields_fed x (f ∷ fs) fed =
 
 body_fed : (h : RequestHead) → EndsFed (body h)
 body_fed h =
-    fed_after h.method _ (fed_after (32 ∷ h.target) _ (fed_after (32 ∷ print_version h.minor) _ (fields_fed (print_end h.line_end) h.fields (end_fed h.line_end))))
+    fed_after h.method _ (fed_after (32 ∷ h.target) _ (fed_after (32 ∷ print_version h.minor) _ (fields_fed (print_end h.line_end) h.fields
+        (end_fed h.line_end))))
 
 -- where the first visible byte is
 pub first_at : (p x : List ℕ) (at : ℕ) → All (λ b. is_newline b ≡ true) p → Stops is_newline x → IsFirstVisible (p ++ x) at → at ≡ length p
@@ -102,41 +108,49 @@ first_at [] (c ∷ x) zero all stops v = refl
 first_at [] (c ∷ x) (suc n) all stops v = absurd (false≢true (sym stops ∙ v.earlier 0 (omega arith)))
 first_at (c ∷ p) x zero all stops v = absurd (false≢true (sym v.visible ∙ All-head (λ b. is_newline b ≡ true) c p all))
 first_at (c ∷ p) x (suc n) all stops v =
-    let rest = first_at p x n (All-tail (λ b. is_newline b ≡ true) c p all) stops (record { within = omega (arith, v.within); visible = v.visible; earlier = λ k below. v.earlier (suc k) (omega arith) }) in
+    let rest = first_at p x n (All-tail (λ b. is_newline b ≡ true) c p all) stops (record { within = omega
+        (arith, v.within); visible = v.visible; earlier = λ k below. v.earlier (suc k) (omega arith) }) in
     omega (arith, rest)
 
 pub blank_all : (es : List LineEnd) → All (λ b. is_newline b ≡ true) (print_blank es)
 blank_all [] = All-nil _
-blank_all (crlf ∷ es) = All-cons (λ b. is_newline b ≡ true) 13 (10 ∷ print_blank es) refl (All-cons (λ b. is_newline b ≡ true) 10 (print_blank es) refl (blank_all es))
+blank_all (crlf ∷ es) = All-cons (λ b. is_newline b ≡ true) 13 (10 ∷ print_blank es) refl (All-cons (λ b. is_newline b ≡ true) 10
+    (print_blank es) refl (blank_all es))
 blank_all (lf ∷ es) = All-cons (λ b. is_newline b ≡ true) 10 (print_blank es) refl (blank_all es)
 
-pub start_is : (h : RequestHead) (bytes tail : List ℕ) (at : ℕ) → IsRequestHead h → bytes ≡ open_head h ++ tail → IsFirstVisible bytes at → at ≡ length (print_blank h.blank)
+pub start_is : (h : RequestHead) (bytes tail : List ℕ) (at : ℕ) → IsRequestHead h → bytes ≡ open_head h ++ tail → IsFirstVisible bytes at
+    → at ≡ length (print_blank h.blank)
 start_is h bytes tail at good e v =
     first_at (print_blank h.blank) (body h ++ tail) at (blank_all h.blank)
     (subst (Stops is_newline) (sym (append_assoc h.method _ tail)) (Stops_token h.method _ good.method.0 good.method.1))
     (subst (λ (t : List ℕ). IsFirstVisible t at) (e ∙ open_is h tail) v)
 
 -- the 65th line ends where the open head does
-behind_at : (w tail : List ℕ) (at : ℕ) → count_by is_feed (w ++ 10 ∷ []) ≡ 65 → IsBehind ((w ++ 10 ∷ []) ++ tail) at → at ≡ length (w ++ 10 ∷ [])
+behind_at : (w tail : List ℕ) (at : ℕ) → count_by is_feed (w ++ 10 ∷ []) ≡ LINES → IsBehind ((w ++ 10 ∷ []) ++ tail) at → at ≡ length (w ++ 10 ∷ [])
 behind_at w tail at count v =
     cases (cases_lt at (length (w ++ 10 ∷ []))) (cases_lt (length (w ++ 10 ∷ [])) at)
   where
-    cases : (at < length (w ++ 10 ∷ [])) ⊎ (length (w ++ 10 ∷ []) ≤ at) → (length (w ++ 10 ∷ []) < at) ⊎ (at ≤ length (w ++ 10 ∷ [])) → at ≡ length (w ++ 10 ∷ [])
+    cases : (at < length (w ++ 10 ∷ [])) ⊎ (length (w ++ 10 ∷ []) ≤ at) → (length (w ++ 10 ∷ []) < at) ⊎ (at ≤ length (w ++ 10 ∷ []))
+        → at ≡ length (w ++ 10 ∷ [])
     cases (inl less) q =
         let inside : at ≤ length w = omega (arith, less, length-append w (10 ∷ [])) in
-        let front : take at ((w ++ 10 ∷ []) ++ tail) ≡ take at w = take-append-le at (w ++ 10 ∷ []) tail (omega arith) ∙ take-append-le at w (10 ∷ []) inside in
+        let front : take at ((w ++ 10 ∷ []) ++ tail) ≡ take at w = take-append-le at (w ++ 10 ∷ []) tail (omega arith)
+            ∙ take-append-le at w (10 ∷ []) inside in
         absurd (omega (arith, v.feeds, ap (count_by is_feed) front, sum_by-take-le (λ x. cond (is_feed x) 1 0) w at, feeds-append w (10 ∷ []), count))
-    cases (inr more) (inl less) = absurd (v.earlier (length (w ++ 10 ∷ [])) less (ap (count_by is_feed) (take-append-le _ (w ++ 10 ∷ []) tail (omega arith) ∙ take_all (length (w ++ 10 ∷ [])) (w ++ 10 ∷ []) (omega arith)) ∙ count))
+    cases (inr more) (inl less) = absurd (v.earlier (length (w ++ 10 ∷ [])) less (ap (count_by is_feed) (take-append-le _ (w
+        ++ 10 ∷ []) tail (omega arith) ∙ take_all (length (w ++ 10 ∷ [])) (w ++ 10 ∷ []) (omega arith)) ∙ count))
     cases (inr more) (inr most) = omega arith
 
-pub behind_is : (h : RequestHead) (text tail : List ℕ) (at : ℕ) → IsRequestHead h → length h.fields ≡ 64 → text ≡ body h ++ tail → IsBehind text at → at ≡ length (body h)
+pub behind_is : (h : RequestHead) (text tail : List ℕ) (at : ℕ) → IsRequestHead h → length h.fields ≡ MOST_FIELDS → text ≡ body h ++ tail
+    → IsBehind text at → at ≡ length (body h)
 behind_is h text tail at good full e v =
     let fed = body_fed h in
     behind_at fed.0 tail at (ap (count_by is_feed) (sym fed.1) ∙ body_feeds h good ∙ ap (λ (n : ℕ). 1 + n) full)
     (subst (λ (t : List ℕ). IsBehind t at) (e ∙ ap (λ (t : List ℕ). t ++ tail) fed.1) v) ∙ ap length (sym fed.1)
 
 -- the text behind the empty lines
-pub text_behind : (h : RequestHead) (bytes tail : List ℕ) (at : ℕ) → bytes ≡ open_head h ++ tail → at ≡ length (print_blank h.blank) → drop at bytes ≡ body h ++ tail
+pub text_behind : (h : RequestHead) (bytes tail : List ℕ) (at : ℕ) → bytes ≡ open_head h ++ tail → at ≡ length (print_blank h.blank)
+    → drop at bytes ≡ body h ++ tail
 text_behind h bytes tail at e f = rw (f, e ∙ open_is h tail) (drop_front (print_blank h.blank) (body h ++ tail))
   where
     drop_front : (a b : List ℕ) → drop (length a) (a ++ b) ≡ b
@@ -144,7 +158,8 @@ text_behind h bytes tail at e f = rw (f, e ∙ open_is h tail) (drop_front (prin
     drop_front (x ∷ a) b = drop_front a b
 
 pub open_length : (h : RequestHead) → length (open_head h) ≡ length (print_blank h.blank) + length (body h)
-open_length h = omega (arith, ap length (sym (append-nil (open_head h)) ∙ open_is h []), length-append (print_blank h.blank) (body h ++ []), ap length (append-nil (body h)))
+open_length h = omega (arith, ap length (sym (append-nil (open_head h))
+    ∙ open_is h []), length-append (print_blank h.blank) (body h ++ []), ap length (append-nil (body h)))
 
 get_drop : (xs : List ℕ) (n k : ℕ) → slice_index (drop n xs) k ≡ slice_index xs (n + k)
 get_drop xs n k = get_or-drop n xs k 0
@@ -154,7 +169,7 @@ take_front a b = take-append-le (length a) a b (omega arith) ∙ take_all (lengt
 
 -- where both searches find a place, it is where the open head ends
 pub behind_found : (bytes : List ℕ) (start at : ℕ) → IsFirstVisible bytes start → IsBehind (drop start bytes) at
-    → (h : RequestHead) (b : ℕ) (rest : List ℕ) → IsRequestHead h → length h.fields ≡ 64 → bytes ≡ open_head h ++ b ∷ rest
+    → (h : RequestHead) (b : ℕ) (rest : List ℕ) → IsRequestHead h → length h.fields ≡ MOST_FIELDS → bytes ≡ open_head h ++ b ∷ rest
     → start + at ≡ length (open_head h)
 behind_found bytes start at first behind h b rest good full e =
     let begin = start_is h bytes (b ∷ rest) start good e first in
@@ -167,13 +182,14 @@ behind_feed bytes start at v =
     ap (λ (k : ℕ). slice_index bytes k) (sym same) ∙ sym (get_drop bytes start (at - 1)) ∙ v.feed
 
 pub none_behind : (bytes : List ℕ) (start : ℕ) → IsFirstVisible bytes start
-    → ((k : ℕ) → k < length (drop start bytes) → feeds_before (drop start bytes) k ≢ 65)
-    → (h : RequestHead) (b : ℕ) (rest : List ℕ) → IsRequestHead h → length h.fields ≡ 64 → bytes ≡ open_head h ++ b ∷ rest → ⊥
+    → ((k : ℕ) → k < length (drop start bytes) → feeds_before (drop start bytes) k ≢ LINES)
+    → (h : RequestHead) (b : ℕ) (rest : List ℕ) → IsRequestHead h → length h.fields ≡ MOST_FIELDS → bytes ≡ open_head h ++ b ∷ rest → ⊥
 none_behind bytes start first none h b rest good full e =
     let begin = start_is h bytes (b ∷ rest) start good e first in
     let text = text_behind h bytes (b ∷ rest) start e begin in
     none (length (body h)) (omega (arith, ap length text, length-append (body h) (b ∷ rest)))
-    (ap (λ (t : List ℕ). count_by is_feed (take (length (body h)) t)) text ∙ ap (count_by is_feed) (take_front (body h) (b ∷ rest)) ∙ body_feeds h good ∙ ap (λ (n : ℕ). 1 + n) full)
+    (ap (λ (t : List ℕ). count_by is_feed (take (length (body h)) t)) text ∙ ap (count_by is_feed) (take_front (body h) (b ∷ rest))
+        ∙ body_feeds h good ∙ ap (λ (n : ℕ). 1 + n) full)
 
 none_at : (p x : List ℕ) → Stops is_newline x → ((k : ℕ) → k < length (p ++ x) → is_newline (slice_index (p ++ x) k) ≡ true) → ⊥
 none_at [] [] stops none = stops

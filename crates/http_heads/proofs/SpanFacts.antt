@@ -6,6 +6,7 @@ use Rattle.httparse.specs.Spans.{IsRequestOf, IsRequestAt, IsRequestWithin, head
 use Rattle.httparse.specs.declared.spans.HeaderSpan.{HeaderSpan}
 use Rattle.httparse.specs.declared.spans.RequestSpans.{RequestSpans}
 use Rattle.http_heads.specs.Heads.{IsHead}
+use Rattle.http_heads.specs.declared.decision.TheConstants.{MOST_FIELDS}
 
 pub fields_counted : (bytes : List ℕ) (headers : List HeaderSpan) (spans : RequestSpans) (h : RequestHead)
     → IsRequestAt bytes headers spans h → spans.headers ≤ length headers → length h.fields ≡ spans.headers
@@ -14,8 +15,8 @@ fields_counted bytes headers spans h at fits =
     ∙ omega (arith, length-take spans.headers headers)
 
 pub full_head : (bytes : List ℕ) (headers : List HeaderSpan) (spans : RequestSpans) → IsRequestOf bytes headers spans
-    → IsRequestWithin bytes headers spans → spans.len ≡ length bytes → spans.headers ≡ 64
-    → (h : RequestHead) × IsHead bytes h × (length h.fields ≡ 64)
+    → IsRequestWithin bytes headers spans → spans.len ≡ length bytes → spans.headers ≡ MOST_FIELDS
+    → (h : RequestHead) × IsHead bytes h × (length h.fields ≡ MOST_FIELDS)
 full_head bytes headers spans of within len count = (
   of.0,
   subst (λ (t : List ℕ). ReadsRequest bytes of.0 t) (drop_all spans.len bytes (omega (arith, len))) of.1.reads,

@@ -16,7 +16,8 @@ other_at test [] x c zero all fails v = refl
 other_at test [] x c (suc n) all fails v = absurd (false≢true (sym fails ∙ v.earlier 0 (omega arith)))
 other_at test (d ∷ p) x c zero all fails v = absurd (false≢true (sym v.fails ∙ All-head (λ b. test b ≡ true) d p all))
 other_at test (d ∷ p) x c (suc n) all fails v =
-    let rest = other_at test p x c n (All-tail (λ b. test b ≡ true) d p all) fails (record { within = omega (arith, v.within); fails = v.fails; earlier = λ k below. v.earlier (suc k) (omega arith) }) in
+    let rest = other_at test p x c n (All-tail (λ b. test b ≡ true) d p all) fails (record { within = omega
+        (arith, v.within); fails = v.fails; earlier = λ k below. v.earlier (suc k) (omega arith) }) in
     omega (arith, rest)
 
 at_length : (a r : List ℕ) (b : ℕ) → slice_index (a ++ b ∷ r) (length a) ≡ b
@@ -39,10 +40,12 @@ open_target text at v some space uri = (
   drop (at + 1) text,
   (
     omega (arith, v.within, some, length-take at text),
-    All-from_get_or (λ b. IsTrue (is_token_byte b)) _ 0 λ k below. let inside : k < at = omega (arith, length-take at text) in rw (get_or-take at text k 0 inside) (v.earlier k inside),
+    All-from_get_or (λ b. IsTrue (is_token_byte b)) _ 0 λ k below. let inside : k < at = omega (arith, length-take at text) in rw
+        (get_or-take at text k 0 inside) (v.earlier k inside),
   ),
   All-from_get_or (λ b. IsTrue (is_uri_byte b)) _ 0 uri,
-  sym (take-append-drop at text) ∙ ap (λ (t : List ℕ). take at text ++ t) (drop_more text at 0 v.within) ∙ ap (λ (b : ℕ). take at text ++ b ∷ drop (at + 1) text) space,
+  sym (take-append-drop at text) ∙ ap (λ (t : List ℕ). take at text ++ t) (drop_more text at 0 v.within)
+      ∙ ap (λ (b : ℕ). take at text ++ b ∷ drop (at + 1) text) space,
 )
 
 place : (text : List ℕ) (at : ℕ) → IsFirstOther is_token_byte text at → (o : IsOpenTarget text) → at ≡ length o.0
@@ -52,19 +55,22 @@ pub not_at_start : (text : List ℕ) (at : ℕ) → IsFirstOther is_token_byte t
 not_at_start text at v zero_at o = omega (arith, place text at v o, zero_at, o.2.0)
 
 pub not_space : (text : List ℕ) (at : ℕ) → IsFirstOther is_token_byte text at → slice_index text at ≢ 32 → IsOpenTarget text → ⊥
-not_space text at v other o = other (ap (λ (n : ℕ). slice_index text n) (place text at v o) ∙ ap (λ (t : List ℕ). slice_index t (length o.0)) o.4 ∙ at_length o.0 o.1 32)
+not_space text at v other o = other (ap (λ (n : ℕ). slice_index text n) (place text at v o) ∙ ap (λ (t : List ℕ). slice_index t (length o.0)) o.4
+    ∙ at_length o.0 o.1 32)
 
 pub not_uri : (text : List ℕ) (at : ℕ) → IsFirstOther is_token_byte text at → (AllPass is_uri_byte (drop (at + 1) text) → ⊥) → IsOpenTarget text → ⊥
 not_uri text at v none o =
     let back : drop (at + 1) text ≡ o.1 = ap (λ (t : List ℕ). drop (at + 1) t) o.4 ∙ drop_past o.0 o.1 32 at (place text at v o) in
     none (subst (AllPass is_uri_byte) (sym back) o.3)
 
-none_other_at : (test : ℕ → Bool) (p x : List ℕ) (c : ℕ) → test c ≡ false → ((k : ℕ) → k < length (p ++ c ∷ x) → test (slice_index (p ++ c ∷ x) k) ≡ true) → ⊥
+none_other_at : (test : ℕ → Bool) (p x : List ℕ) (c : ℕ) → test c ≡ false → ((k : ℕ) → k < length (p ++ c ∷ x)
+    → test (slice_index (p ++ c ∷ x) k) ≡ true) → ⊥
 none_other_at test [] x c fails none = false≢true (sym fails ∙ none 0 (omega arith))
 none_other_at test (d ∷ p) x c fails none = none_other_at test p x c fails (λ k below. none (suc k) (omega (arith, below)))
 
 pub none_other : (text : List ℕ) → ((k : ℕ) → k < length text → is_token_byte (slice_index text k) ≡ true) → IsOpenTarget text → ⊥
-none_other text none o = none_other_at is_token_byte o.0 o.1 32 space_ends_token (subst (λ (t : List ℕ). (k : ℕ) → k < length t → is_token_byte (slice_index t k) ≡ true) o.4 none)
+none_other text none o = none_other_at is_token_byte o.0 o.1 32 space_ends_token (subst (λ (t : List ℕ). (k : ℕ) → k < length t
+    → is_token_byte (slice_index t k) ≡ true) o.4 none)
 
 -- ---- the empty lines
 
@@ -83,14 +89,16 @@ AreBlank p = (es : List LineEnd) × (p ≡ print_blank es)
 abbrev Shorter : ℕ → List ℕ → Type 0
 Shorter n x = (p : List ℕ) → length p ≤ n → All (λ b. is_newline b ≡ true) p → Whole p x → AreBlank p
 
-after_return : (n : ℕ) (p x : List ℕ) → Shorter n x → length p ≤ n → All (λ b. is_newline b ≡ true) p → Stops is_newline x → slice_index (p ++ x) 0 ≡ 10 → Whole p x → AreBlank (13 ∷ p)
+after_return : (n : ℕ) (p x : List ℕ) → Shorter n x → length p ≤ n → All (λ b. is_newline b ≡ true) p → Stops is_newline x
+    → slice_index (p ++ x) 0 ≡ 10 → Whole p x → AreBlank (13 ∷ p)
 after_return n [] [] shorter few all stops feed ends = absurd stops
 after_return n [] (b ∷ x) shorter few all stops feed ends = absurd (false≢true (sym (subst (λ (v : ℕ). is_newline v ≡ false) feed stops)))
 after_return n (d ∷ p) x shorter few all stops feed ends =
     let more = shorter p (omega (arith, few)) (All-tail (λ b. is_newline b ≡ true) d p all) (λ k below. ends (suc k) (omega (arith, below))) in
     (crlf ∷ more.0, ap (λ (b : ℕ). 13 ∷ b ∷ p) feed ∙ ap (λ (t : List ℕ). 13 ∷ 10 ∷ t) more.1)
 
-one_more : (n c : ℕ) (p x : List ℕ) → Shorter n x → length p ≤ n → All (λ b. is_newline b ≡ true) p → Stops is_newline x → Whole (c ∷ p) x → (c ≡ 13) ⊎ (c ≡ 10) → AreBlank (c ∷ p)
+one_more : (n c : ℕ) (p x : List ℕ) → Shorter n x → length p ≤ n → All (λ b. is_newline b ≡ true) p → Stops is_newline x → Whole (c ∷ p) x
+    → (c ≡ 13) ⊎ (c ≡ 10) → AreBlank (c ∷ p)
 one_more n c p x shorter few all stops ends (inl e) =
     let more = after_return n p x shorter few all stops (ends 0 (omega arith) e) (λ k below. ends (suc k) (omega (arith, below))) in
     (more.0, ap (λ (b : ℕ). b ∷ p) e ∙ more.1)
@@ -103,11 +111,13 @@ blank_of : (n : ℕ) (x p : List ℕ) → Stops is_newline x → length p ≤ n 
 blank_of n x [] stops few all ends = ([], refl)
 blank_of zero x (c ∷ p) stops few all ends = absurd (omega (arith, few))
 blank_of (suc n) x (c ∷ p) stops few all ends =
-    one_more n c p x (λ q less every whole. blank_of n x q stops less every whole) (omega (arith, few)) (All-tail (λ b. is_newline b ≡ true) c p all) stops ends
+    one_more n c p x (λ q less every whole. blank_of n x q stops less every whole) (omega (arith, few)) (All-tail
+        (λ b. is_newline b ≡ true) c p all) stops ends
     (is_one c (All-head (λ b. is_newline b ≡ true) c p all))
 
 -- in empty lines each CR has its LF
-blank_ends : (es : List LineEnd) (x : List ℕ) (k : ℕ) → k < length (print_blank es) → slice_index (print_blank es ++ x) k ≡ 13 → slice_index (print_blank es ++ x) (suc k) ≡ 10
+blank_ends : (es : List LineEnd) (x : List ℕ) (k : ℕ) → k < length (print_blank es) → slice_index (print_blank es ++ x) k ≡ 13
+    → slice_index (print_blank es ++ x) (suc k) ≡ 10
 blank_ends [] x k below return = absurd (omega (arith, below))
 blank_ends (crlf ∷ es) x zero below return = refl
 blank_ends (crlf ∷ es) x (suc zero) below return = absurd (omega (arith, return))
@@ -118,11 +128,13 @@ blank_ends (lf ∷ es) x (suc k) below return = blank_ends es x k (omega (arith,
 visible : (bytes : List ℕ) (start : ℕ) → IsFirstVisible bytes start → Stops is_newline (drop start bytes)
 visible bytes start v = rw (drop_more bytes start 0 v.within) v.visible
 
-pub in_target_yes : (bytes : List ℕ) (start : ℕ) → IsFirstVisible bytes start → HasWholeEnds bytes start → IsOpenTarget (drop start bytes) → EndsInTarget bytes
+pub in_target_yes : (bytes : List ℕ) (start : ℕ) → IsFirstVisible bytes start → HasWholeEnds bytes start → IsOpenTarget (drop start bytes)
+    → EndsInTarget bytes
 in_target_yes bytes start v ends o =
     let whole : take start bytes ++ drop start bytes ≡ bytes = take-append-drop start bytes in
     let blank = blank_of (length (take start bytes)) (drop start bytes) (take start bytes) (visible bytes start v) (omega arith)
-        (All-from_get_or (λ b. is_newline b ≡ true) _ 0 λ k below. let inside : k < start = omega (arith, length-take start bytes) in rw (get_or-take start bytes k 0 inside) (v.earlier k inside))
+        (All-from_get_or (λ b. is_newline b ≡ true) _ 0 λ k below. let inside : k < start = omega (arith, length-take start bytes) in rw
+            (get_or-take start bytes k 0 inside) (v.earlier k inside))
         (subst (λ (t : List ℕ). (k : ℕ) → k < length (take start bytes) → slice_index t k ≡ 13 → slice_index t (suc k) ≡ 10) (sym whole)
         (λ k below return. let same : suc k ≡ k + 1 = omega arith in rw same (ends k (omega (arith, length-take start bytes)) return))) in (
       blank.0,
@@ -130,7 +142,8 @@ in_target_yes bytes start v ends o =
       o.1,
       o.2,
       o.3,
-      sym whole ∙ ap (λ (t : List ℕ). t ++ drop start bytes) blank.1 ∙ ap (λ (t : List ℕ). print_blank blank.0 ++ t) o.4 ∙ sym (append_assoc (print_blank blank.0) o.0 (32 ∷ o.1)),
+      sym whole ∙ ap (λ (t : List ℕ). t ++ drop start bytes) blank.1 ∙ ap (λ (t : List ℕ). print_blank blank.0 ++ t) o.4
+          ∙ sym (append_assoc (print_blank blank.0) o.0 (32 ∷ o.1)),
     )
 
 start_of : (bytes : List ℕ) (start : ℕ) → IsFirstVisible bytes start → (x : EndsInTarget bytes) → start ≡ length (print_blank x.0)
@@ -142,7 +155,8 @@ pub no_ends : (bytes : List ℕ) (start : ℕ) → IsFirstVisible bytes start �
 no_ends bytes start v none x =
     let e = x.5 ∙ append_assoc (print_blank x.0) x.1 (32 ∷ x.2) in
     none (subst (λ (t : List ℕ). (k : ℕ) → k < start → slice_index t k ≡ 13 → slice_index t (k + 1) ≡ 10) (sym e)
-    (λ k below return. let same : k + 1 ≡ suc k = omega arith in rw same (blank_ends x.0 (x.1 ++ 32 ∷ x.2) k (omega (arith, start_of bytes start v x)) return)))
+    (λ k below return. let same : k + 1 ≡ suc k = omega arith in rw same (blank_ends x.0 (x.1
+        ++ 32 ∷ x.2) k (omega (arith, start_of bytes start v x)) return)))
 
 drop_front : (a b : List ℕ) → drop (length a) (a ++ b) ≡ b
 drop_front [] b = refl
@@ -151,7 +165,8 @@ drop_front (x ∷ a) b = drop_front a b
 pub not_open : (bytes : List ℕ) (start : ℕ) → IsFirstVisible bytes start → (IsOpenTarget (drop start bytes) → ⊥) → EndsInTarget bytes → ⊥
 not_open bytes start v none x =
     let e = x.5 ∙ append_assoc (print_blank x.0) x.1 (32 ∷ x.2) in
-    none (x.1, x.2, x.3, x.4, ap (λ (n : ℕ). drop n bytes) (start_of bytes start v x) ∙ ap (λ (t : List ℕ). drop (length (print_blank x.0)) t) e ∙ drop_front (print_blank x.0) (x.1 ++ 32 ∷ x.2))
+    none (x.1, x.2, x.3, x.4, ap (λ (n : ℕ). drop n bytes) (start_of bytes start v x) ∙ ap (λ (t : List ℕ). drop (length (print_blank x.0)) t) e
+        ∙ drop_front (print_blank x.0) (x.1 ++ 32 ∷ x.2))
 
 none_shown : (p x : List ℕ) → Stops is_newline x → ((k : ℕ) → k < length (p ++ x) → is_newline (slice_index (p ++ x) k) ≡ true) → ⊥
 none_shown [] [] stops none = stops

@@ -2,7 +2,7 @@
 use Rattle.std.specs.Prelude.{ℕ, ◌≡◌, ◌≢◌, ◌≤◌, ◌<◌, ◌⊎◌, List, [], ◌∷◌, ◌++◌, length}
 use Rattle.std.specs.List.{flat_map}
 use Rattle.httparse.specs.Grammar.{RequestHead, IsRequestHead, ReadsRequest, EndsInTarget, print_blank, print_version, print_end, print_field}
-use Rattle.httparse.specs.Spans.{IsRequestAt}
+use Rattle.httparse.specs.Spans.{IsRequestAt, IsRequestWithin}
 use Rattle.httparse.specs.declared.spans.HeaderSpan.{HeaderSpan}
 use Rattle.http_heads.specs.declared.decision.TheConstants.{HEAD_LIMIT, MOST_FIELDS}
 use Rattle.http_heads.specs.declared.decision.Decision.{Decision}
@@ -65,7 +65,8 @@ pub record IsOpen (bytes : List ℕ) : Type 0 where
 -- what is known of the bytes of a head
 abbrev pub Decides : List ℕ → List HeaderSpan → Decision → Type 0
 Decides bytes headers (decision.Whole spans) =
-    (h : RequestHead) × IsRequestAt bytes headers spans h × (length h.fields ≤ MOST_FIELDS) × (spans.len ≤ HEAD_LIMIT)
+    IsRequestWithin bytes headers spans
+    × ((h : RequestHead) × IsRequestAt bytes headers spans h × (length h.fields ≤ MOST_FIELDS) × (spans.len ≤ HEAD_LIMIT))
 Decides bytes headers decision.Wanting = IsOpen bytes
 Decides bytes headers decision.TooLarge = RefusesLarge bytes
 Decides bytes headers decision.Malformed = RefusesMalformed bytes

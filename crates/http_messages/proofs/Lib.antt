@@ -1,0 +1,4 @@
+pub mod FrameFacts
+pub mod HeldFacts
+pub mod MessageFacts
+pub mod SaidFacts
