@@ -10,12 +10,10 @@ use Rattle.http_routes.specs.Records.{EndsIn, IsWithoutEnd}
 
 -- a test of two texts that passes
 same_texts : (a b : List ℕ) (t : Bool) → Decides t (a ≡ b) → t ≡ true → a ≡ b
-same_texts a b true d e = d
-same_texts a b false d e = absurd (false≢true e)
+same_texts a b t d e = d.0 e
 
 other_texts : (a b : List ℕ) (t : Bool) → Decides t (a ≡ b) → t ≡ false → a ≡ b → ⊥
-other_texts a b true d e same = false≢true (sym e)
-other_texts a b false d e same = false≢true (d.1 same)
+other_texts a b t d e same = false≢true (sym e ∙ d.1 same)
 
 -- the bytes behind a front, counted from the end
 behind : (front : List ℕ) (byte : ℕ) → drop (length (front ++ byte ∷ []) - 1) (front ++ byte ∷ []) ≡ byte ∷ []

@@ -26,7 +26,7 @@ fn without_end(body: &[u8]) -> &[u8]
 #[tactic(auto, using(crate::proofs::RouteFacts::name_is, crate::proofs::RouteFacts::prefix_fits))]
 fn named(alloc: Global, word: &[u8], target: &[u8], prefix: &[u8]) -> Result<Bytes, NoMemory>
     requires { (name : List ℕ) × (target.now ≡ prefix.now ++ name) }
-    ensures { IfOk result (λ record. (name : List ℕ) → target.now ≡ prefix.now ++ name → record ≡ word.now ++ name) }
+    ensures { IfOk result (λ bytes. (name : List ℕ) → target.now ≡ prefix.now ++ name → bytes ≡ word.now ++ name) }
 {
     let (_, name) = target.split_at(prefix.len());
     let mut record = word.to_vec(alloc)?;
@@ -41,7 +41,7 @@ fn named(alloc: Global, word: &[u8], target: &[u8], prefix: &[u8]) -> Result<Byt
 /// `NoMemory` where memory was refused.
 pub(crate) fn record_of(alloc: Global, place: Place, target: &[u8], body: &[u8]) -> Result<Bytes, NoMemory>
     requires { (name : List ℕ) × IsTarget place name target.now }
-    ensures { IfOk result (λ record. (name : List ℕ) → IsTarget place name target.now → IsRecord place name body.now record) }
+    ensures { IfOk result (λ bytes. (name : List ℕ) → IsTarget place name target.now → IsRecord place name body.now bytes) }
 {
     match place {
         Place::Record => Bytes::from_slice(alloc, without_end(body)),

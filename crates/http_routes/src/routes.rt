@@ -88,9 +88,8 @@ impl Routes {
         match self.locate(target) {
             Some(place) => {
                 if !is_allowed(place, method) {
-                    return Routed::NotAllowed {
-                        get: is_read(place),
-                    };
+                    let get = is_read(place);
+                    return Routed::NotAllowed { get };
                 }
                 match record_of(alloc, place, target, body) {
                     Ok(record) => Routed::Record(record),
