@@ -10,14 +10,14 @@ use Rattle.httparse.proofs.GrammarLemmas.{ReadsRequest-append}
 use Rattle.http_heads.specs.Heads.{IsOpen, open_head, RefusesLarge, RefusesMalformed}
 use Rattle.http_heads.specs.declared.decision.TheConstants.{HEAD_LIMIT, MOST_FIELDS}
 use Rattle.http_heads.proofs.HeadFacts.{print_open, refuses_more, malformed_more}
-use Rattle.http_messages.specs.declared.head.Head.{Head}
+use Rattle.http_messages.specs.declared.said.Head.{Head}
 use Rattle.http_messages.specs.declared.request.Incoming.{Incoming}
 use Rattle.http_messages.specs.declared.request.Incoming.TheVariants as incoming
 use Rattle.http_messages.specs.declared.status.TheConstants.{HEAD_TOO_LARGE, MALFORMED}
 use Rattle.http_messages.specs.Frames.{Frame, Body, Refused, frame_of}
 use Rattle.http_messages.specs.Given.{HoldsHead, HoldsSaid, IsGiven}
 use Rattle.http_messages.specs.Said.{SaysOr}
-use Rattle.http_messages.specs.declared.head.HeadRead.TheVariants as reads
+use Rattle.http_messages.specs.declared.said.HeadRead.TheVariants as reads
 use Rattle.http_messages.specs.Messages.{BeginsWith, IsMessage, EndsInBody, Comes, GivesMessage, IsBroken, Turns}
 
 -- a read before changes nothing of what comes

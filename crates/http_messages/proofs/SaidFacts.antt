@@ -8,7 +8,7 @@ use Rattle.httparse.specs.declared.spans.HeaderSpan.{HeaderSpan}
 use Rattle.httparse.specs.declared.spans.RequestSpans.{RequestSpans}
 use Rattle.http_messages.specs.declared.frame.Framing.{Framing}
 use Rattle.http_messages.specs.declared.frame.Framing.TheVariants as framings
-use Rattle.http_messages.specs.declared.head.Head.{Head}
+use Rattle.http_messages.specs.declared.said.Head.{Head}
 use Rattle.http_messages.specs.Counts.{IsFrame}
 use Rattle.http_messages.specs.Frames.{Frame, Body, Refused, Pair, frame, frame_of, is_close, asks_close}
 use Rattle.http_messages.specs.Said.{Says}

@@ -4,9 +4,9 @@ use Rattle.httparse.specs.Grammar.{RequestHead}
 use Rattle.httparse.specs.Spans.{IsRequestAt}
 use Rattle.httparse.specs.declared.spans.HeaderSpan.{HeaderSpan}
 use Rattle.httparse.specs.declared.spans.RequestSpans.{RequestSpans}
-use Rattle.http_messages.specs.declared.head.Head.{Head}
-use Rattle.http_messages.specs.declared.head.HeadRead.{HeadRead}
-use Rattle.http_messages.specs.declared.head.HeadRead.TheVariants as reads
+use Rattle.http_messages.specs.declared.said.Head.{Head}
+use Rattle.http_messages.specs.declared.said.HeadRead.{HeadRead}
+use Rattle.http_messages.specs.declared.said.HeadRead.TheVariants as reads
 use Rattle.http_messages.specs.Frames.{Body, Refused, frame_of, asks_close}
 
 -- the code's words for a head

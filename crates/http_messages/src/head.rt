@@ -7,36 +7,13 @@ ghost use Rattle.httparse.specs.Spans.{header_bytes, IsHeaderWithin, IsRequestAt
 ghost use Rattle.http_messages.specs.Frames.{asks_close, frame_of, is_close};
 ghost use Rattle.http_messages.specs.Counts.{IsFrame, IsSmall};
 ghost use Rattle.http_messages.specs.Said.{SaysOr};
-ghost use Rattle.http_messages.specs.declared.frame.TheConstants.{BODY_LIMIT};
 
 use crate::frame::{Framing, frame_of, is_called};
+use crate::said::{Head, HeadRead};
 use grid_exact::Bytes;
 use http::Method;
 use httparse::spans::{HeaderSpan, RequestSpans};
 use std::alloc::Global;
-
-/// What a head says.
-#[derive(Drop)]
-pub(crate) struct Head {
-    pub(crate) method: Method,
-    pub(crate) target: Bytes,
-    /// The body has so many bytes.
-    pub(crate) size: usize,
-    /// The session ends after the reply.
-    pub(crate) close: bool,
-    ghost fits: { size ≤ BODY_LIMIT },
-}
-
-/// What came of reading a head.
-#[derive(Drop)]
-pub(crate) enum HeadRead {
-    /// It says this.
-    Head(Head),
-    /// Its fields are refused with this status.
-    Refused(u16),
-    /// Memory was refused.
-    NoMemory,
-}
 
 /// Whether a field asks that the session ends.
 fn is_close(bytes: &[u8], header: HeaderSpan) -> bool

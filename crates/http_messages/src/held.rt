@@ -3,7 +3,9 @@
 ghost use Rattle.std.specs.Prelude.{◌≡◌, ◌≤◌, ◌<◌, ◌+◌, List, ℕ, [], IfOk, IsErrOf, length, true, false, drop};
 ghost use Rattle.std.specs.Io.KnownBytes.{Keeps, IsAtEnd, prepend_known};
 ghost use Rattle.oe_http.specs.Causes.{Rose};
+ghost use Rattle.oe_http.specs.declared.lines.TheConstants.{INPUT_LIMIT};
 ghost use Rattle.http_heads.specs.Heads.{Decides};
+ghost use Rattle.http_messages.specs.declared.held.TheConstants.{READ_SIZE};
 ghost use Rattle.http_messages.specs.Heading.{HeadComes, UnlessFailed};
 
 use http_heads::{Decision, MOST_FIELDS, decide};

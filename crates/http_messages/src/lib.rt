@@ -7,6 +7,7 @@ mod held;
 mod number;
 mod request;
 mod response;
+mod said;
 mod status;
 
 pub use frame::BODY_LIMIT;

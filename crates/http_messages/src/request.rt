@@ -9,8 +9,9 @@ ghost use Rattle.http_heads.specs.declared.decision.TheConstants.{HEAD_LIMIT};
 ghost use Rattle.http_messages.specs.Messages.{GivesMessage, IsBroken, Turns, most_left, unread};
 ghost use Rattle.http_messages.specs.Given.{HoldsSaid, IsGiven};
 
-use crate::head::{Head, HeadRead, read_head};
+use crate::head::read_head;
 use crate::held::{HeadEnd, Held, ReadEnd, drop_front, hold, next_head};
+use crate::said::{Head, HeadRead};
 use crate::status::{HEAD_TOO_LARGE, MALFORMED};
 use grid_exact::Bytes;
 use http::Method;
@@ -132,7 +133,7 @@ fn take_request<S: Source>(
 
 /// The next request of a link. `held` keeps what was read and belongs to later requests. A body is read once, and its
 /// head is not looked at again while it comes.
-#[tactic(auto, using(crate::proofs::MessageFacts::gives_on, crate::proofs::MessageFacts::gives_broken))]
+#[tactic(auto, using(crate::proofs::MessageFacts::gives_on, crate::proofs::MessageFacts::gives_broken, crate::proofs::MessageFacts::turns_broken))]
 pub fn next_request<S: Source>(alloc: Global, link: &mut S, held: &mut Held) -> Incoming
     ensures gives { GivesMessage (unread held.old (S.left link.old)) (unread held.new (S.left link.new)) result }
     ensures turns { Turns (most_left held.old) (most_left held.new) result }
