@@ -75,14 +75,16 @@ begins held head len xs frame x framed = record {
 inside : (held : List ℕ) (head : RequestHead) (len : ℕ) → HoldsHead held head len → len ≤ length held
 inside held head len x = omega (arith, x.len_is, ap length x.reads.1, length-append (print_request head) (drop len held))
 
--- it has a byte at least
-some_byte : (held : List ℕ) (head : RequestHead) (len : ℕ) → HoldsHead held head len → 0 < len
-some_byte held head len x =
-    omega (arith, x.len_is, ap length (print_open head), length-append (open_head head) (print_end head.last), ended head.last)
+-- a head has a byte at least
+pub head_some : (head : RequestHead) → 0 < length (print_request head)
+head_some head = omega (arith, ap length (print_open head), length-append (open_head head) (print_end head.last), ended head.last)
   where
     ended : (last : LineEnd) → 0 < length (print_end last)
     ended crlf = omega arith
     ended lf = omega arith
+
+some_byte : (held : List ℕ) (head : RequestHead) (len : ℕ) → HoldsHead held head len → 0 < len
+some_byte held head len x = omega (arith, x.len_is, head_some head)
 
 -- a parse says that a head is held
 pub holds : (bytes : List ℕ) (headers : List HeaderSpan) (spans : RequestSpans) (head : RequestHead) → IsRequestAt bytes headers spans head

@@ -4,6 +4,7 @@
 mod frame;
 mod head;
 mod held;
+mod laws;
 mod number;
 mod request;
 mod response;
@@ -12,6 +13,7 @@ mod status;
 
 pub use frame::BODY_LIMIT;
 pub use held::Held;
+pub use laws::one_message;
 pub use request::{Incoming, next_request};
 pub use response::{SendErr, write_response};
 pub use status::{
