@@ -1,7 +1,7 @@
 -- Whether a prefix of some bytes is crowded.
-use Rattle.std.proofs.Common.{◌≡◌, ◌≢◌, ℕ, ◌+◌, ◌-◌, ◌<◌, ◌≤◌, List, [], ◌∷◌, ◌++◌, length, take, drop, slice_index, refl, sym, ap, ◌∙◌, subst, arith, append_assoc, append-nil, length-append, length-take, take-append-drop, get_or-take, Option, Some, None}
+use Rattle.std.proofs.Common.{◌≡◌, ◌≢◌, ℕ, ◌+◌, ◌-◌, ◌<◌, ◌≤◌, List, [], ◌∷◌, ◌++◌, length, take, drop, slice_index, refl, sym, ap, ◌∙◌, subst, arith, append_assoc, append-nil, length-append, length-take, take-append-drop, get_or-take, Some, None}
 use Rattle.std.proofs.lemmas.List.{take-append-le, take_all, drop_more}
-use Rattle.httparse.specs.Grammar.{RequestHead, IsRequestHead, LineEnd, crlf, lf, print_request, print_end}
+use Rattle.httparse.specs.Grammar.{RequestHead, IsRequestHead, LineEnd, crlf, lf, print_end}
 use Rattle.http_heads.specs.Heads.{IsHead, open_head, IsCrowded}
 use Rattle.http_heads.proofs.HeadFacts.{print_open, closed_is}
 use Rattle.http_heads.specs.declared.decision.TheConstants.{MOST_FIELDS}
@@ -40,30 +40,30 @@ pub return_not_crowded : (bytes q r : List ℕ) (at : ℕ) → ((h : RequestHead
     → slice_index bytes at ≡ 13 → bytes ≡ q ++ r → IsCrowded q → ⊥
 return_not_crowded bytes q r at found is e k =
     k.no_return (sym (at_length (open_head k.head) r k.byte) ∙ sym (ap (λ (t : List ℕ). slice_index t (length (open_head k.head)))
-        (whole bytes q r e k)) ∙ ap (λ (n : ℕ). slice_index bytes n) (sym (place_of bytes q r at found e k)) ∙ is)
+    (whole bytes q r e k)) ∙ ap (λ (n : ℕ). slice_index bytes n) (sym (place_of bytes q r at found e k)) ∙ is)
 
 pub feed_not_crowded : (bytes q r : List ℕ) (at : ℕ) → ((h : RequestHead) (b : ℕ) (rest : List ℕ) → IsRequestHead h → length h.fields ≡ MOST_FIELDS
     → bytes ≡ open_head h ++ b ∷ rest → Some at ≡ Some (length (open_head h)))
     → slice_index bytes at ≡ 10 → bytes ≡ q ++ r → IsCrowded q → ⊥
 feed_not_crowded bytes q r at found is e k =
     k.no_feed (sym (at_length (open_head k.head) r k.byte) ∙ sym (ap (λ (t : List ℕ). slice_index t (length (open_head k.head)))
-        (whole bytes q r e k)) ∙ ap (λ (n : ℕ). slice_index bytes n) (sym (place_of bytes q r at found e k)) ∙ is)
+    (whole bytes q r e k)) ∙ ap (λ (n : ℕ). slice_index bytes n) (sym (place_of bytes q r at found e k)) ∙ is)
 
 pub unclosed_not_crowded : (bytes q r : List ℕ) (at : ℕ) → ((h : RequestHead) (b : ℕ) (rest : List ℕ) → IsRequestHead h
     → length h.fields ≡ MOST_FIELDS → bytes ≡ open_head h ++ b ∷ rest → Some at ≡ Some (length (open_head h)))
     → ((h : RequestHead) → IsHead (take at bytes ++ 10 ∷ []) h → length h.fields ≡ MOST_FIELDS → ⊥) → bytes ≡ q ++ r → IsCrowded q → ⊥
 unclosed_not_crowded bytes q r at found unclosed e k =
     let front : take at bytes ≡ open_head k.head = ap (λ (n : ℕ). take n bytes) (place_of bytes q r at found e k)
-        ∙ ap (λ (t : List ℕ). take (length (open_head k.head)) t) (whole bytes q r e k) ∙ take_front (open_head k.head) (k.byte ∷ r) in
+    ∙ ap (λ (t : List ℕ). take (length (open_head k.head)) t) (whole bytes q r e k) ∙ take_front (open_head k.head) (k.byte ∷ r) in
     unclosed (record k.head { last = lf }) (subst (λ (t : List ℕ). IsHead (t
-        ++ 10 ∷ []) (record k.head { last = lf })) (sym front) (closed_is k.head k.good)) k.full
+    ++ 10 ∷ []) (record k.head { last = lf })) (sym front) (closed_is k.head k.good)) k.full
 
 last_of_take : (bytes a : List ℕ) (at b : ℕ) → at ≤ length bytes → take at bytes ≡ a ++ b ∷ [] → slice_index bytes (at - 1) ≡ b
 last_of_take bytes a at b fits e =
     let size : at ≡ length a + 1 = omega (arith, length-take at bytes, ap length e, length-append a (b ∷ [])) in
     let same : slice_index (a ++ b ∷ []) (length a) ≡ slice_index bytes (at - 1) =
-        ap (λ (t : List ℕ). slice_index t (length a)) (sym e) ∙ rw (get_or-take at bytes (length a) 0 (omega (arith, size))) (ap (λ
-            (n : ℕ). slice_index bytes n) (omega (arith, size))) in
+    ap (λ (t : List ℕ). slice_index t (length a)) (sym e) ∙ rw (get_or-take at bytes (length a) 0 (omega (arith, size))) (ap (λ
+    (n : ℕ). slice_index bytes n) (omega (arith, size))) in
     sym same ∙ at_length a [] b
 
 open_is_front : (h : RequestHead) (last : LineEnd) (bytes : List ℕ) (at : ℕ) → at ≤ length bytes → slice_index bytes (at - 1) ≡ 10
@@ -83,6 +83,14 @@ closed_crowded bytes at inside fed no_return no_feed h reads full =
       drop (at + 1) bytes,
       sym (take-append-drop at bytes) ∙ ap (λ (t : List ℕ). take at bytes ++ t) (drop_more bytes at 0 inside)
           ∙ sym (append_assoc (take at bytes) (slice_index bytes at ∷ []) (drop (at + 1) bytes)),
-      record { head = h; byte = slice_index bytes at; good = reads.0; full = full; no_return = no_return; no_feed = no_feed; bytes_are = ap (λ
-          (t : List ℕ). t ++ slice_index bytes at ∷ []) front },
+      record {
+        head = h;
+        byte = slice_index bytes at;
+        good = reads.0;
+        full = full;
+        no_return = no_return;
+        no_feed = no_feed;
+        bytes_are = ap (λ
+            (t : List ℕ). t ++ slice_index bytes at ∷ []) front;
+      },
     )

@@ -1,17 +1,17 @@
 -- Facts on whole heads, heads that are cut short, and refusals.
-use Rattle.std.proofs.Common.{◌≡◌, ◌≢◌, ℕ, ◌+◌, ◌-◌, ◌<◌, ◌≤◌, ◌⊎◌, true, false, List, [], ◌∷◌, ◌++◌, length, take, drop, map, All, refl, sym, ap, ◌∙◌, subst, arith, append_assoc, append-nil, inl, inr, length-append, length-take, length-drop, take-append-drop, codes, IsUtf8}
+use Rattle.std.proofs.Common.{◌≡◌, ◌≢◌, ℕ, ◌-◌, ◌<◌, ◌≤◌, ◌⊎◌, true, false, List, [], ◌∷◌, ◌++◌, length, take, drop, All, refl, sym, ap, ◌∙◌, subst, arith, append_assoc, append-nil, inl, inr, length-append, length-take, length-drop, take-append-drop}
 use Rattle.std.specs.Prelude.{IsTrue}
 use Rattle.std.specs.List.{flat_map}
 use Rattle.std.proofs.lemmas.List.{nil_from_length}
-use Rattle.std.proofs.lemmas.List.Elements.{All-nil, All-cons, All-head, All-tail, All-push, All-append}
+use Rattle.std.proofs.lemmas.List.Elements.{All-nil, All-cons, All-head, All-tail, All-push}
 use Rattle.std.proofs.lemmas.Str.{IsUtf8-from_ascii}
 use Rattle.std.proofs.lemmas.Str.Ascii.{IsAscii-cons, IsAscii-nil}
 use Rattle.std.proofs.lemmas.Grind.{flat_map-append}
 use Rattle.std.proofs.lemmas.Bool.{false≢true}
 use Rattle.httparse.specs.Grammar.{RequestHead, IsRequestHead, ReadsRequest, EndsInTarget, HasNoRequest, NeverHasRequest, MayBecomeRequest, Field, IsField, AllPass, is_uri_byte, is_token_byte, IsToken, LineEnd, crlf, lf, print_request, print_blank, print_version, print_end, print_field, print_section}
-use Rattle.httparse.specs.Pieces.{Then, RequestStart, Section, Stops, is_newline}
+use Rattle.httparse.specs.Pieces.{RequestStart, Section, is_newline}
 use Rattle.httparse.specs.Spans.{RequestExceeds}
-use Rattle.httparse.proofs.GrammarLemmas.{cons-append, request_tree, request_pieces, print_request-append, ReadsRequest-append, request_prefix_free}
+use Rattle.httparse.proofs.GrammarLemmas.{cons-append, request_tree, request_pieces, print_request-append, ReadsRequest-append}
 use Rattle.httparse.proofs.PieceLemmas.{RequestStart_deterministic, Section_skip, Stops_token, token_is_no_newline, print_field-append}
 use Rattle.http_heads.specs.Heads.{IsHead, open_head, IsCrowded, IsTooLarge, IsHopeless, IsGood, RefusesLarge, RefusesMalformed, IsOpen}
 use Rattle.http_heads.specs.declared.decision.TheConstants.{HEAD_LIMIT, MOST_FIELDS}
@@ -107,7 +107,7 @@ goes_past h k b s rest good kgood no_return no_feed e =
     let kp = open_pieces k (print_request h ++ rest) (b ∷ s) kgood e in
     let same = RequestStart_deterministic.unique (request_tree h).0 (request_tree k).0 (print_request h ++ rest) hp.0 _ hp.1 kp in
     let section : Section (h.fields, h.last) (flat_map print_field k.fields ++ b ∷ s) rest =
-        subst (λ (m : List ℕ). Section (h.fields, h.last) m rest) same.1 hp.2 in
+    subst (λ (m : List ℕ). Section (h.fields, h.last) m rest) same.1 hp.2 in
     let skip = Section_skip k.fields h.fields h.last _ (b ∷ s) rest (kgood.fields, refl) section in
     let some = goes_on skip.0 h.last b s rest no_return no_feed skip.2 in
     omega (arith, ap length skip.1, length-append k.fields skip.0)
@@ -138,7 +138,7 @@ crowded_first c crowded q r e some =
           (closed_is crowded.head crowded.good)),
       λ good.
           let over = goes_past good.0 crowded.head crowded.byte [] r good.1.0 crowded.good crowded.no_return crowded.no_feed
-              (ap (λ (t : List ℕ). t ++ r) (sym (append-nil _) ∙ sym good.1.1) ∙ (sym e ∙ crowded.bytes_are)) in
+          (ap (λ (t : List ℕ). t ++ r) (sym (append-nil _) ∙ sym good.1.1) ∙ (sym e ∙ crowded.bytes_are)) in
           omega (arith, crowded.full, good.2),
     )
 
@@ -276,33 +276,39 @@ over_with h fs (d ∷ ds) good e full some =
     let one : IsField d = All-head IsField d ds (All-back IsField fs (d ∷ ds) all) in
     let line = first_byte d.name (58 ∷ (d.raw ++ (print_end d.end ++ flat_map print_field ds))) one.name in
     let lines : flat_map print_field h.fields ≡ flat_map print_field fs ++ line.0 ∷ line.1 =
-        ap (flat_map print_field) e ∙ flat_map-append print_field fs (d ∷ ds)
-        ∙ ap (λ (t : List ℕ). flat_map print_field fs ++ t) (print_field-append d (flat_map print_field ds) ∙ line.2) in
+    ap (flat_map print_field) e ∙ flat_map-append print_field fs (d ∷ ds)
+    ∙ ap (λ (t : List ℕ). flat_map print_field fs ++ t) (print_field-append d (flat_map print_field ds) ∙ line.2) in
     record {
       head = record h { fields = fs };
       byte = line.0;
       rest = line.1;
-      good = record { method = good.method; target = good.target; target_text = good.target_text; minor = good.minor; fields = All-front IsField fs
-          (d ∷ ds) all };
+      good = record {
+        method = good.method;
+        target = good.target;
+        target_text = good.target_text;
+        minor = good.minor;
+        fields = All-front IsField fs
+            (d ∷ ds) all;
+      };
       full = full;
       no_return = line.3;
       no_feed = line.4;
       opens = ap (λ (t : List ℕ). print_blank h.blank ++ h.method ++ 32 ∷ h.target ++ 32 ∷ print_version h.minor ++ print_end h.line_end ++ t) lines
           ∙ regroup_open (print_blank h.blank) h.method h.target (print_version h.minor) (print_end h.line_end) (flat_map print_field fs)
-              (line.0 ∷ line.1);
+          (line.0 ∷ line.1);
     }
 
 pub over : (h : RequestHead) → IsRequestHead h → MOST_FIELDS < length h.fields → Over h
 over h good many =
     over_with h (take MOST_FIELDS h.fields) (drop MOST_FIELDS h.fields) good (sym (take-append-drop MOST_FIELDS h.fields)) (omega
-        (arith, length-take MOST_FIELDS h.fields)) (omega (arith, length-drop MOST_FIELDS h.fields))
+    (arith, length-take MOST_FIELDS h.fields)) (omega (arith, length-drop MOST_FIELDS h.fields))
 
 pub too_many : (bytes : List ℕ) → RequestExceeds MOST_FIELDS bytes → (q r : List ℕ) × (bytes ≡ q ++ r) × IsCrowded q
 too_many bytes x =
     let o = over x.3 x.4.0 x.5 in
     let e : x.0 ++ 10 ∷ [] ≡ open_head o.head ++ o.byte ∷ (o.rest ++ print_end x.3.last) =
-        x.4.1 ∙ append-nil _ ∙ print_open x.3 ∙ ap (λ (t : List ℕ). t ++ print_end x.3.last) o.opens
-            ∙ append_assoc (open_head o.head) (o.byte ∷ o.rest) (print_end x.3.last) in
+    x.4.1 ∙ append-nil _ ∙ print_open x.3 ∙ ap (λ (t : List ℕ). t ++ print_end x.3.last) o.opens
+    ∙ append_assoc (open_head o.head) (o.byte ∷ o.rest) (print_end x.3.last) in
     let s = before_last x.0 (open_head o.head) (o.rest ++ print_end x.3.last) o.byte 10 e (some_end o.rest x.3.last) in (
       open_head o.head ++ o.byte ∷ [],
       s.0 ++ x.1,
@@ -346,7 +352,7 @@ at_limit bytes long open_front none = record {
     omega (arith, length-take HEAD_LIMIT bytes),
     λ good. none good.0 (drop HEAD_LIMIT bytes)
         (subst (λ (t : List ℕ). ReadsRequest t good.0 (drop HEAD_LIMIT bytes)) (take-append-drop HEAD_LIMIT bytes) (ReadsRequest-append
-            (take HEAD_LIMIT bytes) good.0 [] (drop HEAD_LIMIT bytes) good.1))
+        (take HEAD_LIMIT bytes) good.0 [] (drop HEAD_LIMIT bytes) good.1))
         good.2 (omega (arith, ap length (good.1.1 ∙ append-nil _), length-take HEAD_LIMIT bytes)),
   );
   first = λ q r e some. let front = shorter q r e some in let x = open_front.none q front.0 front.1 in (x.1, x.2);
@@ -354,18 +360,27 @@ at_limit bytes long open_front none = record {
   where
     cases : (q r : List ℕ) → length q < HEAD_LIMIT
         → ((u : List ℕ) × (q ≡ take (HEAD_LIMIT - 1) bytes ++ u) × (u ++ r ≡ drop (HEAD_LIMIT - 1) bytes)) ⊎ ((u : List ℕ) × (q
-            ++ u ≡ take (HEAD_LIMIT - 1) bytes))
+        ++ u ≡ take (HEAD_LIMIT - 1) bytes))
         → (s : List ℕ) × (take (HEAD_LIMIT - 1) bytes ≡ q ++ s)
-    cases q r few (inl x) = ([], sym (append-nil _ ∙ x.1 ∙ ap (λ (t : List ℕ). take (HEAD_LIMIT - 1) bytes
-        ++ t) (nil_from_length x.0 (omega (arith, ap length x.1, length-append (take (HEAD_LIMIT - 1) bytes) x.0, length-take
-        (HEAD_LIMIT - 1) bytes))) ∙ append-nil _))
+    cases q r few (inl x) = (
+      [],
+      sym (append-nil _ ∙ x.1 ∙ ap (λ (t : List ℕ). take (HEAD_LIMIT - 1) bytes
+          ++ t) (nil_from_length x.0 (omega (
+            arith,
+            ap length x.1,
+            length-append (take (HEAD_LIMIT - 1) bytes) x.0,
+            length-take
+                (HEAD_LIMIT - 1) bytes,
+          ))) ∙ append-nil _),
+    )
     cases q r few (inr x) = (x.0, sym x.1)
+
     shorter : (q r : List ℕ) → take HEAD_LIMIT bytes ≡ q ++ r → 0 < length r → (s : List ℕ) × (take (HEAD_LIMIT - 1) bytes ≡ q ++ s)
     shorter q r e some =
         cases q (r ++ drop HEAD_LIMIT bytes) (omega (arith, ap length e, length-append q r, length-take HEAD_LIMIT bytes))
         (two_fronts q (r ++ drop HEAD_LIMIT bytes) (take (HEAD_LIMIT - 1) bytes) (drop (HEAD_LIMIT - 1) bytes)
         (sym (append_assoc q r (drop HEAD_LIMIT bytes)) ∙ ap (λ (t : List ℕ). t ++ drop HEAD_LIMIT bytes) (sym e)
-            ∙ take-append-drop HEAD_LIMIT bytes ∙ sym (take-append-drop (HEAD_LIMIT - 1) bytes)))
+        ∙ take-append-drop HEAD_LIMIT bytes ∙ sym (take-append-drop (HEAD_LIMIT - 1) bytes)))
 
 -- the same, where the limit of fields is given as a length
 pub too_many_at : (room : ℕ) → room ≡ MOST_FIELDS → (bytes : List ℕ) → RequestExceeds room bytes → (q r : List ℕ) × (bytes ≡ q ++ r) × IsCrowded q

@@ -1,8 +1,8 @@
 -- No two outcomes hold of the same bytes.
-use Rattle.std.proofs.Common.{◌≡◌, ℕ, ◌<◌, ◌≤◌, ◌⊎◌, List, [], ◌∷◌, ◌++◌, length, refl, sym, ap, ◌∙◌, subst, arith, append_assoc, append-nil, inl, inr, length-append}
+use Rattle.std.proofs.Common.{◌≡◌, ℕ, ◌≤◌, ◌⊎◌, List, [], ◌∷◌, ◌++◌, length, sym, ap, ◌∙◌, subst, arith, append_assoc, append-nil, inl, inr, length-append}
 use Rattle.std.proofs.lemmas.List.{nil_from_length}
 use Rattle.httparse.specs.Grammar.{RequestHead, ReadsRequest, print_request}
-use Rattle.http_heads.specs.Heads.{IsCrowded, IsTooLarge, IsHopeless, IsGood, RefusesLarge, RefusesMalformed, open_head}
+use Rattle.http_heads.specs.Heads.{IsTooLarge, IsGood, RefusesLarge, RefusesMalformed, open_head}
 use Rattle.http_heads.proofs.HeadFacts.{two_fronts, goes_past}
 use Rattle.http_heads.specs.declared.decision.TheConstants.{HEAD_LIMIT, MOST_FIELDS}
 
@@ -21,17 +21,17 @@ good_front h bytes rest reads few = (h, (reads.0, sym (append-nil _)), few)
 good_at : (bytes rest : List ℕ) (h : RequestHead) → ReadsRequest bytes h rest → length h.fields ≤ MOST_FIELDS
     → length (print_request h) ≤ HEAD_LIMIT → (x : RefusesLarge bytes)
     → ((u : List ℕ) × (print_request h ≡ x.front ++ u) × (u ++ rest ≡ x.rest)) ⊎ ((u : List ℕ) × (print_request h ++ u ≡ x.front))
-        → IsTooLarge x.front → ⊥
+    → IsTooLarge x.front → ⊥
 good_at bytes rest h reads few small x (inl (u, e, f)) (inl crowded) =
     let over = goes_past h crowded.head crowded.byte u [] reads.0 crowded.good crowded.no_return crowded.no_feed
-        (append-nil _ ∙ e ∙ ap (λ (t : List ℕ). t ++ u) crowded.bytes_are ∙ append_assoc (open_head crowded.head) (crowded.byte ∷ []) u) in
+    (append-nil _ ∙ e ∙ ap (λ (t : List ℕ). t ++ u) crowded.bytes_are ∙ append_assoc (open_head crowded.head) (crowded.byte ∷ []) u) in
     omega (arith, over, crowded.full, few)
 good_at bytes rest h reads few small x (inl (u, e, f)) (inr long) =
     let none : u ≡ [] = nil_from_length u (omega (arith, ap length e, length-append x.front u, long.0, small)) in
     long.1 (subst IsGood (e ∙ ap (λ (t : List ℕ). x.front ++ t) none ∙ append-nil x.front) (good_front h bytes rest reads few))
 good_at bytes rest h reads few small x (inr ([], e)) (inl crowded) =
     let over = goes_past h crowded.head crowded.byte [] [] reads.0 crowded.good crowded.no_return crowded.no_feed
-        (e ∙ crowded.bytes_are) in
+    (e ∙ crowded.bytes_are) in
     omega (arith, over, crowded.full, few)
 good_at bytes rest h reads few small x (inr ([], e)) (inr long) = long.1 (subst IsGood (sym (append-nil _) ∙ e) (good_front h bytes rest reads few))
 good_at bytes rest h reads few small x (inr (b ∷ u, e)) large = (x.first (print_request h) (b ∷ u) (sym e) (omega arith)).1

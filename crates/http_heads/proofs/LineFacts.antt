@@ -1,17 +1,17 @@
 -- Where the lines of a head end.
-use Rattle.std.proofs.Common.{◌≡◌, ◌≢◌, ℕ, zero, suc, ◌+◌, ◌-◌, ◌<◌, ◌≤◌, ◌==◌, Bool, true, false, List, [], ◌∷◌, ◌++◌, length, take, drop, slice_index, All, cond, inl, inr, ◌⊎◌, refl, sym, ap, ◌∙◌, subst, arith, append_assoc, append-nil, length-append, length-take, length-drop, take-append-drop, get_or-drop, codes, Option, Some, None}
+use Rattle.std.proofs.Common.{◌≡◌, ◌≢◌, ℕ, zero, suc, ◌+◌, ◌-◌, ◌<◌, ◌≤◌, ◌==◌, Bool, true, false, List, [], ◌∷◌, ◌++◌, length, take, drop, slice_index, All, cond, inl, inr, ◌⊎◌, refl, sym, ap, ◌∙◌, subst, arith, append_assoc, append-nil, length-append, get_or-drop}
 use Rattle.std.specs.List.{flat_map, count_by}
 use Rattle.std.proofs.lemmas.List.{take-append-le, take_all}
 use Rattle.std.proofs.lemmas.List.Sums.{sum_by-append, sum_by-take-le}
-use Rattle.std.proofs.lemmas.List.Elements.{All-nil, All-cons, All-head, All-tail, All-append}
+use Rattle.std.proofs.lemmas.List.Elements.{All-nil, All-cons, All-head, All-tail}
 use Rattle.std.proofs.lemmas.Bool.{false≢true, ne_eqb, cases_lt}
 use Rattle.httparse.specs.Grammar.{RequestHead, IsRequestHead, Field, IsField, AllPass, is_uri_byte, is_token_byte, is_value_byte, LineEnd, crlf, lf, print_blank, print_version, print_end, print_field}
 use Rattle.httparse.specs.Pieces.{Stops, is_newline}
-use Rattle.httparse.proofs.PieceLemmas.{Stops_token, token_is_no_newline}
+use Rattle.httparse.proofs.PieceLemmas.{Stops_token}
 use Rattle.httparse.proofs.GrammarLemmas.{cons-append}
 use Rattle.http_heads.specs.Heads.{open_head}
 use Rattle.http_heads.specs.Feeds.{is_feed, feeds_before, IsFirstVisible, IsBehind}
-use Rattle.http_heads.proofs.HeadFacts.{open_head-append, regroup_open}
+use Rattle.http_heads.proofs.HeadFacts.{open_head-append}
 use Rattle.http_heads.specs.declared.decision.TheConstants.{MOST_FIELDS}
 use Rattle.http_heads.specs.declared.lines.TheConstants.{LINES}
 
@@ -49,14 +49,26 @@ skip b xs other = rw other refl
 
 field_feeds : (f : Field) → IsField f → count_by is_feed (print_field f) ≡ 1
 field_feeds f good =
-    omega (arith, feeds-append (f.name ++ 58 ∷ f.raw) (print_end f.end), feeds-append f.name (58 ∷ f.raw), skip 58 f.raw refl, end_feeds f.end,
-    no_feeds is_token_byte token_feed f.name good.name.1, no_feeds is_value_byte refl f.raw good.raw)
+    omega (
+      arith,
+      feeds-append (f.name ++ 58 ∷ f.raw) (print_end f.end),
+      feeds-append f.name (58 ∷ f.raw),
+      skip 58 f.raw refl,
+      end_feeds f.end,
+      no_feeds is_token_byte token_feed f.name good.name.1,
+      no_feeds is_value_byte refl f.raw good.raw,
+    )
 
 fields_feeds : (fs : List Field) → All IsField fs → count_by is_feed (flat_map print_field fs) ≡ length fs
 fields_feeds [] all = refl
 fields_feeds (f ∷ fs) all =
-    omega (arith, feeds-append (print_field f) (flat_map print_field fs), field_feeds f (All-head IsField f fs all), fields_feeds fs
-        (All-tail IsField f fs all))
+    omega (
+      arith,
+      feeds-append (print_field f) (flat_map print_field fs),
+      field_feeds f (All-head IsField f fs all),
+      fields_feeds fs
+          (All-tail IsField f fs all),
+    )
 
 -- the lines of a head behind its empty lines
 abbrev pub body : RequestHead → List ℕ
@@ -74,10 +86,21 @@ body_feeds h good =
     let fs = flat_map print_field h.fields in
     let e = print_end h.line_end in
     let v = print_version h.minor in
-    omega (arith, skip 32 (h.target ++ 32 ∷ (v ++ (e ++ fs))) refl, skip 32 (v ++ (e ++ fs)) refl, feeds-append h.method (32 ∷ (h.target ++ 32 ∷ (v
-        ++ (e ++ fs)))), feeds-append h.target (32 ∷ (v ++ (e ++ fs))), feeds-append v (e ++ fs), feeds-append e fs,
-    end_feeds h.line_end, version_feeds h.minor good.minor, fields_feeds h.fields good.fields,
-    no_feeds is_token_byte token_feed h.method good.method.1, no_feeds is_uri_byte refl h.target good.target.1)
+    omega (
+      arith,
+      skip 32 (h.target ++ 32 ∷ (v ++ (e ++ fs))) refl,
+      skip 32 (v ++ (e ++ fs)) refl,
+      feeds-append h.method (32 ∷ (h.target ++ 32 ∷ (v
+          ++ (e ++ fs)))),
+      feeds-append h.target (32 ∷ (v ++ (e ++ fs))),
+      feeds-append v (e ++ fs),
+      feeds-append e fs,
+      end_feeds h.line_end,
+      version_feeds h.minor good.minor,
+      fields_feeds h.fields good.fields,
+      no_feeds is_token_byte token_feed h.method good.method.1,
+      no_feeds is_uri_byte refl h.target good.target.1,
+    )
 
 -- the text ends with a line feed
 abbrev EndsFed : List ℕ → Type 0
@@ -99,7 +122,7 @@ fields_fed x (f ∷ fs) fed =
 body_fed : (h : RequestHead) → EndsFed (body h)
 body_fed h =
     fed_after h.method _ (fed_after (32 ∷ h.target) _ (fed_after (32 ∷ print_version h.minor) _ (fields_fed (print_end h.line_end) h.fields
-        (end_fed h.line_end))))
+    (end_fed h.line_end))))
 
 -- where the first visible byte is
 pub first_at : (p x : List ℕ) (at : ℕ) → All (λ b. is_newline b ≡ true) p → Stops is_newline x → IsFirstVisible (p ++ x) at → at ≡ length p
@@ -108,8 +131,12 @@ first_at [] (c ∷ x) zero all stops v = refl
 first_at [] (c ∷ x) (suc n) all stops v = absurd (false≢true (sym stops ∙ v.earlier 0 (omega arith)))
 first_at (c ∷ p) x zero all stops v = absurd (false≢true (sym v.visible ∙ All-head (λ b. is_newline b ≡ true) c p all))
 first_at (c ∷ p) x (suc n) all stops v =
-    let rest = first_at p x n (All-tail (λ b. is_newline b ≡ true) c p all) stops (record { within = omega
-        (arith, v.within); visible = v.visible; earlier = λ k below. v.earlier (suc k) (omega arith) }) in
+    let rest = first_at p x n (All-tail (λ b. is_newline b ≡ true) c p all) stops (record {
+      within = omega
+          (arith, v.within);
+      visible = v.visible;
+      earlier = λ k below. v.earlier (suc k) (omega arith);
+    }) in
     omega (arith, rest)
 
 pub blank_all : (es : List LineEnd) → All (λ b. is_newline b ≡ true) (print_blank es)
@@ -135,7 +162,7 @@ behind_at w tail at count v =
     cases (inl less) q =
         let inside : at ≤ length w = omega (arith, less, length-append w (10 ∷ [])) in
         let front : take at ((w ++ 10 ∷ []) ++ tail) ≡ take at w = take-append-le at (w ++ 10 ∷ []) tail (omega arith)
-            ∙ take-append-le at w (10 ∷ []) inside in
+        ∙ take-append-le at w (10 ∷ []) inside in
         absurd (omega (arith, v.feeds, ap (count_by is_feed) front, sum_by-take-le (λ x. cond (is_feed x) 1 0) w at, feeds-append w (10 ∷ []), count))
     cases (inr more) (inl less) = absurd (v.earlier (length (w ++ 10 ∷ [])) less (ap (count_by is_feed) (take-append-le _ (w
         ++ 10 ∷ []) tail (omega arith) ∙ take_all (length (w ++ 10 ∷ [])) (w ++ 10 ∷ []) (omega arith)) ∙ count))
@@ -158,8 +185,13 @@ text_behind h bytes tail at e f = rw (f, e ∙ open_is h tail) (drop_front (prin
     drop_front (x ∷ a) b = drop_front a b
 
 pub open_length : (h : RequestHead) → length (open_head h) ≡ length (print_blank h.blank) + length (body h)
-open_length h = omega (arith, ap length (sym (append-nil (open_head h))
-    ∙ open_is h []), length-append (print_blank h.blank) (body h ++ []), ap length (append-nil (body h)))
+open_length h = omega (
+  arith,
+  ap length (sym (append-nil (open_head h))
+      ∙ open_is h []),
+  length-append (print_blank h.blank) (body h ++ []),
+  ap length (append-nil (body h)),
+)
 
 get_drop : (xs : List ℕ) (n k : ℕ) → slice_index (drop n xs) k ≡ slice_index xs (n + k)
 get_drop xs n k = get_or-drop n xs k 0
@@ -189,7 +221,7 @@ none_behind bytes start first none h b rest good full e =
     let text = text_behind h bytes (b ∷ rest) start e begin in
     none (length (body h)) (omega (arith, ap length text, length-append (body h) (b ∷ rest)))
     (ap (λ (t : List ℕ). count_by is_feed (take (length (body h)) t)) text ∙ ap (count_by is_feed) (take_front (body h) (b ∷ rest))
-        ∙ body_feeds h good ∙ ap (λ (n : ℕ). 1 + n) full)
+    ∙ body_feeds h good ∙ ap (λ (n : ℕ). 1 + n) full)
 
 none_at : (p x : List ℕ) → Stops is_newline x → ((k : ℕ) → k < length (p ++ x) → is_newline (slice_index (p ++ x) k) ≡ true) → ⊥
 none_at [] [] stops none = stops

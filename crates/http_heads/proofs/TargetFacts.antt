@@ -1,10 +1,10 @@
 -- Whether some bytes end inside a request's target.
-use Rattle.std.proofs.Common.{◌≡◌, ◌≢◌, ℕ, zero, suc, ◌+◌, ◌-◌, ◌<◌, ◌≤◌, ◌==◌, ◌||◌, Bool, true, false, List, [], ◌∷◌, ◌++◌, length, take, drop, slice_index, All, refl, sym, ap, ◌∙◌, subst, arith, append_assoc, append-nil, length-append, length-take, take-append-drop, inl, inr, ◌⊎◌, get_or-take}
+use Rattle.std.proofs.Common.{◌≡◌, ◌≢◌, ℕ, zero, suc, ◌+◌, ◌<◌, ◌≤◌, Bool, true, false, List, [], ◌∷◌, ◌++◌, length, take, drop, slice_index, All, refl, sym, ap, ◌∙◌, subst, arith, append_assoc, length-take, take-append-drop, inl, inr, ◌⊎◌, get_or-take}
 use Rattle.std.specs.Prelude.{IsTrue}
 use Rattle.std.proofs.lemmas.List.{drop_more}
-use Rattle.std.proofs.lemmas.List.Elements.{All-nil, All-head, All-tail, All-from_get_or}
+use Rattle.std.proofs.lemmas.List.Elements.{All-head, All-tail, All-from_get_or}
 use Rattle.std.proofs.lemmas.Bool.{false≢true}
-use Rattle.httparse.specs.Grammar.{LineEnd, crlf, lf, print_blank, EndsInTarget, IsToken, AllPass, is_uri_byte, is_token_byte}
+use Rattle.httparse.specs.Grammar.{LineEnd, crlf, lf, print_blank, EndsInTarget, AllPass, is_uri_byte, is_token_byte}
 use Rattle.httparse.specs.Pieces.{Stops, is_newline}
 use Rattle.httparse.proofs.PieceLemmas.{space_ends_token, Stops_token}
 use Rattle.http_heads.specs.Feeds.{IsFirstOther, IsFirstVisible, HasWholeEnds, IsOpenTarget}
@@ -16,8 +16,12 @@ other_at test [] x c zero all fails v = refl
 other_at test [] x c (suc n) all fails v = absurd (false≢true (sym fails ∙ v.earlier 0 (omega arith)))
 other_at test (d ∷ p) x c zero all fails v = absurd (false≢true (sym v.fails ∙ All-head (λ b. test b ≡ true) d p all))
 other_at test (d ∷ p) x c (suc n) all fails v =
-    let rest = other_at test p x c n (All-tail (λ b. test b ≡ true) d p all) fails (record { within = omega
-        (arith, v.within); fails = v.fails; earlier = λ k below. v.earlier (suc k) (omega arith) }) in
+    let rest = other_at test p x c n (All-tail (λ b. test b ≡ true) d p all) fails (record {
+      within = omega
+          (arith, v.within);
+      fails = v.fails;
+      earlier = λ k below. v.earlier (suc k) (omega arith);
+    }) in
     omega (arith, rest)
 
 at_length : (a r : List ℕ) (b : ℕ) → slice_index (a ++ b ∷ r) (length a) ≡ b
@@ -30,6 +34,7 @@ drop_past a r b n e = cut ∙ refl
     go : (a : List ℕ) → drop (suc (length a)) (a ++ b ∷ r) ≡ r
     go [] = refl
     go (x ∷ a) = go a
+
     cut : drop (n + 1) (a ++ b ∷ r) ≡ r
     cut = let same : n + 1 ≡ suc (length a) = omega (arith, e) in rw same (go a)
 
@@ -112,7 +117,7 @@ blank_of n x [] stops few all ends = ([], refl)
 blank_of zero x (c ∷ p) stops few all ends = absurd (omega (arith, few))
 blank_of (suc n) x (c ∷ p) stops few all ends =
     one_more n c p x (λ q less every whole. blank_of n x q stops less every whole) (omega (arith, few)) (All-tail
-        (λ b. is_newline b ≡ true) c p all) stops ends
+    (λ b. is_newline b ≡ true) c p all) stops ends
     (is_one c (All-head (λ b. is_newline b ≡ true) c p all))
 
 -- in empty lines each CR has its LF
@@ -133,10 +138,10 @@ pub in_target_yes : (bytes : List ℕ) (start : ℕ) → IsFirstVisible bytes st
 in_target_yes bytes start v ends o =
     let whole : take start bytes ++ drop start bytes ≡ bytes = take-append-drop start bytes in
     let blank = blank_of (length (take start bytes)) (drop start bytes) (take start bytes) (visible bytes start v) (omega arith)
-        (All-from_get_or (λ b. is_newline b ≡ true) _ 0 λ k below. let inside : k < start = omega (arith, length-take start bytes) in rw
-            (get_or-take start bytes k 0 inside) (v.earlier k inside))
-        (subst (λ (t : List ℕ). (k : ℕ) → k < length (take start bytes) → slice_index t k ≡ 13 → slice_index t (suc k) ≡ 10) (sym whole)
-        (λ k below return. let same : suc k ≡ k + 1 = omega arith in rw same (ends k (omega (arith, length-take start bytes)) return))) in (
+    (All-from_get_or (λ b. is_newline b ≡ true) _ 0 λ k below. let inside : k < start = omega (arith, length-take start bytes) in rw
+    (get_or-take start bytes k 0 inside) (v.earlier k inside))
+    (subst (λ (t : List ℕ). (k : ℕ) → k < length (take start bytes) → slice_index t k ≡ 13 → slice_index t (suc k) ≡ 10) (sym whole)
+    (λ k below return. let same : suc k ≡ k + 1 = omega arith in rw same (ends k (omega (arith, length-take start bytes)) return))) in (
       blank.0,
       o.0,
       o.1,
@@ -156,7 +161,7 @@ no_ends bytes start v none x =
     let e = x.5 ∙ append_assoc (print_blank x.0) x.1 (32 ∷ x.2) in
     none (subst (λ (t : List ℕ). (k : ℕ) → k < start → slice_index t k ≡ 13 → slice_index t (k + 1) ≡ 10) (sym e)
     (λ k below return. let same : k + 1 ≡ suc k = omega arith in rw same (blank_ends x.0 (x.1
-        ++ 32 ∷ x.2) k (omega (arith, start_of bytes start v x)) return)))
+    ++ 32 ∷ x.2) k (omega (arith, start_of bytes start v x)) return)))
 
 drop_front : (a b : List ℕ) → drop (length a) (a ++ b) ≡ b
 drop_front [] b = refl
@@ -165,8 +170,14 @@ drop_front (x ∷ a) b = drop_front a b
 pub not_open : (bytes : List ℕ) (start : ℕ) → IsFirstVisible bytes start → (IsOpenTarget (drop start bytes) → ⊥) → EndsInTarget bytes → ⊥
 not_open bytes start v none x =
     let e = x.5 ∙ append_assoc (print_blank x.0) x.1 (32 ∷ x.2) in
-    none (x.1, x.2, x.3, x.4, ap (λ (n : ℕ). drop n bytes) (start_of bytes start v x) ∙ ap (λ (t : List ℕ). drop (length (print_blank x.0)) t) e
-        ∙ drop_front (print_blank x.0) (x.1 ++ 32 ∷ x.2))
+    none (
+      x.1,
+      x.2,
+      x.3,
+      x.4,
+      ap (λ (n : ℕ). drop n bytes) (start_of bytes start v x) ∙ ap (λ (t : List ℕ). drop (length (print_blank x.0)) t) e
+          ∙ drop_front (print_blank x.0) (x.1 ++ 32 ∷ x.2),
+    )
 
 none_shown : (p x : List ℕ) → Stops is_newline x → ((k : ℕ) → k < length (p ++ x) → is_newline (slice_index (p ++ x) k) ≡ true) → ⊥
 none_shown [] [] stops none = stops

@@ -10,5 +10,4 @@ pub fn one_outcome()
     ensures refused { (bytes : List ℕ) → RefusesLarge bytes → RefusesMalformed bytes → ⊥ }
     ensures good { (bytes : List ℕ) (h : RequestHead) (rest : List ℕ) → ReadsRequest bytes h rest → length h.fields ≤ MOST_FIELDS → length (print_request h) ≤ HEAD_LIMIT → RefusesLarge bytes → ⊥ }
     ensures well { (bytes : List ℕ) (h : RequestHead) (rest : List ℕ) → ReadsRequest bytes h rest → length h.fields ≤ MOST_FIELDS → RefusesMalformed bytes → ⊥ }
-{
-}
+{}

@@ -1,4 +1,3 @@
-use Rattle.std.proofs.Common.{arith}
 use Rattle.http_heads.proofs.CrowdFacts.{none_crowded, return_not_crowded, feed_not_crowded, unclosed_not_crowded, closed_crowded}
 use Rattle.http_heads.proofs.decision.is_crowded.Goals as goal
 

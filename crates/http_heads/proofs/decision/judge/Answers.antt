@@ -1,4 +1,4 @@
-use Rattle.std.proofs.Common.{refl, arith}
+use Rattle.std.proofs.Common.{refl}
 use Rattle.http_heads.proofs.HeadFacts.{crowded_refuses, still_open, open_in_target, malformed, too_many_at}
 use Rattle.http_heads.proofs.decision.judge.Goals as goal
 
@@ -17,11 +17,17 @@ pub returns-then-is_crowded-2 : goal.returns-then-is_crowded-2
 returns-then-is_crowded-2 c = let x = c.is_crowded-in_default.ensures.yes c.if-is_crowded-2.true in record { same = c.is_crowded-in_default.ensures.same; decides = crowded_refuses _ x.0 x.1 x.2 x.3 }
 
 pub returns-then-ends_in_target : goal.returns-then-ends_in_target
-returns-then-ends_in_target c = record { same = c.is_crowded-in_default.ensures.same; decides = open_in_target _
-    (rw c.is_crowded-in_default.ensures.same at (c.ends_in_target.ensures.yes c.if-ends_in_target.true))
-    (c.in-Err.ensures.invalid c.in_default.not-TooManyHeaders) c.requires.short (c.is_crowded-in_default.ensures.no c.if-is_crowded-2.false) }
+returns-then-ends_in_target c = record {
+  same = c.is_crowded-in_default.ensures.same;
+  decides = open_in_target _
+      (rw c.is_crowded-in_default.ensures.same at (c.ends_in_target.ensures.yes c.if-ends_in_target.true))
+      (c.in-Err.ensures.invalid c.in_default.not-TooManyHeaders) c.requires.short (c.is_crowded-in_default.ensures.no c.if-is_crowded-2.false);
+}
 
 pub returns-else-ends_in_target : goal.returns-else-ends_in_target
-returns-else-ends_in_target c = record { same = c.is_crowded-in_default.ensures.same; decides = malformed _
-    (c.in-Err.ensures.invalid c.in_default.not-TooManyHeaders) (rw c.is_crowded-in_default.ensures.same at
-    (c.ends_in_target.ensures.no c.if-ends_in_target.false)) c.requires.short (c.is_crowded-in_default.ensures.no c.if-is_crowded-2.false) }
+returns-else-ends_in_target c = record {
+  same = c.is_crowded-in_default.ensures.same;
+  decides = malformed _
+      (c.in-Err.ensures.invalid c.in_default.not-TooManyHeaders) (rw c.is_crowded-in_default.ensures.same at
+      (c.ends_in_target.ensures.no c.if-ends_in_target.false)) c.requires.short (c.is_crowded-in_default.ensures.no c.if-is_crowded-2.false);
+}

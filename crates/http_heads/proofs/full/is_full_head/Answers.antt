@@ -1,7 +1,5 @@
 use Rattle.std.proofs.Common.{arith}
 use Rattle.http_heads.proofs.SpanFacts.{full_head}
-use Rattle.http_heads.proofs.HeadFacts.{too_many}
-use Rattle.http_heads.proofs.LineFacts.{behind_is}
 use Rattle.http_heads.proofs.full.is_full_head.Goals as goal
 
 pub returns-then-head-bytes-clause-yes : goal.returns-then-head-bytes-clause-yes

@@ -1,4 +1,4 @@
-use Rattle.std.proofs.Common.{ap, Some, arith}
+use Rattle.std.proofs.Common.{ap, Some}
 use Rattle.http_heads.proofs.LineFacts.{behind_found, none_behind, none_visible}
 use Rattle.http_heads.proofs.lines.behind_fields.Goals as goal
 

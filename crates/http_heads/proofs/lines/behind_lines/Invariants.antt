@@ -1,4 +1,4 @@
-use Rattle.std.proofs.Common.{◌≡◌, ◌≢◌, ◌<◌, ◌-◌, ℕ, List, length, slice_index, ◌≤◌}
+use Rattle.std.proofs.Common.{◌≡◌, ◌≢◌, ◌<◌, ◌-◌, ℕ, slice_index, ◌≤◌}
 use Rattle.http_heads.specs.Feeds.{feeds_before}
 use Rattle.http_heads.specs.declared.lines.TheConstants.{LINES}
 use Rattle.http_heads.proofs.lines.behind_lines.Given as goal
