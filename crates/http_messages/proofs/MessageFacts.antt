@@ -1,8 +1,8 @@
 -- What a stream begins with, by the bytes of it that are held.
-use Rattle.std.proofs.Common.{◌≡◌, ◌+◌, ◌-◌, ◌<◌, ◌≤◌, ◌⊎◌, ℕ, List, [], ◌∷◌, ◌++◌, length, take, drop, refl, sym, ap, ◌∙◌, subst, arith, append_assoc, append-nil, inl, inr, length-append, length-take, length-drop, take-append-drop, Option, Some, None}
+use Rattle.std.proofs.Common.{◌≡◌, ◌+◌, ◌-◌, ◌<◌, ◌≤◌, ℕ, List, [], ◌∷◌, ◌++◌, length, take, drop, refl, sym, ap, ◌∙◌, subst, arith, append_assoc, append-nil, inl, inr, length-append, length-take, length-drop, take-append-drop, Option, Some, None}
 use Rattle.std.proofs.lemmas.List.{drop-append-le}
 use Rattle.std.specs.Io.KnownBytes.{Keeps, IsAtEnd, prepend_known}
-use Rattle.httparse.specs.Grammar.{RequestHead, ReadsRequest, LineEnd, crlf, lf, print_end, print_request}
+use Rattle.httparse.specs.Grammar.{RequestHead, LineEnd, crlf, lf, print_end, print_request}
 use Rattle.httparse.specs.Spans.{IsRequestAt}
 use Rattle.httparse.specs.declared.spans.HeaderSpan.{HeaderSpan}
 use Rattle.httparse.specs.declared.spans.RequestSpans.{RequestSpans}
@@ -18,7 +18,7 @@ use Rattle.http_messages.specs.Frames.{Frame, Body, Refused, frame_of}
 use Rattle.http_messages.specs.Given.{HoldsHead, HoldsSaid, IsGiven}
 use Rattle.http_messages.specs.Said.{SaysOr}
 use Rattle.http_messages.specs.declared.said.HeadRead.TheVariants as reads
-use Rattle.http_messages.specs.Messages.{BeginsWith, IsMessage, EndsInBody, Comes, GivesMessage, IsBroken, Turns}
+use Rattle.http_messages.specs.Messages.{BeginsWith, Comes, GivesMessage, IsBroken, Turns}
 
 -- a read before changes nothing of what comes
 pub gives_on : (x y z : Option (List ℕ)) (i : Incoming) → Keeps x y → GivesMessage y z i → GivesMessage x z i
@@ -95,7 +95,7 @@ holds bytes headers spans head at few small = record { reads = at.reads; len_is 
 pub holds_said : (bytes : List ℕ) (headers : List HeaderSpan) (spans : RequestSpans) (said : Head) → ((head : RequestHead)
     → IsRequestAt bytes headers spans head → SaysOr (reads.Head said) head)
     → (x : (head : RequestHead) × IsRequestAt bytes headers spans head × (length head.fields ≤ MOST_FIELDS) × (spans.len ≤ HEAD_LIMIT))
-        → HoldsSaid bytes said spans.len
+    → HoldsSaid bytes said spans.len
 holds_said bytes headers spans said says x = (x.0, holds bytes headers spans x.0 x.1 x.2 x.3, says x.0 x.1)
 
 -- what stands behind it, after more reads
@@ -122,11 +122,17 @@ gives_request held more after (Some xs) (Some ys) said len (incoming.Refused sta
 gives_request held more after (Some xs) (Some ys) said len incoming.ReadFault x kept fits given = absurd given
 gives_request held more after (Some xs) (Some ys) said len incoming.Long x kept fits given = absurd given
 gives_request held more after (Some xs) (Some ys) said len (incoming.Request method target body close) x kept fits given =
-    let size : said.size ≡ length body = omega (arith, ap length given.2, length-drop len (take (len + said.size) more), length-take
-        (len + said.size) more, fits) in
+    let size : said.size ≡ length body = omega (
+      arith,
+      ap length given.2,
+      length-drop len (take (len + said.size) more),
+      length-take
+          (len + said.size) more,
+      fits,
+    ) in
     let rest : drop len held ++ xs ≡ body ++ (after ++ ys) =
-        behind held more xs ys len (inside held x.0 len x.1) (omega (arith, fits)) kept
-        ∙ ap (λ (t : List ℕ). t ++ ys) (parts more len said.size fits ∙ rw (given.2, given.4) refl) ∙ append_assoc body after ys in
+    behind held more xs ys len (inside held x.0 len x.1) (omega (arith, fits)) kept
+    ∙ ap (λ (t : List ℕ). t ++ ys) (parts more len said.size fits ∙ rw (given.2, given.4) refl) ∙ append_assoc body after ys in
     record {
       head = x.0;
       begins = subst (λ (t : List ℕ). BeginsWith (held ++ xs) x.0 t (Body (length body))) rest
@@ -143,7 +149,7 @@ gives_cut held more None still said len x kept end short = tt
 gives_cut held more (Some xs) None said len x kept end short = absurd kept
 gives_cut held more (Some xs) (Some ys) said len x kept end short =
     let whole : length held + length xs ≡ length more =
-        omega (arith, length-append held xs, length-append more ys, ap length kept, ap length end) in
+    omega (arith, length-append held xs, length-append more ys, ap length kept, ap length end) in
     let some : 0 < len = some_byte held x.0 len x.1 in (
       omega (arith, length-append held xs, inside held x.0 len x.1, some),
       inr (record {
@@ -161,8 +167,12 @@ pub gives_refused : (bytes : List ℕ) (headers : List HeaderSpan) (spans : Requ
     → GivesMessage (prepend_known bytes left) (prepend_known bytes left) (incoming.Refused status)
 gives_refused bytes headers spans None status says x = tt
 gives_refused bytes headers spans (Some xs) status says x =
-    inr (inr (x.0, drop spans.len bytes ++ xs, begins bytes x.0 spans.len xs (Refused status) (holds bytes headers spans x.0 x.1 x.2 x.3)
-        (says x.0 x.1)))
+    inr (inr (
+      x.0,
+      drop spans.len bytes ++ xs,
+      begins bytes x.0 spans.len xs (Refused status) (holds bytes headers spans x.0 x.1 x.2 x.3)
+          (says x.0 x.1),
+    ))
 
 -- a request takes a byte at least of those that are still handed out
 pub turns_request : (held more after : List ℕ) (before now most : ℕ) (said : Head) (len : ℕ) (i : Incoming) → HoldsSaid held said len

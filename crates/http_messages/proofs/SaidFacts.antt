@@ -1,5 +1,5 @@
 -- What the spans of a head say of its request.
-use Rattle.std.proofs.Common.{◌≡◌, ◌≤◌, ◌||◌, ◌==◌, ℕ, Bool, List, [], ◌∷◌, length, take, map, All, refl, sym, ap, ◌∙◌, subst, arith, codes, bytes_eq}
+use Rattle.std.proofs.Common.{◌≡◌, ◌≤◌, ◌||◌, ◌==◌, ℕ, List, [], ◌∷◌, length, take, map, All, sym, ap, ◌∙◌, subst, arith, codes, bytes_eq}
 use Rattle.std.specs.List.{list_any}
 use Rattle.std.proofs.lemmas.List.Elements.{All-nil, All-cons, All-head, All-tail}
 use Rattle.httparse.specs.Grammar.{RequestHead}
@@ -28,7 +28,7 @@ fields_fit bytes headers spans within = wider spans.len (length bytes) within.se
 -- the frame of the spans is the frame of the head
 pub framed : (bytes : List ℕ) (headers : List HeaderSpan) (spans : RequestSpans) (head : RequestHead) → IsRequestAt bytes headers spans head
     → (r : Framing) → IsFrame r (frame (bytes_eq (span_bytes bytes spans.method) (codes "POST")) (map (header_bytes bytes)
-        (take spans.headers headers)))
+    (take spans.headers headers)))
     → IsFrame r (frame_of head)
 framed bytes headers spans head at r x =
     subst (λ (m : List ℕ). IsFrame r (frame (bytes_eq m (codes "POST")) (map name_and_value head.fields))) at.method

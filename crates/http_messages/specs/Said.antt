@@ -1,9 +1,6 @@
 -- For proofs alone: what a whole head says of its request.
-use Rattle.std.specs.Prelude.{ℕ, ◌≡◌, List}
+use Rattle.std.specs.Prelude.{◌≡◌}
 use Rattle.httparse.specs.Grammar.{RequestHead}
-use Rattle.httparse.specs.Spans.{IsRequestAt}
-use Rattle.httparse.specs.declared.spans.HeaderSpan.{HeaderSpan}
-use Rattle.httparse.specs.declared.spans.RequestSpans.{RequestSpans}
 use Rattle.http_messages.specs.declared.said.Head.{Head}
 use Rattle.http_messages.specs.declared.said.HeadRead.{HeadRead}
 use Rattle.http_messages.specs.declared.said.HeadRead.TheVariants as reads

@@ -68,7 +68,12 @@ fn closes(bytes: &[u8], headers: &[HeaderSpan], spans: RequestSpans) -> bool
 
 /// What a whole head says.
 #[tactic(auto, using(crate::proofs::SaidFacts::framed_refused, crate::proofs::SaidFacts::says))]
-pub(crate) fn read_head(alloc: Global, bytes: &[u8], headers: &[HeaderSpan], spans: RequestSpans) -> HeadRead
+pub(crate) fn read_head(
+    alloc: Global,
+    bytes: &[u8],
+    headers: &[HeaderSpan],
+    spans: RequestSpans,
+) -> HeadRead
     requires { IsRequestWithin bytes.now headers.now spans }
     ensures { (head : RequestHead) → IsRequestAt bytes.now headers.now spans head → SaysOr result head }
 {

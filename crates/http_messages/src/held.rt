@@ -103,7 +103,11 @@ fn look(held: &mut Held, headers: &mut [HeaderSpan; MOST_FIELDS]) -> Decision
 
 /// Reads until the next head is decided, whatever way the reads cut it.
 #[tactic(auto, using(crate::proofs::HeldFacts::keeps_on))]
-pub(crate) fn next_head<S: Source>(link: &mut S, held: &mut Held, headers: &mut [HeaderSpan; MOST_FIELDS]) -> HeadEnd
+pub(crate) fn next_head<S: Source>(
+    link: &mut S,
+    held: &mut Held,
+    headers: &mut [HeaderSpan; MOST_FIELDS],
+) -> HeadEnd
     ensures kept { UnlessFailed result (Keeps (prepend_known held.old.bytes.items (S.left link.old)) (prepend_known held.new.bytes.items (S.left link.new))) }
     ensures balance { UnlessFailed result (length held.new.bytes.items + held.old.taken ≡ length held.old.bytes.items + held.new.taken) }
     ensures decides { HeadComes (S.left link.new) held.new.bytes.items headers.new result }

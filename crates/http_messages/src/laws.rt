@@ -16,5 +16,4 @@ pub fn one_message()
     ensures whole { (stream m t b left after : List ℕ) (c : Bool) → IsMessage stream m t b c left → Comes stream incoming.Truncated after → ⊥ }
     ensures good { (stream m t b left after : List ℕ) (c : Bool) (status : ℕ) → IsMessage stream m t b c left → Comes stream (incoming.Refused status) after → ⊥ }
     ensures status { (stream left after : List ℕ) (status other : ℕ) → Comes stream (incoming.Refused status) left → Comes stream (incoming.Refused other) after → status ≡ other }
-{
-}
+{}

@@ -70,7 +70,9 @@ fn head_of(
     let phrase = phrase_of(status);
     let allow = allow_text(allow);
     let end = close_text(close);
-    format!(in alloc; "HTTP/1.1 {status} {phrase}\r\nContent-Type: text/plain\r\nContent-Length: {len}\r\n{allow}{end}\r\n")
+    format!(in alloc;
+        "HTTP/1.1 {status} {phrase}\r\nContent-Type: text/plain\r\nContent-Length: {len}\r\n{allow}{end}\r\n"
+    )
 }
 
 /// The text of a response.

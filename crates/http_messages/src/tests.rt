@@ -69,9 +69,18 @@ fn requests_are_the_same_however_they_are_cut(rt: HostRuntime) -> Result<(), Fai
         ("GET / HTTP/2.0\r\n\r\n", "400"),
         ("POST / HTTP/1.1\r\n\r\n", "411"),
         ("POST / HTTP/1.1\r\nContent-Length: 1048577\r\n\r\n", "413"),
-        ("POST / HTTP/1.1\r\nContent-Length: 12345678901\r\n\r\n", "400"),
-        ("POST / HTTP/1.1\r\nContent-Length: 1\r\nContent-Length: 1\r\n\r\na", "400"),
-        ("POST / HTTP/1.1\r\nTransfer-Encoding: chunked\r\n\r\n", "501"),
+        (
+            "POST / HTTP/1.1\r\nContent-Length: 12345678901\r\n\r\n",
+            "400",
+        ),
+        (
+            "POST / HTTP/1.1\r\nContent-Length: 1\r\nContent-Length: 1\r\n\r\na",
+            "400",
+        ),
+        (
+            "POST / HTTP/1.1\r\nTransfer-Encoding: chunked\r\n\r\n",
+            "501",
+        ),
     ];
     for (text, requests) in table {
         for most in [1, 7, 4096] {
@@ -88,13 +97,29 @@ fn a_read_that_fails_is_told(rt: HostRuntime) -> Result<(), Fail> {
     let bytes = Bytes::from_slice(alloc, b"GET / HTTP/1.1\r\n\r\n")?;
     let mut link = FakeSource::new(bytes, 8, vec![in alloc; 2]?);
     let mut held = Held::new(alloc);
-    assert!(rt; matches!(next_request(alloc, &mut link, &mut held), Incoming::ReadFault));
-    assert!(rt; matches!(next_request(alloc, &mut link, &mut held), Incoming::Request { .. }));
+    assert!(rt;
+        matches!(
+            next_request(alloc, &mut link, &mut held),
+            Incoming::ReadFault
+        )
+    );
+    assert!(rt;
+        matches!(
+            next_request(alloc, &mut link, &mut held),
+            Incoming::Request { .. }
+        )
+    );
     Ok(())
 }
 
 /// The bytes of a response.
-fn response(alloc: Global, status: u16, allow: Option<bool>, body: &[u8], close: bool) -> Result<Vec<u8>, Fail>
+fn response(
+    alloc: Global,
+    status: u16,
+    allow: Option<bool>,
+    body: &[u8],
+    close: bool,
+) -> Result<Vec<u8>, Fail>
     requires { IsStatusCode status }
 {
     let mut sink = FakeSink::new(alloc, 1024, Vec::new(alloc))?;
@@ -106,13 +131,15 @@ fn response(alloc: Global, status: u16, allow: Option<bool>, body: &[u8], close:
 fn responses_have_their_bytes(rt: HostRuntime) -> Result<(), Fail> {
     let alloc = rt.alloc();
     let seen = response(alloc, BODY_TOO_LARGE, None, b"", true)?;
-    let text = "HTTP/1.1 413 Payload Too Large\r\nContent-Type: text/plain\r\nContent-Length: 0\r\nConnection: close\r\n\r\n";
+    let text =
+        "HTTP/1.1 413 Payload Too Large\r\nContent-Type: text/plain\r\nContent-Length: 0\r\nConnection: close\r\n\r\n";
     assert_eq!(rt; seen.as_slice(), text.as_bytes());
     let seen = response(alloc, 404, None, b"", false)?;
     let text = "HTTP/1.1 404 Not Found\r\nContent-Type: text/plain\r\nContent-Length: 0\r\n\r\n";
     assert_eq!(rt; seen.as_slice(), text.as_bytes());
     let seen = response(alloc, 405, Some(true), b"", false)?;
-    let text = "HTTP/1.1 405 Method Not Allowed\r\nContent-Type: text/plain\r\nContent-Length: 0\r\nAllow: GET\r\n\r\n";
+    let text =
+        "HTTP/1.1 405 Method Not Allowed\r\nContent-Type: text/plain\r\nContent-Length: 0\r\nAllow: GET\r\n\r\n";
     assert_eq!(rt; seen.as_slice(), text.as_bytes());
     let seen = response(alloc, 200, None, b"text\n", false)?;
     let text = "HTTP/1.1 200 OK\r\nContent-Type: text/plain\r\nContent-Length: 5\r\n\r\ntext\n";

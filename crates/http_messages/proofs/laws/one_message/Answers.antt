@@ -1,4 +1,4 @@
-use Rattle.std.proofs.Common.{◌≡◌, ◌∙◌, sym, ap}
+use Rattle.std.proofs.Common.{◌∙◌, sym, ap}
 use Rattle.http_messages.specs.Frames.{asks_close}
 use Rattle.http_messages.proofs.LawFacts.{one, one_status, some, whole, good}
 use Rattle.httparse.specs.Grammar.{RequestHead}

@@ -1,7 +1,7 @@
 use Rattle.http_messages.specs.declared.request.Incoming.TheVariants as incoming
-use Rattle.http_messages.specs.declared.status.TheConstants.{HEAD_TOO_LARGE, MALFORMED}
+use Rattle.http_messages.specs.declared.status.TheConstants.{HEAD_TOO_LARGE}
 use Rattle.http_messages.specs.Messages.{unread}
-use Rattle.http_messages.proofs.MessageFacts.{gives_on, gives_large, gives_malformed}
+use Rattle.http_messages.proofs.MessageFacts.{gives_on, gives_large}
 use Rattle.http_messages.proofs.request.next_request.Goals as goal
 
 pub returns-in-TooLarge-clause-gives : goal.returns-in-TooLarge-clause-gives

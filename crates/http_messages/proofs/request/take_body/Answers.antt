@@ -1,4 +1,4 @@
-use Rattle.std.proofs.Common.{◌+◌, arith}
+use Rattle.std.proofs.Common.{◌+◌}
 use Rattle.oe_http.specs.declared.lines.TheConstants.{INPUT_LIMIT}
 use Rattle.http_messages.specs.declared.held.TheConstants.{READ_SIZE}
 use Rattle.http_messages.proofs.MessageFacts.{gives_cut, turns_request}
