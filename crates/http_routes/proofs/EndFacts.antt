@@ -1,5 +1,5 @@
 -- The end of a body's line.
-use Rattle.std.proofs.Common.{◌≡◌, ◌+◌, ◌-◌, ℕ, Bool, true, false, List, [], ◌∷◌, ◌++◌, length, take, drop, refl, sym, ap, ◌∙◌, arith, append_assoc, inl, inr, ◌⊎◌, nat_eq, length-append}
+use Rattle.std.proofs.Common.{◌≡◌, ◌-◌, ℕ, Bool, true, false, List, [], ◌∷◌, ◌++◌, length, take, drop, refl, sym, ap, ◌∙◌, arith, append_assoc, inl, inr, nat_eq, length-append}
 use Rattle.std.proofs.lemmas.List.{take-append-drop}
 use Rattle.std.proofs.lemmas.Bool.{false≢true}
 use Rattle.std.proofs.lemmas.Bool.Decides.{Decides-eqb}
@@ -28,7 +28,7 @@ pub found : (bytes front : List ℕ) (byte : ℕ) → pointwise nat_eq (drop (le
     → front ≡ take (length bytes - 1) bytes → bytes ≡ front ++ byte ∷ []
 found bytes front byte test is =
     let last : drop (length bytes - 1) bytes ≡ byte ∷ [] = same_texts _ _ _ (slice_eq-Decides Decides-eqb (drop (length bytes - 1) bytes)
-        (byte ∷ []) _ refl) test in
+    (byte ∷ []) _ refl) test in
     sym (take-append-drop (length bytes - 1) bytes) ∙ rw (last, sym is) refl
 
 -- a suffix of one byte that was not found
@@ -42,7 +42,7 @@ pub with_both : (body line bytes : List ℕ)
     → pointwise nat_eq (drop (length line - 1) line) (13 ∷ []) ≡ true → bytes ≡ take (length line - 1) line → IsWithoutEnd body bytes
 with_both body line bytes feed line_is return bytes_is =
     inl (found body line 10 feed line_is ∙ ap (λ (t : List ℕ). t ++ 10 ∷ []) (found line bytes 13 return bytes_is)
-        ∙ append_assoc bytes (13 ∷ []) (10 ∷ []))
+    ∙ append_assoc bytes (13 ∷ []) (10 ∷ []))
 
 pub with_feed : (body line : List ℕ)
     → pointwise nat_eq (drop (length body - 1) body) (10 ∷ []) ≡ true → line ≡ take (length body - 1) body

@@ -1,7 +1,5 @@
 -- What a target's place says of its name.
-use Rattle.std.proofs.Common.{◌≡◌, ◌≤◌, ◌+◌, ℕ, List, ◌++◌, length, drop, sym, ap, ◌∙◌, arith, length-append}
-use Rattle.http_routes.specs.declared.places.Place.{Place}
-use Rattle.http_routes.specs.Targets.{IsTarget, prefix}
+use Rattle.std.proofs.Common.{◌≡◌, ◌≤◌, ℕ, List, ◌++◌, length, drop, ap, arith, length-append}
 use Rattle.http_routes.proofs.SeekFacts.{drop_of}
 
 -- the name stands behind the prefix

@@ -1,5 +1,5 @@
 -- Searches in the rows of the routes.
-use Rattle.std.proofs.Common.{◌≡◌, ℕ, zero, suc, ◌+◌, ◌-◌, ◌<◌, ◌≤◌, ◌==◌, Bool, true, false, cond, List, [], ◌∷◌, ◌++◌, length, All, refl, sym, ap, ◌∙◌, subst, arith, Option, Some, None, codes, take, drop, Fits, w8, not, nat_eq, slice_index, option_map, take-append-drop}
+use Rattle.std.proofs.Common.{◌≡◌, ℕ, zero, suc, ◌-◌, ◌<◌, ◌==◌, Bool, true, false, cond, List, [], ◌∷◌, ◌++◌, length, All, refl, sym, ap, ◌∙◌, subst, arith, Option, Some, None, codes, take, drop, Fits, w8, not, nat_eq, slice_index, option_map, take-append-drop}
 use Rattle.std.proofs.lemmas.List.{take-append-le, take_all}
 use Rattle.std.proofs.lemmas.List.Elements.{All-head, All-tail, All-from_get_or}
 use Rattle.std.proofs.lemmas.Bool.{ne_eqb, false≢true}
@@ -7,8 +7,8 @@ use Rattle.std.proofs.lemmas.Bool.Decides.{Decides-eqb}
 use Rattle.std.specs.Bool.{Decides}
 use Rattle.std.proofs.lemmas.Slice.Eq.{slice_eq-Decides}
 use Rattle.std.specs.Cmp.Lexicographic.{pointwise}
-use Rattle.matchit.specs.Seek.{seek, first, own, or_else, has_slash, step, param_step}
-use Rattle.matchit.specs.Rows.{RowsOf, param_token, catch_all_token}
+use Rattle.matchit.specs.Seek.{seek, first, or_else, has_slash, step, param_step}
+use Rattle.matchit.specs.Rows.{RowsOf, param_token}
 use Rattle.matchit.proofs.OnLiterals.{matchit_on_literals}
 use Rattle.matchit.specs.Router.{RouteOf}
 use Rattle.http_routes.specs.Targets.{IsName, IsTarget, prefix}
@@ -23,9 +23,9 @@ none_rows skip [] = refl
 none_rows (suc skip) (b ∷ path) = none_rows skip path
 none_rows {K} zero (b ∷ path) =
     ap (λ (o : Option K). or_else o (or_else (seek {K = K} ((param_step {K = K} [] (b ∷ path)).0 - 1) (param_step {K = K} []
-        (b ∷ path)).1 path) None)) (none_rows {K = K} 0 path)
+    (b ∷ path)).1 path) None)) (none_rows {K = K} 0 path)
     ∙ elim (has_slash (b ∷ path)) as (λ s. or_else (seek {K = K} ((cond {A = ℕ × RowsOf K} s (0, []) (suc (length path), [])).0 - 1)
-        (cond {A = ℕ × RowsOf K} s (0, []) (suc (length path), [])).1 path) None ≡ None) [
+    (cond {A = ℕ × RowsOf K} s (0, []) (suc (length path), [])).1 path) None ≡ None) [
       | true ↦ ap (λ (o : Option K). or_else o None) (none_rows {K = K} 0 path)
       | false ↦ ap (λ (o : Option K). or_else o None) (none_rows {K = K} (suc (length path) - 1) path)
     ]
@@ -52,7 +52,7 @@ takes_name {K} key (b ∷ name) good bytes =
     let first_plain : (b == 47) ≡ false = All-head (λ c. (c == 47) ≡ false) b name good.plain in
     let plain : has_slash name ≡ false = no_slash name (All-tail (λ c. (c == 47) ≡ false) b name good.plain) in
     rw (other, first_plain, plain) (rw (none_rows {K = K} 0 name) (ap (λ (o : Option K). or_else o None) (skip_all key (suc (length name) - 1) name
-        (omega arith))))
+    (omega arith))))
 
 -- the rows of the routes, in the router's order
 abbrev pub table : {K : Type 0} → K → K → K → K → K → RowsOf K

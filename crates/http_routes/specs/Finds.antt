@@ -1,5 +1,5 @@
 -- What the router finds.
-use Rattle.std.specs.Prelude.{ℕ, ◌≡◌, ◌<◌, All, List, Option, Some, None, option_map}
+use Rattle.std.specs.Prelude.{ℕ, ◌≡◌, ◌<◌, All, List, Some, option_map}
 use Rattle.matchit.specs.Seek.{first}
 use Rattle.matchit.specs.Rows.{RowsOf}
 use Rattle.matchit.specs.Router.{RouteOf}

@@ -39,7 +39,12 @@ fn named(alloc: Global, word: &[u8], target: &[u8], prefix: &[u8]) -> Result<Byt
 /// # Errors
 ///
 /// `NoMemory` where memory was refused.
-pub(crate) fn record_of(alloc: Global, place: Place, target: &[u8], body: &[u8]) -> Result<Bytes, NoMemory>
+pub(crate) fn record_of(
+    alloc: Global,
+    place: Place,
+    target: &[u8],
+    body: &[u8],
+) -> Result<Bytes, NoMemory>
     requires { (name : List ℕ) × IsTarget place name target.now }
     ensures { IfOk result (λ bytes. (name : List ℕ) → IsTarget place name target.now → IsRecord place name body.now bytes) }
 {

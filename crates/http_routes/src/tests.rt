@@ -6,7 +6,13 @@ use std::alloc::Global;
 use std::test::Fail;
 
 /// What a request comes to: its record, or a status and the method of its route.
-fn told(alloc: Global, routes: &Routes, method: &str, target: &[u8], body: &str) -> Result<Vec<u8>, Fail> {
+fn told(
+    alloc: Global,
+    routes: &Routes,
+    method: &str,
+    target: &[u8],
+    body: &str,
+) -> Result<Vec<u8>, Fail> {
     let method = Method::from_bytes(alloc, method.as_bytes())?;
     match routes.find(alloc, &method, target, body.as_bytes()) {
         Routed::Record(record) => Ok(record.as_slice().to_vec(alloc)?),

@@ -1,4 +1,4 @@
-use Rattle.std.proofs.Common.{rules, sym, ◌∙◌}
+use Rattle.std.proofs.Common.{◌∙◌}
 use Rattle.http_routes.proofs.SeekFacts.{other_front, differ}
 use Rattle.http_routes.proofs.places.has_name.Goals as goal
 

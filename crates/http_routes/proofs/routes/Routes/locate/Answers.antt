@@ -1,6 +1,4 @@
-use Rattle.std.proofs.Common.{arith}
 use Rattle.std.proofs.lemmas.Grind.{not_there}
-use Rattle.http_routes.specs.Targets.{IsTarget}
 use Rattle.http_routes.proofs.SeekFacts.{lost, only}
 use Rattle.http_routes.proofs.routes.Routes.locate.Goals as goal
 
