@@ -1,0 +1,5 @@
+pub mod FrameFacts
+pub mod HeldFacts
+pub mod LawFacts
+pub mod MessageFacts
+pub mod SaidFacts

@@ -1,0 +1,16 @@
+use Rattle.std.proofs.Common.{◌≤◌, ◌+◌, ◌-◌, ◌≡◌, length}
+use Rattle.std.specs.Io.KnownBytes.{Keeps, prepend_known}
+use Rattle.oe_http.specs.declared.lines.TheConstants.{INPUT_LIMIT}
+use Rattle.http_messages.specs.declared.held.TheConstants.{READ_SIZE}
+use Rattle.http_messages.proofs.held.hold.Given as goal
+
+abbrev pub invariant-loop-link : goal.invariant-loop-link
+invariant-loop-link g l = record {
+  kept : Keeps (prepend_known l.fn.held.bytes.items (g.S.Source.left l.fn.link)) (prepend_known l.held.bytes.items (g.S.Source.left l.link));
+  balance : length l.held.bytes.items + l.fn.held.taken ≡ length l.fn.held.bytes.items + l.held.taken;
+  later : g.S.Source.faults l.fn.link ≤ g.S.Source.faults l.link;
+  more : l.fn.held.taken ≤ l.held.taken;
+}
+
+abbrev pub decreases-loop-link : goal.decreases-loop-link
+decreases-loop-link g l = INPUT_LIMIT + READ_SIZE - l.held.taken

@@ -1,0 +1,7 @@
+pub mod Counts
+pub mod Frames
+pub mod Given
+pub mod Heading
+pub mod Messages
+pub mod Responses
+pub mod Said

@@ -1,0 +1,22 @@
+//! HTTP requests of a stream, and responses. A length is in bytes.
+#![tactic(auto)]
+
+mod frame;
+mod head;
+mod held;
+mod laws;
+mod number;
+mod request;
+mod response;
+mod said;
+mod status;
+
+pub use frame::BODY_LIMIT;
+pub use held::Held;
+pub use laws::one_message;
+pub use request::{Incoming, next_request};
+pub use response::{SendErr, write_response};
+pub use status::{BODY_TOO_LARGE, HEAD_TOO_LARGE, LENGTH_WANTED, MALFORMED, NO_TRANSFER_ENCODING};
+
+#[cfg(test)]
+mod tests;

@@ -1,0 +1,157 @@
+//! The next request of a stream.
+
+ghost use Rattle.std.specs.Prelude.{◌≡◌, ◌≤◌, ◌<◌, ◌+◌, List, ℕ, length};
+ghost use Rattle.oe_http.specs.Causes.{Rose};
+ghost use Rattle.oe_http.specs.declared.lines.TheConstants.{INPUT_LIMIT};
+ghost use Rattle.httparse.specs.Grammar.{RequestHead};
+ghost use Rattle.httparse.specs.Spans.{IsRequestAt, IsRequestWithin};
+ghost use Rattle.http_heads.specs.declared.decision.TheConstants.{HEAD_LIMIT};
+ghost use Rattle.http_messages.specs.Messages.{GivesMessage, IsBroken, Turns, most_left, unread};
+ghost use Rattle.http_messages.specs.Given.{HoldsSaid, IsGiven};
+
+use crate::head::read_head;
+use crate::held::{HeadEnd, Held, ReadEnd, drop_front, hold, next_head};
+use crate::said::{Head, HeadRead};
+use crate::status::{HEAD_TOO_LARGE, MALFORMED};
+use grid_exact::Bytes;
+use http::Method;
+use http_heads::MOST_FIELDS;
+use httparse::spans::{EMPTY_HEADER_SPAN, HeaderSpan, RequestSpans};
+use oe_http::Source;
+use std::alloc::Global;
+
+/// What comes next on a link.
+#[derive(Drop, Debug)]
+pub enum Incoming {
+    /// A request.
+    Request {
+        /// Its method.
+        method: Method,
+        /// Its target, as it stands in its head.
+        target: Bytes,
+        /// Its body.
+        body: Bytes,
+        /// Whether the session ends after the reply to it.
+        close: bool,
+    },
+    /// The end, and no byte before it.
+    Closed,
+    /// The end inside a head or a body.
+    Truncated,
+    /// Bytes that are refused with this status.
+    Refused(u16),
+    /// The source has failed.
+    ReadFault,
+    /// [`oe_http::INPUT_LIMIT`] bytes were read, and more are wanted.
+    Long,
+    /// Memory was refused.
+    NoMemory,
+}
+
+/// The same, of a read that gave no more bytes.
+fn broken(end: ReadEnd) -> Incoming
+    ensures broken { IsBroken result }
+    ensures fault { result ≡ Incoming.ReadFault → end ≡ ReadEnd.Fault }
+    ensures long { result ≡ Incoming.Long → end ≡ ReadEnd.Long }
+{
+    match end {
+        ReadEnd::Fault => Incoming::ReadFault,
+        ReadEnd::Long => Incoming::Long,
+        ReadEnd::NoMemory => Incoming::NoMemory,
+    }
+}
+
+/// Hands out the request whose head is read and whose body is held.
+fn give(alloc: Global, held: &mut Held, head: Head, len: usize) -> Incoming
+    requires { len + head.size ≤ length held.old.bytes.items }
+    ensures given { IsGiven head held.old.bytes.items len result held.new.bytes.items }
+    ensures taken { held.new.taken ≡ held.old.taken }
+{
+    let size = head.size;
+    let (front, _) = held.bytes.split_at(len + size);
+    let (_, body) = front.split_at(len);
+    match Bytes::from_slice(alloc, body) {
+        Ok(body) => {
+            drop_front(held, len + size);
+            Incoming::Request {
+                method: head.method,
+                target: head.target,
+                body,
+                close: head.close,
+            }
+        }
+        Err(_) => Incoming::NoMemory,
+    }
+}
+
+/// The request whose head is read, when its body has come.
+#[tactic(auto, using(crate::proofs::MessageFacts::gives_request, crate::proofs::MessageFacts::gives_cut, crate::proofs::MessageFacts::gives_broken))]
+fn take_body<S: Source>(
+    alloc: Global,
+    link: &mut S,
+    held: &mut Held,
+    head: Head,
+    len: usize,
+) -> Incoming
+    requires { HoldsSaid held.old.bytes.items head len }
+    ensures gives { GivesMessage (unread held.old (S.left link.old)) (unread held.new (S.left link.new)) result }
+    ensures turns { Turns (most_left held.old) (most_left held.new) result }
+    ensures later { S.faults link.old ≤ S.faults link.new }
+    ensures fault { result ≡ Incoming.ReadFault → Rose (S.faults link.old) (S.faults link.new) }
+    ensures long { result ≡ Incoming.Long → INPUT_LIMIT ≤ held.new.taken }
+{
+    match hold(link, held, len + head.size) {
+        Ok(true) => give(alloc, held, head, len),
+        Ok(false) => Incoming::Truncated,
+        Err(end) => broken(end),
+    }
+}
+
+/// The request whose head is held, when its body has come.
+#[tactic(auto, using(crate::proofs::MessageFacts::gives_refused, crate::proofs::MessageFacts::holds_said, crate::proofs::MessageFacts::gives_broken))]
+fn take_request<S: Source>(
+    alloc: Global,
+    link: &mut S,
+    held: &mut Held,
+    headers: &[HeaderSpan],
+    spans: RequestSpans,
+) -> Incoming
+    requires within { IsRequestWithin held.old.bytes.items headers.now spans }
+    requires whole { (head : RequestHead) × IsRequestAt held.old.bytes.items headers.now spans head × (length head.fields ≤ MOST_FIELDS) × (spans.len ≤ HEAD_LIMIT) }
+    ensures gives { GivesMessage (unread held.old (S.left link.old)) (unread held.new (S.left link.new)) result }
+    ensures turns { Turns (most_left held.old) (most_left held.new) result }
+    ensures later { S.faults link.old ≤ S.faults link.new }
+    ensures fault { result ≡ Incoming.ReadFault → Rose (S.faults link.old) (S.faults link.new) }
+    ensures long { result ≡ Incoming.Long → INPUT_LIMIT ≤ held.new.taken }
+{
+    match read_head(alloc, &held.bytes, headers, spans) {
+        HeadRead::Head(head) => take_body(alloc, link, held, head, spans.len),
+        HeadRead::Refused(status) => Incoming::Refused(status),
+        HeadRead::NoMemory => Incoming::NoMemory,
+    }
+}
+
+/// The next request of a link. `held` keeps what was read and belongs to later requests. A body is read once, and its
+/// head is not looked at again while it comes.
+#[tactic(auto, using(crate::proofs::MessageFacts::gives_on, crate::proofs::MessageFacts::gives_broken, crate::proofs::MessageFacts::turns_broken))]
+pub fn next_request<S: Source>(alloc: Global, link: &mut S, held: &mut Held) -> Incoming
+    ensures gives { GivesMessage (unread held.old (S.left link.old)) (unread held.new (S.left link.new)) result }
+    ensures turns { Turns (most_left held.old) (most_left held.new) result }
+    ensures later { S.faults link.old ≤ S.faults link.new }
+    ensures fault { result ≡ Incoming.ReadFault → Rose (S.faults link.old) (S.faults link.new) }
+    ensures long { result ≡ Incoming.Long → INPUT_LIMIT ≤ held.new.taken }
+{
+    let mut headers = [EMPTY_HEADER_SPAN; MOST_FIELDS];
+    match next_head(link, held, &mut headers) {
+        HeadEnd::Whole(spans) => take_request(alloc, link, held, &headers, spans),
+        HeadEnd::TooLarge => Incoming::Refused(HEAD_TOO_LARGE),
+        HeadEnd::Malformed => Incoming::Refused(MALFORMED),
+        HeadEnd::End => {
+            if held.bytes.is_empty() {
+                return Incoming::Closed;
+            }
+            Incoming::Truncated
+        }
+        HeadEnd::Failed(end) => broken(end),
+    }
+}

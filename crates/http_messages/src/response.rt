@@ -1,0 +1,123 @@
+//! A response, written whole.
+
+ghost use Rattle.std.specs.Prelude.{◌≡◌, ◌≤◌, ◌<◌, List, ℕ, [], ◌++◌, OnOk, OnErr, IfOk, IsErrOf, length, unwrap_or};
+ghost use Rattle.std.specs.Io.KnownBytes.{Appends, Keeps};
+ghost use Rattle.std.specs.String.{string_bytes};
+ghost use Rattle.http.specs.StatusCode.{IsStatusCode, reason_phrase};
+ghost use Rattle.oe_http.specs.Causes.{Rose};
+ghost use Rattle.oe_http.specs.Written.{Sent};
+ghost use Rattle.http_messages.specs.Responses.{head_text, response_text, allow_line, close_line};
+
+use http::StatusCode;
+use oe_http::{Sink, write_whole};
+use std::alloc::{AllocError, Global};
+
+/// Why a response was not written whole.
+#[derive(Clone, Copy, Debug, PartialEq, Eq)]
+pub enum SendErr {
+    /// The sink has failed.
+    WriteFault,
+    /// Memory was refused.
+    NoMemory,
+}
+
+/// The line that names the one method of a route.
+fn allow_text(allow: Option<bool>) -> &'static str
+    ensures { result.now ≡ allow_line allow }
+{
+    match allow {
+        None => "",
+        Some(true) => "Allow: GET\r\n",
+        Some(false) => "Allow: POST\r\n",
+    }
+}
+
+/// The line that tells that the session ends.
+fn close_text(close: bool) -> &'static str
+    ensures { result.now ≡ close_line close }
+{
+    if close {
+        return "Connection: close\r\n";
+    }
+    ""
+}
+
+/// The phrase of a status.
+fn phrase_of(status: u16) -> &'static str
+    requires { IsStatusCode status }
+    ensures { result.now ≡ unwrap_or (reason_phrase status) [] }
+{
+    match StatusCode::from_u16(status) {
+        Ok(code) => match code.canonical_reason() {
+            Some(phrase) => phrase,
+            None => "",
+        },
+        Err(_) => "",
+    }
+}
+
+/// The lines before the body.
+fn head_of(
+    alloc: Global,
+    status: u16,
+    allow: Option<bool>,
+    len: usize,
+    close: bool,
+) -> Result<String, AllocError>
+    requires { IsStatusCode status }
+    ensures { IfOk result (λ text. string_bytes text ≡ head_text status allow len close) }
+{
+    let phrase = phrase_of(status);
+    let allow = allow_text(allow);
+    let end = close_text(close);
+    format!(in alloc;
+        "HTTP/1.1 {status} {phrase}\r\nContent-Type: text/plain\r\nContent-Length: {len}\r\n{allow}{end}\r\n"
+    )
+}
+
+/// The text of a response.
+fn text_of(
+    alloc: Global,
+    status: u16,
+    allow: Option<bool>,
+    body: &[u8],
+    close: bool,
+) -> Result<Vec<u8>, AllocError>
+    requires { IsStatusCode status }
+    ensures { IfOk result (λ text. text.items ≡ response_text status allow body.now close) }
+{
+    let mut text = head_of(alloc, status, allow, body.len(), close)?.into_bytes();
+    text.extend_from_slice(body)?;
+    Ok(text)
+}
+
+/// Writes a response. `allow` is given for a route with another method, which is GET where it holds true, and else POST.
+/// `close` tells that the session ends after it.
+///
+/// # Errors
+///
+/// `WriteFault` where the sink fails: a front of the response was then written. `NoMemory` where memory was refused:
+/// nothing was written.
+pub fn write_response<O: Sink>(
+    alloc: Global,
+    link: &mut O,
+    status: u16,
+    allow: Option<bool>,
+    body: &[u8],
+    close: bool,
+) -> Result<(), SendErr>
+    requires { IsStatusCode status }
+    ensures ok { OnOk result (Sent (O.held link.old) (O.held link.new) (response_text status allow body.now close) []) }
+    ensures fault { IsErrOf result SendErr.WriteFault → (rest : List ℕ) × Sent (O.held link.old) (O.held link.new) (response_text status allow body.now close) rest }
+    ensures memory { IsErrOf result SendErr.NoMemory → Keeps (O.held link.old) (O.held link.new) }
+    ensures later { O.faults link.old ≤ O.faults link.new }
+    ensures cause { IsErrOf result SendErr.WriteFault → Rose (O.faults link.old) (O.faults link.new) }
+{
+    match text_of(alloc, status, allow, body, close) {
+        Ok(text) => match write_whole(link, &text) {
+            Ok(()) => Ok(()),
+            Err(_) => Err(SendErr::WriteFault),
+        },
+        Err(_) => Err(SendErr::NoMemory),
+    }
+}

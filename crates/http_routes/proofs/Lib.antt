@@ -1,0 +1,3 @@
+pub mod EndFacts
+pub mod RouteFacts
+pub mod SeekFacts

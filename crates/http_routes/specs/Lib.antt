@@ -1,0 +1,4 @@
+pub mod Finds
+pub mod Records
+pub mod Routing
+pub mod Targets

@@ -1,0 +1,21 @@
+-- What a request comes to.
+use Rattle.std.specs.Prelude.{ℕ, ◌≡◌, ◌≢◌, List, IsUtf8}
+use Rattle.http_routes.specs.declared.places.Place.{Place}
+use Rattle.http_routes.specs.declared.routes.Routed.{Routed}
+use Rattle.http_routes.specs.declared.routes.Routed.TheVariants as routed
+use Rattle.http_routes.specs.Targets.{IsTarget, is_read, method_of}
+use Rattle.http_routes.specs.Records.{IsRecord}
+
+-- the target is text and leads to this place, with this name
+pub record LeadsTo (target : List ℕ) (place : Place) (name : List ℕ) : Type 0 where
+  pub text : IsUtf8 target
+  pub target_is : IsTarget place name target
+
+-- what a request of this method, target and body comes to
+abbrev pub IsRouted : List ℕ → List ℕ → List ℕ → Routed → Type 0
+IsRouted method target body (routed.Record bytes) =
+    (place : Place) × (name : List ℕ) × LeadsTo target place name × (method ≡ method_of place) × IsRecord place name body bytes
+IsRouted method target body routed.NotFound = (place : Place) (name : List ℕ) → LeadsTo target place name → ⊥
+IsRouted method target body (routed.NotAllowed get) =
+    (place : Place) × (name : List ℕ) × LeadsTo target place name × (method ≢ method_of place) × (get ≡ is_read place)
+IsRouted method target body routed.NoMemory = Unit {0}

@@ -1,0 +1,90 @@
+//! The places that targets lead to.
+
+ghost use Rattle.std.specs.Prelude.{◌≡◌, ◌≢◌, ◌++◌, true, false, List, ℕ};
+ghost use Rattle.http_routes.specs.Targets.{IsName, IsTarget, is_read, method_of};
+
+use http::Method;
+
+/// Where a target leads.
+#[derive(Clone, Copy, Debug, PartialEq, Eq)]
+pub(crate) enum Place {
+    /// A record is posted.
+    Record,
+    /// The marked cases are asked for.
+    Review,
+    /// A case is asked for, by its number.
+    Case,
+    /// An airfield is asked for, by its identifier.
+    Airfield,
+    /// A report is asked for, by its name.
+    Report,
+}
+
+/// Whether a text is one or more bytes other than a slash.
+fn is_name(name: &[u8]) -> bool
+    ensures yes { result ≡ true → IsName name.now }
+    ensures no { result ≡ false → IsName name.now → ⊥ }
+{
+    if name.is_empty() {
+        return false;
+    }
+    for byte in name {
+        if *byte == b'/' {
+            return false;
+        }
+    }
+    true
+}
+
+/// Whether a target is a prefix and then a name.
+fn has_name(target: &[u8], prefix: &[u8]) -> bool
+    ensures yes { result ≡ true → (name : List ℕ) × IsName name × (target.now ≡ prefix.now ++ name) }
+    ensures no { result ≡ false → (name : List ℕ) → IsName name → target.now ≡ prefix.now ++ name → ⊥ }
+{
+    if target.len() < prefix.len() {
+        return false;
+    }
+    let (front, name) = target.split_at(prefix.len());
+    if front != prefix {
+        return false;
+    }
+    is_name(name)
+}
+
+/// Whether a target leads to this place.
+pub(crate) fn leads_to(target: &[u8], place: Place) -> bool
+    ensures yes { result ≡ true → (name : List ℕ) × IsTarget place name target.now }
+    ensures no { result ≡ false → (name : List ℕ) → IsTarget place name target.now → ⊥ }
+{
+    match place {
+        Place::Record => target == b"/record".as_slice(),
+        Place::Review => target == b"/review".as_slice(),
+        Place::Case => has_name(target, b"/case/"),
+        Place::Airfield => has_name(target, b"/airfield/"),
+        Place::Report => has_name(target, b"/report/"),
+    }
+}
+
+/// Whether the method of a place is GET. Else it is POST.
+pub(crate) fn is_read(place: Place) -> bool
+    ensures { result ≡ is_read place }
+{
+    match place {
+        Place::Record => false,
+        Place::Review => true,
+        Place::Case => true,
+        Place::Airfield => true,
+        Place::Report => true,
+    }
+}
+
+/// Whether a method is the one that a place has.
+pub(crate) fn is_allowed(place: Place, method: &Method) -> bool
+    ensures yes { result ≡ true → method.now ≡ method_of place }
+    ensures no { result ≡ false → method.now ≢ method_of place }
+{
+    if is_read(place) {
+        return method.as_str() == "GET";
+    }
+    method.as_str() == "POST"
+}
