@@ -117,7 +117,7 @@ module _ (db : Trees) (kept : AreKept (db 0)) (rows : List Row) (all : AreShown 
         let e = pair_in it.0 in
         let there = mapped_has pair_in (db 0) it.0 it.1 in
         one q of_answer e (from_table e there) it.2 (λ x h t. once x e (to_table x h) there (sym (tied_is q x t) ∙ tied_is q e it.2))
-          ∙ sym (one q of_table e there it.2 (λ x h t. once x e h there (sym (tied_is q x t) ∙ tied_is q e it.2)))
+        ∙ sym (one q of_table e there it.2 (λ x h t. once x e h there (sym (tied_is q x t) ∙ tied_is q e it.2)))
     | inr no_one ↦
         let missing = λ (x : Key × List ℕ) (h : Has of_table x) (t : T (ties q x)). (let r = has_mapped pair_in (db 0) x h in no_one r.0 r.1 (subst (λ e. T (ties q e)) r.2 t)) in
         none q of_answer (λ x h t. missing x (to_table x h) t) ∙ sym (none q of_table missing)

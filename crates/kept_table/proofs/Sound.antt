@@ -118,8 +118,8 @@ module _ (db : Database) (has : db.schema ≡ kept_schema) (sound : IsDatabase d
       let apart : clashes by_bytes (1 ∷ 2 ∷ []) (db.trees 0) y ≡ false = not_true _ (both _ _ (obeyed Unique y g)).0 in
       let bound : differ (rowid x) (rowid y) ≡ not (int_eq a.id b.id) = ap (λ v. differ v (rowid y)) (ap rowid a.is) ∙ ap (differ (Int a.id)) (ap rowid b.is) ∙ at_ints false Ne a.id b.id in
       let tied : int_eq a.id b.id ≡ true → x ≡ y =
-          λ t. let one : a.id ≡ b.id = grind (arith, ints, nat_tests) in
-          tied_same (db.trees 0) x y rising h g (ap (λ v. value_cmp v (rowid y)) (ap rowid a.is) ∙ ap (value_cmp (Int a.id)) (ap rowid b.is) ∙ ap (λ n. value_cmp (Int n) (Int b.id)) one ∙ tied_itself value_cmp_total (Int b.id)) in
+      λ t. let one : a.id ≡ b.id = grind (arith, ints, nat_tests) in
+      tied_same (db.trees 0) x y rising h g (ap (λ v. value_cmp v (rowid y)) (ap rowid a.is) ∙ ap (value_cmp (Int a.id)) (ap rowid b.is) ∙ ap (λ n. value_cmp (Int n) (Int b.id)) one ∙ tied_itself value_cmp_total (Int b.id)) in
       elim (int_eq a.id b.id) as (λ t. int_eq a.id b.id ≡ t → x ≡ y) [
         | true ↦ tied
         | false ↦ λ t. absurd (let clash = some_from (λ other. agree by_bytes (1 ∷ 2 ∷ []) other (1 ∷ 2 ∷ []) y && differ (rowid other) (rowid y)) (db.trees 0) x h (rw (agreed, bound ∙ ap not t) refl) in let never = sym clash ∙ apart in cc)

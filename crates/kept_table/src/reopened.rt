@@ -61,10 +61,7 @@ pub struct Opened<S: Alter> {
 ///
 /// `Refused` where the store refuses, `BadRow` where a row cannot stand in the table, `NotReady` within a transaction or where the store is broken,
 /// `NoMemory` where memory was refused. The store is closed then.
-pub fn load_opened<S: Alter + Drop>(
-    alloc: Global,
-    conn: Connection<S>,
-) -> Result<Opened<S>, Stop>
+pub fn load_opened<S: Alter + Drop>(alloc: Global, conn: Connection<S>) -> Result<Opened<S>, Stop>
     ensures told { IfOk result (λ r. HasCleanDisk (state S.Store r.conn) → IsTrue (state S.Store r.conn).is_open → IsTrue r.is_told → Holds (state S.Store r.conn) r.tables) }
     ensures blank { (state S.Store conn).now.schema ≡ no_schema → IfOk result (λ r. IsTrue r.is_told) }
 {

@@ -11,7 +11,9 @@ if_ok (Ok x) f h = f x h
 if_ok (Err e) f h = h
 
 pub returns : goal.returns
-returns g c = record { told = λ clean up.
-    let before : HasCleanDisk (state g.S.Store c.create.new.conn) = omega (arith, c.load_rows.ensures.clean) in
-    let made = c.in_ok-create.ensures.makes before c.requires in
-    if_ok c.load_rows.result (λ rows is. subst (Holds (state g.S.Store c.load_rows.new.conn)) (is maps.empty made) (c.load_rows.ensures.still clean up maps.empty made)) (c.load_rows.ensures.rows clean) }
+returns g c = record {
+  told = λ clean up.
+      let before : HasCleanDisk (state g.S.Store c.create.new.conn) = omega (arith, c.load_rows.ensures.clean) in
+      let made = c.in_ok-create.ensures.makes before c.requires in
+      if_ok c.load_rows.result (λ rows is. subst (Holds (state g.S.Store c.load_rows.new.conn)) (is maps.empty made) (c.load_rows.ensures.still clean up maps.empty made)) (c.load_rows.ensures.rows clean);
+}
