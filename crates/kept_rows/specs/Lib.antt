@@ -1,0 +1,3 @@
+pub use Rattle.wire_values.specs.Commas
+pub use Rattle.wire_values.specs.Words
+pub mod Desk

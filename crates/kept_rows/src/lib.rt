@@ -1,0 +1,12 @@
+//! The texts by which an office's file keeps the desk: five tables, each a map from key text to row text. For each table a writer and a
+//! reader; what is read is what was written, and every other text is refused.
+//!
+//! Lengths, coordinates, elevations and excesses are whole tenths of a foot.
+#![tactic(auto)]
+
+mod desk;
+
+pub use desk::{DeskRow, append_desk_key, append_desk_row, read_desk_row};
+
+#[cfg(test)]
+mod tests;
