@@ -1,1 +1,4 @@
 mod Keys
+pub mod PartFacts
+mod FieldShapes
+mod AirfieldFacts

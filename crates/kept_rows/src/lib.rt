@@ -4,8 +4,12 @@
 //! Lengths, coordinates, elevations and excesses are whole tenths of a foot.
 #![tactic(auto)]
 
+mod airfield;
 mod desk;
+mod groups;
+mod parts;
 
+pub use airfield::{append_airfield_key, append_airfield_row, read_airfield_row};
 pub use desk::{DeskRow, append_desk_key, append_desk_row, read_desk_row};
 
 #[cfg(test)]
