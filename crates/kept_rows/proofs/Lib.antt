@@ -2,3 +2,5 @@ mod Keys
 pub mod PartFacts
 mod FieldShapes
 mod AirfieldFacts
+mod RunwayFacts
+mod OneValue

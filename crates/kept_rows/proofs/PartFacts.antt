@@ -40,6 +40,16 @@ joined_byte first (f ∷ fs) = ap (λ t. first ++ (44 ∷ t)) (joined_byte f fs)
 pub parts_joined : (text first : List ℕ) (more : List (List ℕ)) → parts_of 44 text ≡ first ∷ more → text ≡ joined (first ∷ more)
 parts_joined text first more e = sym (join_with_byte-slice_split 44 text) ∙ ap (join_with_byte 44) e ∙ joined_byte first more
 
+-- ---- two parts with a byte between
+
+pub pair_parts : (c : ℕ) (first second : List ℕ) → All (λ b. (b == c) ≡ false) first → All (λ b. (b == c) ≡ false) second
+    → parts_of c (first ++ c ∷ second) ≡ first ∷ second ∷ []
+pair_parts c first second p q =
+    slice_split_at (λ b. b == c) first c second p (grind (arith, nat_tests)) ∙ ap (λ parts. first ∷ parts) (only_part c second q)
+
+pub parts_pair : (c : ℕ) (text first second : List ℕ) → parts_of c text ≡ first ∷ second ∷ [] → text ≡ first ++ c ∷ second
+parts_pair c text first second e = sym (join_with_byte-slice_split c text) ∙ ap (join_with_byte c) e
+
 -- ---- values of parts
 
 pub where_none : {A P Q : Type 0} (r : Option A) → (P → Q) → IfNone r P → IfNone r Q
@@ -68,3 +78,7 @@ where_some3 (Some x) f p q s = f x p q s
 -- what stands behind the first of some parts
 pub behind : {x y : List ℕ} {whole xs ys : List (List ℕ)} → whole ≡ x ∷ xs → whole ≡ y ∷ ys → xs ≡ ys
 behind e f = cc
+
+pub where_some : {A : Type 0} {P Q : A → Type 0} (r : Option A) → ((x : A) → P x → Q x) → IfSome r P → IfSome r Q
+where_some None f p = tt
+where_some (Some x) f p = f x p

@@ -13,6 +13,7 @@ ghost use Rattle.wire_values.specs.Commas.{joined, with_commas};
 ghost use Rattle.wire_cursor.specs.Groups.{point_fields};
 ghost use Rattle.kept_rows.specs.Airfields.{airport_values, heliport_values, airfield_fields, airfield_key, airfield_row, IsPlainAirport, IsPlainHeliport, IsPlainAirfield, IsAirfieldRow};
 
+use crate::append::append_point;
 use crate::groups::{point, whole};
 use crate::parts::Parts;
 use airfields::{Airfield, Airport, FieldId, Heliport, Runways};
@@ -33,16 +34,6 @@ pub fn append_airfield_key(text: &mut String, airfield: &Airfield) -> Result<(),
         Airfield::Airport(airport) => airport.id.append(text),
         Airfield::Heliport(heliport) => heliport.id.append(text),
     }
-}
-
-// Appends a point, a comma before each coordinate.
-#[tactic(auto, using(grid_exact::proofs::Extending::extending))]
-fn append_point(text: &mut String, at: &Point) -> Result<(), NoMemory>
-    ensures ok { OnOk result (string_bytes text.new ≡ string_bytes text.old ++ with_commas (point_fields at.now)) }
-    ensures part { OnErr result (Extends (string_bytes text.old) (string_bytes text.new)) }
-{
-    append_next(text, &WholeNumber { value: at.x })?;
-    append_next(text, &WholeNumber { value: at.y })
 }
 
 // Appends an airport behind the word for it.

@@ -4,9 +4,11 @@ ghost use Rattle.std.specs.Prelude.{◌≡◌, ◌≢◌, ◌++◌, ◌∷◌, �
 ghost use Rattle.grid_exact.specs.declared.point.Point.{Point as Seen};
 ghost use Rattle.std.specs.Fmt.{signed_decimal};
 ghost use Rattle.whole_number.specs.Whole.{HasNineDigits};
-ghost use Rattle.wire_cursor.specs.Groups.{point_fields};
+ghost use Rattle.airfields.specs.declared.runway.RunwayEnd.{RunwayEnd as SomeEnd};
+ghost use Rattle.wire_cursor.specs.Groups.{point_fields, end_fields};
 
 use crate::parts::Parts;
+use airfields::RunwayEnd;
 use grid_exact::{COORDINATE_LIMIT, Point};
 use whole_number::NUMBER_LIMIT;
 
@@ -27,4 +29,16 @@ pub(crate) fn point(parts: &mut Parts<'_>) -> Option<Point>
     let x = parts.number(-COORDINATE_LIMIT, COORDINATE_LIMIT)?;
     let y = parts.number(-COORDINATE_LIMIT, COORDINATE_LIMIT)?;
     Some(Point { x, y })
+}
+
+/// An end of a runway.
+pub(crate) fn runway_end(parts: &mut Parts<'_>) -> Option<RunwayEnd>
+    ensures took { IfSome result (λ e. parts.old ≡ end_fields e ++ parts.new) }
+    ensures short { IfSome result (λ e. HasNineDigits e.z) }
+    ensures none { IfNone result ((e : SomeEnd) (rest : List (List ℕ)) → HasNineDigits e.z → parts.old ≢ end_fields e ++ rest) }
+{
+    let at = point(parts)?;
+    let z = whole(parts)?;
+    let kind = parts.take()?;
+    Some(RunwayEnd { at, z, kind })
 }
