@@ -1,13 +1,20 @@
 -- The parts of a text, and texts made of parts.
-use Rattle.std.proofs.Common.{arith, ℕ, ◌+◌, ◌<◌, ◌≡◌, ◌==◌, Bool, true, false, Option, Some, None, IfSome, IfNone, subst, List, [], ◌∷◌, ◌++◌, take, drop, length, get_or, All, refl, sym, ap, ◌∙◌, append-nil}
+use Rattle.std.proofs.Common.{arith, ℕ, ◌+◌, ◌<◌, ◌≤◌, ◌≡◌, ◌==◌, Bool, true, false, Option, Some, None, IfSome, IfNone, subst, List, [], ◌∷◌, ◌++◌, take, drop, length, get_or, All, refl, sym, ap, ◌∙◌, append-nil}
 use Rattle.std.specs.List.{slice_split, join_with_byte}
 use Rattle.std.proofs.lemmas.Bool.Decides.{nat_tests}
-use Rattle.std.proofs.lemmas.List.{take-append-drop, drop_more}
-use Rattle.std.proofs.lemmas.List.Elements.{All-head, All-tail}
+use Rattle.std.proofs.lemmas.List.{take-append-drop, drop_more, take_all}
+use Rattle.std.proofs.lemmas.List.Elements.{All-head, All-tail, All-more, All-same}
 use Rattle.std.proofs.lemmas.List.Splits.{slice_split_at, slice_split_none, join_with_byte-slice_split}
 use Rattle.wire_values.specs.Commas.{joined}
 use Rattle.wire_values.specs.Wanted.{Wanted, Fits}
 use Rattle.kept_rows.specs.Parts.{parts_of}
+
+-- what holds of all items before a place, and of the one there
+pub one_more : (P : ℕ → Type 0) (xs : List ℕ) (i : ℕ) → All P (take i xs) → i < length xs → P (get_or xs i 0) → All P (take (i + 1) xs)
+one_more P xs i before lt h = All-more P xs i 0 lt before h
+
+pub all_of : (P : ℕ → Type 0) (xs : List ℕ) (i : ℕ) → All P (take i xs) → length xs ≤ i → All P xs
+all_of P xs i h le = All-same P xs (take i xs) (sym (take_all i xs le)) h
 
 -- the first part of a text ends at its first separator
 around : (c : ℕ) (text : List ℕ) (at : ℕ) → at < length text → get_or text at 0 ≡ c → text ≡ take at text ++ c ∷ drop (at + 1) text

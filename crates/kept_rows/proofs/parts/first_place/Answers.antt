@@ -1,5 +1,5 @@
 use Rattle.std.proofs.Common.{arith, ◌≡◌, ◌==◌, false, sym, ◌∙◌}
-use Rattle.record_fields.proofs.PlainFacts.{one_more, all_of}
+use Rattle.kept_rows.proofs.PartFacts.{one_more, all_of}
 use Rattle.kept_rows.proofs.parts.first_place.Goals as goal
 
 pub loop-at-preserved : goal.loop-at-preserved
