@@ -4,3 +4,4 @@ mod FieldShapes
 mod AirfieldFacts
 mod RunwayFacts
 mod OneValue
+mod Examples
