@@ -1,20 +1,14 @@
 -- The fields of airfields.
-use Rattle.std.proofs.Common.{arith, ℕ, ◌≡◌, ◌==◌, ◌&&◌, ◌<◌, ◌≤◌, Bool, true, false, List, [], ◌∷◌, All, codes, refl, ap, sym, subst, ◌∙◌}
-use Rattle.std.proofs.lemmas.Bool.Decides.{nat_tests}
-use Rattle.std.proofs.lemmas.List.Elements.{All-weaker}
+use Rattle.std.proofs.Common.{arith, ℕ, ◌≡◌, List, [], ◌∷◌, All, codes, refl, ap, sym, subst, ◌∙◌}
 use Rattle.airfields.specs.declared.airfield.Airport.{Airport}
 use Rattle.airfields.specs.declared.airfield.Heliport.{Heliport}
 use Rattle.airfields.specs.declared.airfield.Airfield.{Airfield}
 use Rattle.airfields.specs.declared.airfield.Airfield.TheVariants as airfields
-use Rattle.grid_exact.specs.declared.point.Point.{Point}
-use Rattle.wire_values.specs.Wanted.{Wanted, Fits, Spelled, any_number, CategoryWanted}
-use Rattle.wire_values.specs.Plainness.{is_field_byte, IsShortField, IsUsual}
+use Rattle.wire_values.specs.Wanted.{Wanted, Spelled, any_number, CategoryWanted}
 use Rattle.wire_values.proofs.FieldFacts.{short_word}
-use Rattle.wire_cursor.specs.Shape.{HasShape}
 use Rattle.wire_cursor.specs.Groups.{coordinate}
-use Rattle.wire_cursor.proofs.ShapeLaws.{AllUsual, fields_short}
+use Rattle.wire_cursor.proofs.ShapeLaws.{AllUsual}
 use Rattle.wire_cursor.proofs.GroupFacts.{coordinate_usual, number_usual}
-use Rattle.wire_values.specs.Commas.{joined}
 use Rattle.airfields.specs.Names.{IsFieldId}
 use Rattle.kept_rows.specs.Airfields.{airport_values, heliport_values, airfield_fields, airfield_key, airfield_row, IsPlainAirport, IsPlainHeliport, IsPlainAirfield, IsAirfieldRow}
 use Rattle.kept_rows.specs.Parts.{parts_of}
@@ -38,9 +32,19 @@ heliport_uncut : (p : Heliport) → IsPlainHeliport p → All IsUncut (airfield_
 unfolding heliport_shape
 heliport_uncut p h =
     let usual : AllUsual heliport_shape = (short_word _ (omega arith) (omega arith) refl, (tt, (coordinate_usual, (coordinate_usual, (coordinate_usual, (coordinate_usual, (number_usual, (number_usual, tt)))))))) in
-    uncut_fields heliport_shape usual (airfield_fields (airfields.Heliport p))
-    (refl, ((p.category, refl), ((p.a.x, refl, (p.a.on_grid.west, p.a.on_grid.east)), ((p.a.y, refl, (p.a.on_grid.south, p.a.on_grid.north)),
-    ((p.b.x, refl, (p.b.on_grid.west, p.b.on_grid.east)), ((p.b.y, refl, (p.b.on_grid.south, p.b.on_grid.north)), ((p.width, refl, h.0), ((p.elevation, refl, h.1), tt))))))))
+    uncut_fields heliport_shape usual (airfield_fields (airfields.Heliport p)) (
+      refl,
+      (
+        (p.category, refl),
+        (
+          (p.a.x, refl, (p.a.on_grid.west, p.a.on_grid.east)),
+          (
+            (p.a.y, refl, (p.a.on_grid.south, p.a.on_grid.north)),
+            ((p.b.x, refl, (p.b.on_grid.west, p.b.on_grid.east)), ((p.b.y, refl, (p.b.on_grid.south, p.b.on_grid.north)), ((p.width, refl, h.0), ((p.elevation, refl, h.1), tt)))),
+          ),
+        ),
+      ),
+    )
 
 -- the parts of the row of an airfield are its fields
 pub airfield_parts : (v : Airfield) → IsPlainAirfield v → (row : List ℕ) → row ≡ airfield_row v → parts_of 44 row ≡ airfield_fields v

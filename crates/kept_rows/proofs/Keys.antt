@@ -1,5 +1,5 @@
 -- Keys that are written in parts.
-use Rattle.std.proofs.Common.{◌≡◌, ℕ, List, ◌++◌, codes, ap, ◌∙◌, append_assoc}
+use Rattle.std.proofs.Common.{◌≡◌, ℕ, List, ◌++◌, ap, ◌∙◌, append_assoc}
 use Rattle.std.proofs.Common.{Result, OnOk, Ok, Err}
 
 -- two parts, one behind the other

@@ -1,5 +1,5 @@
 -- No key and row are the texts of two values.
-use Rattle.std.proofs.Common.{arith, ℕ, ◌≡◌, ℤ, List, [], ◌∷◌, Bool, refl, ap, sym, drop, ◌∙◌}
+use Rattle.std.proofs.Common.{ℕ, ◌≡◌, ℤ, List, Bool, refl, ap, sym, drop, ◌∙◌}
 use Rattle.grid_exact.specs.declared.point.Point.{Point}
 use Rattle.airfields.specs.declared.category.Category.{Category}
 use Rattle.airfields.specs.declared.runway.Runway.{Runway}
@@ -12,9 +12,9 @@ use Rattle.determination_dates.proofs.Texts.{one_date}
 use Rattle.wire_values.specs.Words.{weight_word, pavement_word}
 use Rattle.wire_values.proofs.Named.{one_category, one_choice, one_number}
 use Rattle.wire_cursor.proofs.GroupFacts.{at, one_point, one_end}
-use Rattle.kept_rows.specs.Airfields.{airfield_fields, IsPlainAirfield, IsAirfieldRow}
+use Rattle.kept_rows.specs.Airfields.{airfield_fields, IsAirfieldRow}
 use Rattle.kept_rows.specs.Desk.{IsDeskRow}
-use Rattle.kept_rows.specs.Runways.{runway_values, IsPlainRunway, IsRunwayRow}
+use Rattle.kept_rows.specs.Runways.{IsRunwayRow}
 use Rattle.kept_rows.specs.declared.desk.DeskRow.{DeskRow}
 use Rattle.kept_rows.specs.declared.desk.DeskRow.TheVariants as rows
 use Rattle.kept_rows.specs.declared.runway.RunwayRow.{RunwayRow}

@@ -1,9 +1,9 @@
 -- The fields of runways.
-use Rattle.std.proofs.Common.{arith, ℕ, ◌≡◌, List, [], ◌∷◌, ◌++◌, All, codes, refl, ap, ◌∙◌}
+use Rattle.std.proofs.Common.{arith, ℕ, ◌≡◌, List, [], ◌∷◌, All, refl, ap, ◌∙◌}
 use Rattle.airfields.specs.Names.{IsFieldId, IsRunwayName}
 use Rattle.airfields.specs.declared.runway.Runway.{Runway}
 use Rattle.wire_values.specs.Commas.{joined}
-use Rattle.wire_values.specs.Words.{weight_word, pavement_word, approach_word}
+use Rattle.wire_values.specs.Words.{weight_word, pavement_word}
 use Rattle.wire_values.specs.Wanted.{Wanted, Choice, any_number, ApproachWanted, FieldIdWanted, RunwayNameWanted}
 use Rattle.wire_values.specs.Plainness.{IsUsual}
 use Rattle.wire_values.proofs.FieldFacts.{short_word, fits_short}
@@ -36,12 +36,31 @@ runway_usual = (weight_usual, (pavement_usual, end_usual end_shape (end_usual []
 runway_uncut : (r : Runway) → IsPlainRunway r → All IsUncut (runway_values r)
 unfolding runway_shape
 runway_uncut r h =
-    uncut_fields runway_shape runway_usual (runway_values r)
-    ((r.utility, refl), ((r.hard, refl),
-    ((r.end1.at.x, refl, (r.end1.at.on_grid.west, r.end1.at.on_grid.east)), ((r.end1.at.y, refl, (r.end1.at.on_grid.south, r.end1.at.on_grid.north)),
-    ((r.end1.z, refl, h.0), ((r.end1.kind, refl),
-    ((r.end2.at.x, refl, (r.end2.at.on_grid.west, r.end2.at.on_grid.east)), ((r.end2.at.y, refl, (r.end2.at.on_grid.south, r.end2.at.on_grid.north)),
-    ((r.end2.z, refl, h.1), ((r.end2.kind, refl), tt))))))))))
+    uncut_fields runway_shape runway_usual (runway_values r) (
+      (r.utility, refl),
+      (
+        (r.hard, refl),
+        (
+          (r.end1.at.x, refl, (r.end1.at.on_grid.west, r.end1.at.on_grid.east)),
+          (
+            (r.end1.at.y, refl, (r.end1.at.on_grid.south, r.end1.at.on_grid.north)),
+            (
+              (r.end1.z, refl, h.0),
+              (
+                (r.end1.kind, refl),
+                (
+                  (r.end2.at.x, refl, (r.end2.at.on_grid.west, r.end2.at.on_grid.east)),
+                  (
+                    (r.end2.at.y, refl, (r.end2.at.on_grid.south, r.end2.at.on_grid.north)),
+                    ((r.end2.z, refl, h.1), ((r.end2.kind, refl), tt)),
+                  ),
+                ),
+              ),
+            ),
+          ),
+        ),
+      ),
+    )
 
 pub runway_parts : (r : Runway) → IsPlainRunway r → (row : List ℕ) → row ≡ joined (runway_values r) → parts_of 44 row ≡ runway_values r
 runway_parts r h row e = ap (parts_of 44) e ∙ joined_parts _ _ (runway_uncut r h)

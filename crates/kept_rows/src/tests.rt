@@ -41,7 +41,11 @@ fn desk_rows(rt: HostRuntime) {
         (b"then", b"2026-03-01"),
     ];
     for (key, row) in bad {
-        assert!(rt; read_desk_row(key, row).is_none(), "at {}", key.escape_ascii());
+        assert!(rt;
+            read_desk_row(key, row).is_none(),
+            "at {}",
+            key.escape_ascii()
+        );
     }
 }
 
@@ -59,7 +63,11 @@ fn airfield_again(alloc: Global, key: &[u8], row: &[u8]) -> Option<String> {
 fn airfield_rows(rt: HostRuntime) {
     let alloc = rt.alloc();
     let good: [(&[u8], &[u8], &str); 2] = [
-        (b"AAA", b"airport,public,0,0,1000", "AAA|airport,public,0,0,1000"),
+        (
+            b"AAA",
+            b"airport,public,0,0,1000",
+            "AAA|airport,public,0,0,1000",
+        ),
         (
             b"H1",
             b"heliport,private,-5,7,20000000,-20000000,999999999,-999999999",
@@ -70,7 +78,9 @@ fn airfield_rows(rt: HostRuntime) {
         let text = airfield_again(alloc, key, row).expect(&rt, "it is a row");
         assert_eq!(rt; text.as_str(), want);
     }
-    assert!(rt; matches!(read_airfield_row(alloc, b"AAA", b"airport,dod,0,0,0"), Some(Airfield::Airport(a)) if a.runways.len() == 0));
+    assert!(rt;
+        matches!(read_airfield_row(alloc, b"AAA", b"airport,dod,0,0,0"), Some(Airfield::Airport(a)) if a.runways.len() == 0)
+    );
     let bad: [(&[u8], &[u8]); 11] = [
         (b"aaa", b"airport,public,0,0,1000"),
         (b"AAA ", b"airport,public,0,0,1000"),
@@ -85,7 +95,11 @@ fn airfield_rows(rt: HostRuntime) {
         (b"AAA", b""),
     ];
     for (key, row) in bad {
-        assert!(rt; read_airfield_row(alloc, key, row).is_none(), "at {}", row.escape_ascii());
+        assert!(rt;
+            read_airfield_row(alloc, key, row).is_none(),
+            "at {}",
+            row.escape_ascii()
+        );
     }
 }
 
@@ -104,7 +118,10 @@ fn runway_rows(rt: HostRuntime) {
     let row: &[u8] = b"other,hard,-50000,0,1000,P,50000,0,1000,NA";
     let value = read_runway_row(b"AAA 09/27", row).expect(&rt, "it is a row");
     let text = runway_text(alloc, &value).expect(&rt, "there is memory");
-    assert_eq!(rt; text.as_str(), "AAA 09/27|other,hard,-50000,0,1000,P,50000,0,1000,NA");
+    assert_eq!(rt;
+        text.as_str(),
+        "AAA 09/27|other,hard,-50000,0,1000,P,50000,0,1000,NA"
+    );
     let bad: [(&[u8], &[u8]); 9] = [
         (b"AAA", row),
         (b"AAA ", row),
@@ -117,6 +134,10 @@ fn runway_rows(rt: HostRuntime) {
         (b"AAA 09/27", b"hard,other,-50000,0,1000,P,50000,0,1000,NA"),
     ];
     for (key, row) in bad {
-        assert!(rt; read_runway_row(key, row).is_none(), "at {}", row.escape_ascii());
+        assert!(rt;
+            read_runway_row(key, row).is_none(),
+            "at {}",
+            row.escape_ascii()
+        );
     }
 }
