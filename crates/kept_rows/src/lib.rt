@@ -1,0 +1,21 @@
+//! The texts by which an office's file keeps the desk: five tables, each a map from key text to row text. For each table a writer and a
+//! reader; what is read is what was written, and every other text is refused.
+//!
+//! Lengths, coordinates, elevations and excesses are whole tenths of a foot.
+#![tactic(auto)]
+
+mod airfield;
+mod append;
+mod desk;
+mod groups;
+mod laws;
+mod parts;
+mod runway;
+
+pub use airfield::{append_airfield_key, append_airfield_row, read_airfield_row};
+pub use desk::{DeskRow, append_desk_key, append_desk_row, read_desk_row};
+pub use laws::{one_airfield_row, one_desk_row, one_runway_row};
+pub use runway::{RunwayRow, append_runway_key, append_runway_row, read_runway_row};
+
+#[cfg(test)]
+mod tests;
