@@ -9,7 +9,7 @@ use std::process::Abort;
 use std::test::Fail;
 
 /// How many bytes of replies there is room for.
-const ROOM: usize = 4_000_000;
+const ROOM: usize = 5_000_000;
 
 /// The records of one session have these replies.
 fn answered(rt: &impl Abort, alloc: Global, records: &str, replies: &str) -> Result<(), Fail> {
