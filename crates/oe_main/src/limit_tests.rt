@@ -30,15 +30,15 @@ fn too_many_runways(rt: HostRuntime) -> Result<(), Fail> {
     let mut replies = String::from_str(alloc, "ok,1,published,airport\n")?;
     for number in 2u32..18 {
         let record = format!(in alloc;
-            "runway,u,{number},AAA,R{number},other,hard,0,0,1000,V,50000,0,1000,V\n"
+            "runway,u,{number},AAA,{number}L,other,hard,0,0,1000,V,50000,0,1000,V\n"
         )?;
         records.push_str(record.as_str())?;
         let reply = format!(in alloc; "ok,{number},published,runway\n")?;
         replies.push_str(reply.as_str())?;
     }
-    records.push_str("runway,u,18,AAA,R18,other,hard,0,0,1000,V,50000,0,1000,V\n")?;
+    records.push_str("runway,u,18,AAA,18L,other,hard,0,0,1000,V,50000,0,1000,V\n")?;
     replies.push_str("no,7,TooManyRunways\n")?;
-    records.push_str("runway,u,18,AAA,R2,other,hard,0,0,1000,V,60000,0,1000,V\n")?;
+    records.push_str("runway,u,18,AAA,2L,other,hard,0,0,1000,V,60000,0,1000,V\n")?;
     replies.push_str("ok,18,published,runway\n")?;
     answered(&rt, alloc, records.as_str(), replies.as_str())
 }
