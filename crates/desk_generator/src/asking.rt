@@ -47,7 +47,7 @@ fn is_counted_obstruction<L: Ledger>(sky: &Sky, filing: &Filing, blank: Blank) -
     requires some { 0 < L.parts }
     ensures { result ≡ is_obstruction (findings_of sky.now filing.now) }
 {
-    sky.verdict(filing, &mut Steps::<L>::new(blank)).obstruction
+    sky.is_obstruction(filing, &mut Steps::<L>::new(blank))
 }
 
 /// Whether a structure exceeds a standard.

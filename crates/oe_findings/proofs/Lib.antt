@@ -1,3 +1,4 @@
 pub mod FieldFacts
 pub mod Sights
 pub mod Counts
+pub mod Standards

@@ -15,11 +15,12 @@ use Rattle.airfield_findings.specs.Entries.{entries, no_key, of_airfield, slope_
 use Rattle.airfield_findings.specs.Prepared.{airfield_of}
 use Rattle.surface_tree.specs.declared.level.TheConstants.{MIDDLE_LEVEL}
 use Rattle.airfield_findings.specs.Reaches.{HasLevels}
+use Rattle.airfield_findings.specs.Verdicts.{is_obstruction}
 use Rattle.airfield_findings.specs.declared.finding.Finding.{Finding}
 use Rattle.airfield_findings.specs.declared.finding.Rule.TheVariants as rules
 use Rattle.airfield_findings.specs.declared.prepared.Prepared.{Prepared}
 use Rattle.oe_findings.specs.List.{rule_a}
-use Rattle.oe_findings.specs.Screenings.{standards_over, slopes_over, HasSeen}
+use Rattle.oe_findings.specs.Screenings.{exceeds_over, standards_over, slopes_over, HasSeen}
 
 image : {X Y Z : Type 0} (f : Y → List Z) (g : X → Y) (xs : List X) → flat_map f (map g xs) ≡ flat_map (λ x. f (g x)) xs
 image f g [] = refl
@@ -63,3 +64,10 @@ levels_of site h = record {
   standards_level = top_level site (standards_top site) h (standards_is_top site h);
   notice_level = top_level site (notice_top site) h (notice_is_top site h);
 }
+
+-- whether the airfields over the point exceed is whether any does
+pub exceeds_all : (site : Site) (all : List Prepared) (x : Point) → x ≡ site.at → HasLevels site
+    → exceeds_over site (map airfield_of (all_hits area_of x all)) ≡ exceeds_over site (map airfield_of all)
+exceeds_all site all x at levels =
+    ap (λ (y : Point). exceeds_over site (map airfield_of (all_hits area_of y all))) at
+    ∙ ap is_obstruction (over (of_airfield site) site.at all (λ p. p.in_place.standards site levels))

@@ -4,6 +4,7 @@
 #![tactic(auto)]
 
 mod notices;
+mod obstruction;
 mod screening;
 mod sky;
 mod surroundings;

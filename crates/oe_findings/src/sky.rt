@@ -6,7 +6,7 @@ ghost use Rattle.airport_register.specs.Amendments.{amended_id, first_broken, af
 ghost use Rattle.airport_register.specs.Changes.{IsChange};
 ghost use Rattle.surface_tree.specs.declared.square.TheConstants.{TOP_LEVEL};
 ghost use Rattle.oe_findings.specs.List.{findings_of};
-ghost use Rattle.airfield_findings.specs.Verdicts.{verdict_of};
+ghost use Rattle.airfield_findings.specs.Verdicts.{is_obstruction, verdict_of};
 
 use crate::screening::Screening;
 use crate::surroundings::Surroundings;
@@ -14,6 +14,7 @@ use airfield_findings::{Collector, Findings, Verdict};
 use airfields::Filing;
 use airport_register::{AmendRefusal, Amendment, Changed, Register};
 use grid_exact::{NoMemory, Steps};
+use height_rules::excess_499;
 use std::alloc::Global;
 use std::marker::Model;
 use std::sync::ledger::Ledger;
@@ -169,5 +170,17 @@ impl Sky {
             Ok(verdict) => verdict,
             Err(NoMemory) => unreachable!(),
         }
+    }
+
+    /// Whether that list has a standard of 77.17, 77.19 or 77.23. It takes no memory, and works out no airfield's excesses once one has told.
+    #[tactic(auto, using(crate::proofs::Standards::by_height, crate::proofs::Standards::by_airfields))]
+    pub fn is_obstruction<L: Ledger>(&self, filing: &Filing, steps: &mut Steps<L>) -> bool
+        ensures found { result ≡ is_obstruction (findings_of self.now filing.now) }
+        ensures steps { steps.new ≤ steps.old + (TOP_LEVEL + 1) + length self.now }
+    {
+        if excess_499(filing).is_some() {
+            return true;
+        }
+        self.surroundings.exceeded(filing, steps)
     }
 }

@@ -5,10 +5,12 @@ ghost use Rattle.std.specs.Arc.{arc_value};
 ghost use Rattle.airfields.specs.Airfields.{IsHeld};
 ghost use Rattle.airport_register.specs.Amendments.{replaced};
 ghost use Rattle.surface_tree.specs.declared.square.TheConstants.{TOP_LEVEL};
-ghost use Rattle.oe_findings.specs.Screenings.{HasSeen};
+ghost use Rattle.oe_findings.specs.Screenings.{exceeds_over, HasSeen};
 
+use crate::obstruction::Obstruction;
 use crate::screening::Screening;
 use airfield_findings::{Collector, Prepared};
+use airfields::Filing;
 use airport_register::{Changed, Register};
 use grid_exact::{NoMemory, Steps};
 use std::alloc::Global;
@@ -95,5 +97,18 @@ impl Surroundings {
     {
         let at = screening.filing.at;
         self.tree.visit(&at, screening, steps);
+    }
+
+    /// Whether a structure exceeds a standard of one of the airfields.
+    pub(crate) fn exceeded<L: Ledger>(&self, filing: &Filing, steps: &mut Steps<L>) -> bool
+        ensures found { result ≡ exceeds_over filing.now self.now }
+        ensures steps { steps.new ≤ steps.old + (TOP_LEVEL + 1) + length self.now }
+    {
+        let mut obstruction = Obstruction {
+            filing: *filing,
+            is_found: false,
+        };
+        self.tree.visit(&filing.at, &mut obstruction, steps);
+        obstruction.is_found
     }
 }

@@ -56,6 +56,7 @@ struct Screened {
     list: Findings,
     again: Findings,
     verdict: Verdict,
+    is_obstruction: bool,
 }
 
 fn screen<L: Ledger>(
@@ -75,6 +76,7 @@ fn screen<L: Ledger>(
         list,
         again: sky.findings(alloc, filing, &mut steps)?,
         verdict: sky.verdict(filing, &mut steps),
+        is_obstruction: sky.is_obstruction(filing, &mut steps),
     })
 }
 
@@ -95,6 +97,7 @@ fn a_sky_over_one_airport(rt: HostRuntime) -> Result<(), Fail> {
     assert_eq!(rt; screened.list.len(), 2);
     assert!(rt; screened.list.equal(&screened.again));
     assert_eq!(rt; screened.verdict.entries, 2);
+    assert!(rt; screened.is_obstruction);
     Ok(())
 }
 
@@ -116,8 +119,10 @@ fn a_heliport_comes_and_goes(rt: HostRuntime) -> Result<(), Fail> {
     let before = screen::<Brand>(alloc, Blank::new(1), &sky, &filing)?;
     assert_eq!(rt; before.list.len(), 3);
     assert!(rt; before.verdict.obstruction);
+    assert!(rt; before.is_obstruction);
     let (sky, _) = sky.amended(alloc, &Amendment::Drop(id))?;
     let after = screen::<Brand>(alloc, Blank::new(1), &sky, &filing)?;
     assert_eq!(rt; after.verdict.entries, 0);
+    assert!(rt; !after.is_obstruction);
     Ok(())
 }

@@ -2,3 +2,4 @@ pub mod Unconcerned
 pub mod Abouts
 pub mod Turning
 pub mod Reaching
+pub mod Boxes

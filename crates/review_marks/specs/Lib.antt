@@ -1,3 +1,4 @@
 pub mod Books
+pub mod Near
 pub mod Shares
 pub mod Turns

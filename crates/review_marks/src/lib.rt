@@ -10,6 +10,7 @@ mod amended;
 mod book;
 mod change;
 mod listing;
+mod near;
 mod row;
 mod share;
 

@@ -8,15 +8,17 @@ ghost use Rattle.airfields.specs.Categories.{is_described};
 ghost use Rattle.airfield_findings.specs.Prepared.{airfield_of};
 ghost use Rattle.airfield_findings.specs.Entries.{field_key, of_airfield, slope_entries};
 ghost use Rattle.review_marks.specs.Books.{differs};
+ghost use Rattle.review_marks.specs.Near.{area_of, IsAround};
 ghost use Rattle.review_marks.specs.Shares.{about, entries_by, given, names, is_described_field, is_due as is_due_of, share_of, differ_shares, AirfieldChange, AreHeld, change_of, concerns};
 ghost use Rattle.std.specs.Prelude.{if◌then◌else◌, []};
 
 use crate::about::entries_about;
 use crate::listing::differ;
+use crate::near::{around, lies_in};
 use airfield_findings::{Finding, Findings, Prepared, Rule, SurfaceKey, put_airfield, put_slope};
 use airfields::{Airfield, FieldId, Filing};
 use airport_register::Changed;
-use grid_exact::NoMemory;
+use grid_exact::{Area, NoMemory};
 use notice_slopes::exempt;
 use std::alloc::Global;
 use std::marker::Model;
@@ -105,6 +107,16 @@ impl Side {
         match &self.prepared {
             Some(prepared) => is_reached(prepared, filing),
             None => false,
+        }
+    }
+
+    /// The area outside of which it gives no entry, where there is an airfield.
+    fn area(&self) -> Option<Area>
+        ensures { result ≡ area_of self.now.prepared }
+    {
+        match &self.prepared {
+            Some(prepared) => Some(prepared.area()),
+            None => None,
         }
     }
 
@@ -201,12 +213,15 @@ fn construction(id: &FieldId) -> Finding
     }
 }
 
-/// An airfield before and after a change, with their surfaces.
+/// An airfield before and after a change, with their surfaces, and a box about the areas of both.
 #[derive(Drop)]
 pub(crate) struct FieldChange {
     id: FieldId,
     before: Side,
     after: Side,
+    area: Option<Area>,
+    ghost was_around: { IsAround area (area_of before.prepared) },
+    ghost is_around: { IsAround area (area_of after.prepared) },
 }
 
 impl Model for FieldChange {
@@ -229,10 +244,14 @@ impl FieldChange {
         requires held { AreHeld (change_of changed.now) }
         ensures { IfOk result (λ c. c ≡ change_of changed.now) }
     {
+        let before = Side::of(alloc, &changed.before)?;
+        let after = Side::of(alloc, &changed.after)?;
+        let area = around(&before.area(), &after.area());
         Ok(FieldChange {
             id: changed.id,
-            before: Side::of(alloc, &changed.before)?,
-            after: Side::of(alloc, &changed.after)?,
+            before,
+            after,
+            area,
         })
     }
 
@@ -242,6 +261,9 @@ impl FieldChange {
     pub(crate) fn reaches(&self, filing: &Filing) -> bool
         ensures { result ≡ false → concerns self.now filing.now ≡ false }
     {
+        if !lies_in(&self.area, &filing.at) {
+            return is_on(&self.id, filing);
+        }
         self.before.reaches(filing) || self.after.reaches(filing) || is_on(&self.id, filing)
     }
 
