@@ -55,6 +55,10 @@ impl Source for FakeSource {
 
     ghost faults = { λ s. s.faults };
 
+    ghost Beside = { Unit {0} };
+
+    ghost beside = { λ _. tt };
+
     fn read(&mut self, buf: &mut [u8]) -> Result<usize, Failed> {
         self.calls = self.calls.saturating_add(1);
         if self.fail.contains(&self.calls) {
@@ -111,6 +115,10 @@ impl Sink for FakeSink {
     ghost held = { λ s. Some s.bytes.items };
 
     ghost faults = { λ s. s.faults };
+
+    ghost Beside = { Unit {0} };
+
+    ghost beside = { λ _. tt };
 
     fn write(&mut self, buf: &[u8]) -> Result<usize, Failed> {
         self.calls = self.calls.saturating_add(1);

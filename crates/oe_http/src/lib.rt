@@ -1,16 +1,18 @@
-//! Streams of bytes that count their faults, the lines of a source, and texts written whole. A length is in bytes.
+//! Streams of bytes that count their faults, the two ends of a link, the lines of a source, and texts written whole. A length is in bytes.
 #![tactic(auto)]
 
 mod fakes;
 mod lines;
+mod link;
 mod standard;
 mod stream;
 mod whole;
 
 pub use fakes::{FakeSink, FakeSource};
 pub use lines::{BLOCK_SIZE, INPUT_LIMIT, LineReader, Next, ReadError};
+pub use link::FakeLink;
 pub use standard::{ReadSource, WriteSink};
-pub use stream::{Failed, Sink, Source};
+pub use stream::{Failed, Sink, Source, TwoWay};
 pub use whole::write_whole;
 
 #[cfg(test)]

@@ -219,6 +219,7 @@ impl LineReader {
         ensures part { IfErr result (λ e. e ≢ ReadError.NoMemory → TakesPart (unread self.old (S.left source.old)) (S.left source.new)) }
         ensures still { HasFeed self.old.bytes → source.new ≡ source.old }
         ensures turns { IfOk result (λ n. n ≢ Next.End → most_left self.new < most_left self.old) }
+        ensures beside { S.beside source.new ≡ S.beside source.old }
         ensures reads { Reads self.old self.new (S.left source.old) (S.left source.new) (S.faults source.old) (S.faults source.new) result }
     {
         line.clear();
@@ -239,6 +240,7 @@ impl LineReader {
         ensures part { IfErr result (λ e. e ≢ ReadError.NoMemory → TakesPart (unread self.old (S.left source.old)) (S.left source.new)) }
         ensures still { HasFeed self.old.bytes → source.new ≡ source.old }
         ensures turns { IfOk result (λ raw. Turns (most_left self.old) (most_left self.new) raw.has_feed raw.is_long line.new.items) }
+        ensures beside { S.beside source.new ≡ S.beside source.old }
         ensures reads { Reads self.old self.new (S.left source.old) (S.left source.new) (S.faults source.old) (S.faults source.new) result }
     {
         let mut is_long = false;
@@ -305,6 +307,7 @@ impl LineReader {
         ensures still { 0 < length self.old.bytes → (self.new ≡ self.old) × (source.new ≡ source.old) }
         ensures found { IfOk result (λ found. IsFilled found self.new.bytes (unread self.new (S.left source.new))) }
         ensures turns { OnOk result (most_left self.new ≡ most_left self.old) }
+        ensures beside { S.beside source.new ≡ S.beside source.old }
         ensures reads { Reads self.old self.new (S.left source.old) (S.left source.new) (S.faults source.old) (S.faults source.new) result }
     {
         if self.start < self.end {

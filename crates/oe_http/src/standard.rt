@@ -27,6 +27,10 @@ impl<R: Read> Source for ReadSource<R> {
 
     ghost faults = { λ s. s.faults };
 
+    ghost Beside = { Unit {0} };
+
+    ghost beside = { λ _. tt };
+
     fn read(&mut self, buf: &mut [u8]) -> Result<usize, Failed> {
         match self.inner.read(buf) {
             Ok(count) => Ok(count),
@@ -60,6 +64,10 @@ impl<W: Write> Sink for WriteSink<W> {
     ghost held = { λ s. W.contents s.inner };
 
     ghost faults = { λ s. s.faults };
+
+    ghost Beside = { Unit {0} };
+
+    ghost beside = { λ _. tt };
 
     fn write(&mut self, buf: &[u8]) -> Result<usize, Failed> {
         if buf.is_empty() {

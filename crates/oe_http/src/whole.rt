@@ -1,6 +1,6 @@
 //! A text, written whole.
 
-ghost use Rattle.std.specs.Prelude.{List, ℕ, [], OnOk, OnErr};
+ghost use Rattle.std.specs.Prelude.{◌≡◌, List, ℕ, [], OnOk, OnErr};
 ghost use Rattle.oe_http.specs.Causes.{HasCause};
 ghost use Rattle.oe_http.specs.Written.{Sent};
 
@@ -15,6 +15,7 @@ use crate::{Failed, Sink};
 pub fn write_whole<O: Sink>(output: &mut O, text: &[u8]) -> Result<(), Failed>
     ensures ok { OnOk result (Sent (O.held output.old) (O.held output.new) text.now []) }
     ensures err { OnErr result ((rest : List ℕ) × Sent (O.held output.old) (O.held output.new) text.now rest) }
+    ensures beside { O.beside output.new ≡ O.beside output.old }
     ensures cause { HasCause (O.faults output.old) (O.faults output.new) result }
 {
     let mut rest = text;

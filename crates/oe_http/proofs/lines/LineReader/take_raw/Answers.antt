@@ -1,4 +1,4 @@
-use Rattle.std.proofs.Common.{arith, ◌<◌, ◌≡◌, length, refl}
+use Rattle.std.proofs.Common.{arith, ◌<◌, ◌≡◌, ◌∙◌, length, refl}
 use Rattle.oe_http.proofs.LineFacts.{read_end, read_on, take_plain, late, fell_on}
 use Rattle.oe_http.proofs.lines.LineReader.take_raw.Goals as goal
 
@@ -23,5 +23,6 @@ loop-self-preserved g c =
       turns_long = λ _. omega (arith, before.turns, fill.turns, piece.falls, same, some);
       more = omega (arith, before.more, fill.reads.more, piece.taken);
       taken = rw piece.taken (fell_on _ _ _ _ _ _ before.more fill.reads.more before.taken fill.reads.taken);
+      beside = fill.beside ∙ before.beside;
       later = omega (arith, before.later, fill.reads.later);
     }

@@ -14,6 +14,7 @@ invariant-loop-self g l =
       turns_long : l.is_long ≡ true → most_left l.self < most_left l.fn.self;
       more : l.fn.self.taken ≤ l.self.taken;
       taken : FellBy (l.self.taken - l.fn.self.taken) (left l.fn.source) (left l.source);
+      beside : g.S.Source.beside l.source ≡ g.S.Source.beside l.fn.source;
       later : g.S.Source.faults l.fn.source ≤ g.S.Source.faults l.source;
     }
 
