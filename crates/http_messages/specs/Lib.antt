@@ -5,3 +5,4 @@ pub mod Heading
 pub mod Messages
 pub mod Responses
 pub mod Said
+pub mod Statuses

@@ -39,13 +39,21 @@ pub record EndsInBody (stream : List ℕ) : Type 0 where
 abbrev pub RefusesFields : List ℕ → ℕ → Type 0
 RefusesFields stream status = (head : RequestHead) × (rest : List ℕ) × BeginsWith stream head rest (Refused status)
 
+-- a stream ends inside a head or a body
+abbrev pub IsTruncated : List ℕ → Type 0
+IsTruncated stream = (0 < length stream) × (IsOpen stream ⊎ EndsInBody stream)
+
+-- a stream is refused with this status
+abbrev pub IsRefused : List ℕ → ℕ → Type 0
+IsRefused stream status =
+    ((status ≡ HEAD_TOO_LARGE) × RefusesLarge stream) ⊎ ((status ≡ MALFORMED) × RefusesMalformed stream) ⊎ RefusesFields stream status
+
 -- what comes next in a stream, and what is left of it then
 abbrev pub Comes : List ℕ → Incoming → List ℕ → Type 0
 Comes stream (incoming.Request method target body close) left = IsMessage stream method target body close left
 Comes stream incoming.Closed left = (stream ≡ []) × (left ≡ [])
-Comes stream incoming.Truncated left = (0 < length stream) × (IsOpen stream ⊎ EndsInBody stream)
-Comes stream (incoming.Refused status) left =
-    ((status ≡ HEAD_TOO_LARGE) × RefusesLarge stream) ⊎ ((status ≡ MALFORMED) × RefusesMalformed stream) ⊎ RefusesFields stream status
+Comes stream incoming.Truncated left = IsTruncated stream
+Comes stream (incoming.Refused status) left = IsRefused stream status
 Comes stream incoming.ReadFault left = Unit {0}
 Comes stream incoming.Long left = Unit {0}
 Comes stream incoming.NoMemory left = Unit {0}

@@ -4,6 +4,7 @@ ghost use Rattle.std.specs.Prelude.{◌≡◌, ◌≤◌, ◌<◌, ℕ, List, So
 ghost use Rattle.std.specs.List.{list_any};
 ghost use Rattle.httparse.specs.Spans.{header_bytes, IsHeaderWithin};
 ghost use Rattle.http_messages.specs.Frames.{frame, values, is_called, by_length};
+ghost use Rattle.http_messages.specs.Statuses.{HasFrameStatus};
 ghost use Rattle.http_messages.specs.Counts.{Counts, IfOnce, IsFrame, IsSmall};
 
 use crate::number::length_of;
@@ -82,6 +83,7 @@ fn values_of(bytes: &[u8], headers: &[HeaderSpan], name: &[u8]) -> Count
 fn by_value(value: &[u8]) -> Framing
     ensures frame { IsFrame result (by_length value.now) }
     ensures small { IsSmall result }
+    ensures status { HasFrameStatus result }
 {
     match length_of(value) {
         Some(number) => {
@@ -99,6 +101,7 @@ pub(crate) fn frame_of(bytes: &[u8], headers: &[HeaderSpan], is_post: bool) -> F
     requires { All (IsHeaderWithin (length bytes.now)) headers.now }
     ensures frame { IsFrame result (frame is_post (map (header_bytes bytes.now) headers.now)) }
     ensures small { IsSmall result }
+    ensures status { HasFrameStatus result }
 {
     if first_field(bytes, headers, b"transfer-encoding").is_some() {
         return Framing::Refused(NO_TRANSFER_ENCODING);

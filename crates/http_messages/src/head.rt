@@ -6,6 +6,7 @@ ghost use Rattle.httparse.specs.Grammar.{RequestHead};
 ghost use Rattle.httparse.specs.Spans.{header_bytes, IsHeaderWithin, IsRequestAt, IsRequestWithin};
 ghost use Rattle.http_messages.specs.Frames.{asks_close, frame_of, is_close};
 ghost use Rattle.http_messages.specs.Counts.{IsFrame, IsSmall};
+ghost use Rattle.http_messages.specs.Statuses.{HasFrameStatus, HasHeadStatus};
 ghost use Rattle.http_messages.specs.Said.{SaysOr};
 
 use crate::frame::{Framing, frame_of, is_called};
@@ -52,6 +53,7 @@ fn framing(bytes: &[u8], headers: &[HeaderSpan], spans: RequestSpans) -> Framing
     requires { IsRequestWithin bytes.now headers.now spans }
     ensures frame { (head : RequestHead) → IsRequestAt bytes.now headers.now spans head → IsFrame result (frame_of head) }
     ensures small { IsSmall result }
+    ensures status { HasFrameStatus result }
 {
     let is_post = spans.method.of(bytes) == b"POST".as_slice();
     frame_of(bytes, fields_of(headers, spans), is_post)
@@ -75,7 +77,8 @@ pub(crate) fn read_head(
     spans: RequestSpans,
 ) -> HeadRead
     requires { IsRequestWithin bytes.now headers.now spans }
-    ensures { (head : RequestHead) → IsRequestAt bytes.now headers.now spans head → SaysOr result head }
+    ensures says { (head : RequestHead) → IsRequestAt bytes.now headers.now spans head → SaysOr result head }
+    ensures status { HasHeadStatus result }
 {
     match framing(bytes, headers, spans) {
         Framing::Body(size) => {

@@ -1,8 +1,9 @@
 //! The bytes of a stream that were read and not used.
 
-ghost use Rattle.std.specs.Prelude.{◌≡◌, ◌≤◌, ◌<◌, ◌+◌, List, ℕ, [], IfOk, IsErrOf, length, true, false, drop};
+ghost use Rattle.std.specs.Prelude.{◌≡◌, ◌≤◌, ◌<◌, ◌+◌, ◌-◌, List, ℕ, [], IfOk, IsErrOf, length, true, false, drop};
 ghost use Rattle.std.specs.Io.KnownBytes.{Keeps, IsAtEnd, prepend_known};
 ghost use Rattle.oe_http.specs.Causes.{Rose};
+ghost use Rattle.oe_http.specs.Pending.{FellBy};
 ghost use Rattle.oe_http.specs.declared.lines.TheConstants.{INPUT_LIMIT};
 ghost use Rattle.http_heads.specs.Heads.{Decides};
 ghost use Rattle.http_messages.specs.declared.held.TheConstants.{READ_SIZE};
@@ -70,8 +71,10 @@ fn read_more<S: Source>(link: &mut S, held: &mut Held) -> Result<bool, ReadEnd>
     ensures end { IfOk result (λ came. came ≡ false → IsAtEnd (S.left link.new)) }
     ensures same { IfOk result (λ came. came ≡ false → held.new.bytes.items ≡ held.old.bytes.items) }
     ensures turns { IfOk result (λ came. came ≡ true → held.old.taken < held.new.taken) }
+    ensures beside { S.beside link.new ≡ S.beside link.old }
     ensures later { S.faults link.old ≤ S.faults link.new }
     ensures more { held.old.taken ≤ held.new.taken }
+    ensures took { FellBy (held.new.taken - held.old.taken) (S.left link.old) (S.left link.new) }
     ensures fault { IsErrOf result ReadEnd.Fault → Rose (S.faults link.old) (S.faults link.new) }
     ensures long { IsErrOf result ReadEnd.Long → INPUT_LIMIT ≤ held.new.taken }
 {
@@ -102,7 +105,7 @@ fn look(held: &mut Held, headers: &mut [HeaderSpan; MOST_FIELDS]) -> Decision
 }
 
 /// Reads until the next head is decided, whatever way the reads cut it.
-#[tactic(auto, using(crate::proofs::HeldFacts::keeps_on))]
+#[tactic(auto, using(crate::proofs::HeldFacts::keeps_on, oe_http::proofs::LineFacts::fell_none, oe_http::proofs::LineFacts::fell_on))]
 pub(crate) fn next_head<S: Source>(
     link: &mut S,
     held: &mut Held,
@@ -111,8 +114,10 @@ pub(crate) fn next_head<S: Source>(
     ensures kept { UnlessFailed result (Keeps (prepend_known held.old.bytes.items (S.left link.old)) (prepend_known held.new.bytes.items (S.left link.new))) }
     ensures balance { UnlessFailed result (length held.new.bytes.items + held.old.taken ≡ length held.old.bytes.items + held.new.taken) }
     ensures decides { HeadComes (S.left link.new) held.new.bytes.items headers.new result }
+    ensures beside { S.beside link.new ≡ S.beside link.old }
     ensures later { S.faults link.old ≤ S.faults link.new }
     ensures more { held.old.taken ≤ held.new.taken }
+    ensures took { FellBy (held.new.taken - held.old.taken) (S.left link.old) (S.left link.new) }
     ensures fault { result ≡ HeadEnd.Failed ReadEnd.Fault → Rose (S.faults link.old) (S.faults link.new) }
     ensures long { result ≡ HeadEnd.Failed ReadEnd.Long → INPUT_LIMIT ≤ held.new.taken }
 {
@@ -131,15 +136,17 @@ pub(crate) fn next_head<S: Source>(
 }
 
 /// Reads until so many bytes are held. Answers whether they are: else the end has come.
-#[tactic(auto, using(crate::proofs::HeldFacts::keeps_on))]
+#[tactic(auto, using(crate::proofs::HeldFacts::keeps_on, oe_http::proofs::LineFacts::fell_none, oe_http::proofs::LineFacts::fell_on))]
 pub(crate) fn hold<S: Source>(link: &mut S, held: &mut Held, len: usize) -> Result<bool, ReadEnd>
     ensures kept { IfOk result (λ _. Keeps (prepend_known held.old.bytes.items (S.left link.old)) (prepend_known held.new.bytes.items (S.left link.new))) }
     ensures whole { IfOk result (λ is_whole. is_whole ≡ true → len ≤ length held.new.bytes.items) }
     ensures balance { IfOk result (λ _. length held.new.bytes.items + held.old.taken ≡ length held.old.bytes.items + held.new.taken) }
     ensures end { IfOk result (λ is_whole. is_whole ≡ false → IsAtEnd (S.left link.new)) }
     ensures short { IfOk result (λ is_whole. is_whole ≡ false → length held.new.bytes.items < len) }
+    ensures beside { S.beside link.new ≡ S.beside link.old }
     ensures later { S.faults link.old ≤ S.faults link.new }
     ensures more { held.old.taken ≤ held.new.taken }
+    ensures took { FellBy (held.new.taken - held.old.taken) (S.left link.old) (S.left link.new) }
     ensures fault { IsErrOf result ReadEnd.Fault → Rose (S.faults link.old) (S.faults link.new) }
     ensures long { IsErrOf result ReadEnd.Long → INPUT_LIMIT ≤ held.new.taken }
 {

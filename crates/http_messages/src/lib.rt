@@ -16,7 +16,9 @@ pub use held::Held;
 pub use laws::one_message;
 pub use request::{Incoming, next_request};
 pub use response::{SendErr, write_response};
-pub use status::{BODY_TOO_LARGE, HEAD_TOO_LARGE, LENGTH_WANTED, MALFORMED, NO_TRANSFER_ENCODING};
+pub use status::{
+    BODY_TOO_LARGE, HEAD_TOO_LARGE, LENGTH_WANTED, MALFORMED, NO_MEMORY, NO_TRANSFER_ENCODING,
+};
 
 #[cfg(test)]
 mod tests;

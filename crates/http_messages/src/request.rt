@@ -1,12 +1,14 @@
 //! The next request of a stream.
 
-ghost use Rattle.std.specs.Prelude.{◌≡◌, ◌≤◌, ◌<◌, ◌+◌, List, ℕ, length};
+ghost use Rattle.std.specs.Prelude.{◌≡◌, ◌≤◌, ◌<◌, ◌+◌, ◌-◌, List, ℕ, length};
 ghost use Rattle.oe_http.specs.Causes.{Rose};
+ghost use Rattle.oe_http.specs.Pending.{FellBy};
 ghost use Rattle.oe_http.specs.declared.lines.TheConstants.{INPUT_LIMIT};
 ghost use Rattle.httparse.specs.Grammar.{RequestHead};
 ghost use Rattle.httparse.specs.Spans.{IsRequestAt, IsRequestWithin};
 ghost use Rattle.http_heads.specs.declared.decision.TheConstants.{HEAD_LIMIT};
 ghost use Rattle.http_messages.specs.Messages.{GivesMessage, IsBroken, Turns, most_left, unread};
+ghost use Rattle.http_messages.specs.Statuses.{HasStatus};
 ghost use Rattle.http_messages.specs.Given.{HoldsSaid, IsGiven};
 
 use crate::head::read_head;
@@ -51,6 +53,7 @@ pub enum Incoming {
 /// The same, of a read that gave no more bytes.
 fn broken(end: ReadEnd) -> Incoming
     ensures broken { IsBroken result }
+    ensures status { HasStatus result }
     ensures fault { result ≡ Incoming.ReadFault → end ≡ ReadEnd.Fault }
     ensures long { result ≡ Incoming.Long → end ≡ ReadEnd.Long }
 {
@@ -65,6 +68,7 @@ fn broken(end: ReadEnd) -> Incoming
 fn give(alloc: Global, held: &mut Held, head: Head, len: usize) -> Incoming
     requires { len + head.size ≤ length held.old.bytes.items }
     ensures given { IsGiven head held.old.bytes.items len result held.new.bytes.items }
+    ensures status { HasStatus result }
     ensures taken { held.new.taken ≡ held.old.taken }
 {
     let size = head.size;
@@ -96,7 +100,11 @@ fn take_body<S: Source>(
     requires { HoldsSaid held.old.bytes.items head len }
     ensures gives { GivesMessage (unread held.old (S.left link.old)) (unread held.new (S.left link.new)) result }
     ensures turns { Turns (most_left held.old) (most_left held.new) result }
+    ensures status { HasStatus result }
+    ensures beside { S.beside link.new ≡ S.beside link.old }
     ensures later { S.faults link.old ≤ S.faults link.new }
+    ensures more { held.old.taken ≤ held.new.taken }
+    ensures took { FellBy (held.new.taken - held.old.taken) (S.left link.old) (S.left link.new) }
     ensures fault { result ≡ Incoming.ReadFault → Rose (S.faults link.old) (S.faults link.new) }
     ensures long { result ≡ Incoming.Long → INPUT_LIMIT ≤ held.new.taken }
 {
@@ -120,7 +128,11 @@ fn take_request<S: Source>(
     requires whole { (head : RequestHead) × IsRequestAt held.old.bytes.items headers.now spans head × (length head.fields ≤ MOST_FIELDS) × (spans.len ≤ HEAD_LIMIT) }
     ensures gives { GivesMessage (unread held.old (S.left link.old)) (unread held.new (S.left link.new)) result }
     ensures turns { Turns (most_left held.old) (most_left held.new) result }
+    ensures status { HasStatus result }
+    ensures beside { S.beside link.new ≡ S.beside link.old }
     ensures later { S.faults link.old ≤ S.faults link.new }
+    ensures more { held.old.taken ≤ held.new.taken }
+    ensures took { FellBy (held.new.taken - held.old.taken) (S.left link.old) (S.left link.new) }
     ensures fault { result ≡ Incoming.ReadFault → Rose (S.faults link.old) (S.faults link.new) }
     ensures long { result ≡ Incoming.Long → INPUT_LIMIT ≤ held.new.taken }
 {
@@ -137,7 +149,11 @@ fn take_request<S: Source>(
 pub fn next_request<S: Source>(alloc: Global, link: &mut S, held: &mut Held) -> Incoming
     ensures gives { GivesMessage (unread held.old (S.left link.old)) (unread held.new (S.left link.new)) result }
     ensures turns { Turns (most_left held.old) (most_left held.new) result }
+    ensures status { HasStatus result }
+    ensures beside { S.beside link.new ≡ S.beside link.old }
     ensures later { S.faults link.old ≤ S.faults link.new }
+    ensures more { held.old.taken ≤ held.new.taken }
+    ensures took { FellBy (held.new.taken - held.old.taken) (S.left link.old) (S.left link.new) }
     ensures fault { result ≡ Incoming.ReadFault → Rose (S.faults link.old) (S.faults link.new) }
     ensures long { result ≡ Incoming.Long → INPUT_LIMIT ≤ held.new.taken }
 {

@@ -110,6 +110,7 @@ pub fn write_response<O: Sink>(
     ensures ok { OnOk result (Sent (O.held link.old) (O.held link.new) (response_text status allow body.now close) []) }
     ensures fault { IsErrOf result SendErr.WriteFault → (rest : List ℕ) × Sent (O.held link.old) (O.held link.new) (response_text status allow body.now close) rest }
     ensures memory { IsErrOf result SendErr.NoMemory → Keeps (O.held link.old) (O.held link.new) }
+    ensures beside { O.beside link.new ≡ O.beside link.old }
     ensures later { O.faults link.old ≤ O.faults link.new }
     ensures cause { IsErrOf result SendErr.WriteFault → Rose (O.faults link.old) (O.faults link.new) }
 {

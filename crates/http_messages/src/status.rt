@@ -1,4 +1,4 @@
-//! The status numbers of refused requests.
+//! The status numbers of refused requests, and that of want of memory.
 
 /// The bytes are no request, or its length is none: 400.
 pub const MALFORMED: u16 = 400;
@@ -14,3 +14,6 @@ pub const HEAD_TOO_LARGE: u16 = 431;
 
 /// The body is told in another way than by its length: 501.
 pub const NO_TRANSFER_ENCODING: u16 = 501;
+
+/// Memory was refused: 507.
+pub const NO_MEMORY: u16 = 507;

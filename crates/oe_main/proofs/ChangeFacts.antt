@@ -1,14 +1,11 @@
 -- Changes: what was answered is what the desk decides, or want of memory.
-use Rattle.std.proofs.Common.{◌≡◌, ◌≢◌, ◌⊎◌, inl, inr, ◌≤◌, ◌+◌, ℕ, List, [], ◌∷◌, ◌++◌, length, arith, sym, ap, ◌∙◌, subst, refl}
+use Rattle.std.proofs.Common.{◌≡◌, ◌≢◌, ◌⊎◌, inl, inr, ◌+◌, ℕ, List, ◌++◌, sym, ap, ◌∙◌, refl}
 use Rattle.wire_requests.specs.Changes.{Asked}
 use Rattle.wire_requests.specs.declared.request.Request.TheVariants as requests
 use Rattle.wire_replies.specs.Replies.{reply_text}
 use Rattle.case_records.specs.declared.refusal.Refusal.{Refusal}
 use Rattle.case_records.specs.declared.refusal.Refusal.TheVariants as refusals
-use Rattle.desk_rules.specs.declared.entry.Entry.{Entry}
-use Rattle.desk_rules.specs.States.{State, last_number, stepped}
-use Rattle.desk_rules.specs.Machine.{Answer as Decided_, Kept, No, Done, after}
-use Rattle.desk_rules.proofs.Replaying.{same_entries}
+use Rattle.desk_rules.specs.Machine.{after}
 use Rattle.filing_desk.specs.Answers.{told, decision}
 use Rattle.filing_desk.specs.Clerks.{Clerking, Advances}
 use Rattle.filing_desk.specs.declared.answer.Answer.{Answer}
@@ -60,18 +57,3 @@ pub changed : (k l : Clerking) (q : Asked) (a : Answer) (old new : List ℕ) →
 changed k l q (answers.Accepted number outcome) old new h t =
     Decided (change_reply (told (decision k.state q))) refl (t ∙ ap (λ r. old ++ reply_text (change_reply r)) (sym h.0)) (ap (λ (c : Clerking). c.state) h.1)
 changed k l q (answers.Refused why) old new h t = refused k l q why old new (memory_or_not why) h t
-
--- ---- an entry more at most
-
-longer : (es : List Entry) (e : Entry) → length (es ++ e ∷ []) ≡ length es + 1
-longer [] e = refl
-longer (d ∷ es) e = omega (arith, longer es e)
-
-one_more : (s : State) (d : Decided_) → last_number (after s d) ≤ last_number s + 1
-one_more s (Kept e) = omega (arith)
-one_more s (No why) = omega (arith)
-one_more s (Done e step) = omega (arith, longer (stepped step s).entries e, ap (λ (es : List Entry). length es) (same_entries step s))
-
-pub counted : (k l : Clerking) (q : Asked) (a : Answer) → Advances (decision k.state q) k l a → last_number l.state ≤ last_number k.state + 1
-counted k l q (answers.Accepted number outcome) h = subst (λ (c : Clerking). last_number c.state ≤ last_number k.state + 1) (sym h.1) (one_more k.state (decision k.state q))
-counted k l q (answers.Refused why) h = subst (λ (c : Clerking). last_number c.state ≤ last_number k.state + 1) (sym h.1) (omega (arith))

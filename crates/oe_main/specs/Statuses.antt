@@ -5,9 +5,11 @@ use Rattle.oe_session.specs.declared.session.Ended.TheVariants as endings
 use Rattle.oe_main.specs.declared.status.Status.{Status}
 use Rattle.oe_main.specs.declared.status.Status.TheVariants as statuses
 
--- by how its session ended
+-- by how its session ended; that of a desk over lines is never cut short nor refused
 abbrev pub status_of : Ended → Status
 status_of endings.Closed = statuses.Done
+status_of endings.Truncated = statuses.Done
+status_of (endings.Refused number) = statuses.Done
 status_of endings.ReadFault = statuses.ReadFault
 status_of endings.WriteFault = statuses.WriteFault
 status_of endings.Long = statuses.InputLong

@@ -1,8 +1,8 @@
 //! The desk: what answers the lines of a session.
 
-ghost use Rattle.std.specs.Prelude.{◌≡◌, ◌≤◌, ◌<◌, ◌+◌, ◌^◌, ◌++◌, length, List, ℕ, OnOk, OnErr, string_bytes};
+ghost use Rattle.std.specs.Prelude.{◌≡◌, ◌≤◌, ◌<◌, ◌++◌, length, List, ℕ, OnOk, OnErr, string_bytes};
 ghost use Rattle.grid_exact.specs.Texts.{Extends};
-ghost use Rattle.desk_rules.specs.States.{State, empty, last_number};
+ghost use Rattle.desk_rules.specs.States.{State, empty};
 ghost use Rattle.oe_main.specs.Desk.{Answers, Step};
 
 use crate::fulfil::fulfil;
@@ -45,7 +45,6 @@ fn append_answer<L: Ledger>(
 ) -> Result<(), NoMemory>
     ensures ok { OnOk result (Answers clerk.old.state line.now (string_bytes text.old) (string_bytes text.new) clerk.new.state) }
     ensures part { OnErr result (Extends (string_bytes text.old) (string_bytes text.new)) }
-    ensures count { last_number clerk.new.state ≤ last_number clerk.old.state + 1 }
 {
     if line.is_empty() {
         return Ok(());
@@ -86,12 +85,9 @@ impl<L: Ledger> Desk<L> {
 }
 
 impl<L: Ledger> Answering for Desk<L> {
-    ghost use Rattle.desk_rules.specs.States.{last_number};
     ghost use Rattle.oe_main.specs.Desk.{Step};
 
     ghost step = { Step };
-
-    ghost count = { last_number };
 
     fn answer(&mut self, line: &[u8], text: &mut String) -> Result<(), NoMemory> {
         append_answer(

@@ -1,8 +1,7 @@
 //! The replies of the desk to requests.
 
-ghost use Rattle.std.specs.Prelude.{◌≡◌, ◌≤◌, ◌<◌, ◌+◌, ◌^◌, OnOk, OnErr, string_bytes};
+ghost use Rattle.std.specs.Prelude.{◌≡◌, OnOk, OnErr, string_bytes};
 ghost use Rattle.grid_exact.specs.Texts.{Extends};
-ghost use Rattle.desk_rules.specs.States.{last_number};
 ghost use Rattle.oe_main.specs.Desk.{Tells, change_reply};
 ghost use Rattle.wire_requests.specs.declared.request.Request.TheVariants as requests;
 ghost use Rattle.wire_requests.specs.declared.request.Query.TheVariants as queries;
@@ -162,7 +161,6 @@ fn make_change(
 ) -> Result<(), NoMemory>
     ensures ok { OnOk result (Tells clerk.old.state (requests.Change change.now) (string_bytes text.old) (string_bytes text.new) clerk.new.state) }
     ensures part { OnErr result (Extends (string_bytes text.old) (string_bytes text.new)) }
-    ensures count { last_number clerk.new.state ≤ last_number clerk.old.state + 1 }
 {
     append_reply(text, &reply_of(clerk.apply(alloc, change)))
 }
@@ -178,7 +176,6 @@ pub(crate) fn fulfil<L: Ledger>(
 ) -> Result<(), NoMemory>
     ensures ok { OnOk result (Tells clerk.old.state request.now (string_bytes text.old) (string_bytes text.new) clerk.new.state) }
     ensures part { OnErr result (Extends (string_bytes text.old) (string_bytes text.new)) }
-    ensures count { last_number clerk.new.state ≤ last_number clerk.old.state + 1 }
 {
     match request {
         Request::Query(Query::Screen(filing)) => append_findings(

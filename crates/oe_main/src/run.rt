@@ -1,7 +1,7 @@
 //! The top call.
 
 ghost use Rattle.std.specs.Prelude.{◌≡◌, ◌≢◌, ◌<◌, List, ℕ};
-ghost use Rattle.oe_session.specs.Session.{Answered, Begun, WritesWhole, HasCauses};
+ghost use Rattle.oe_session.specs.Session.{Answered, Begun, HasCauses, IsOfLines, WritesWhole};
 ghost use Rattle.desk_rules.specs.States.{State, empty};
 ghost use Rattle.oe_main.specs.Desk.{Step};
 ghost use Rattle.oe_main.specs.Commands.{IsDesk, IsGenerate, TellsUsage};
@@ -31,6 +31,7 @@ fn session<L: Ledger, S: Source, O: Sink>(
     ensures closed { result ≡ Ended.Closed → (after : State) × Answered Step empty after (S.left input.old) (O.held output.old) (O.held output.new) }
     ensures begun { Begun Step empty (S.left input.old) (O.held output.old) (O.held output.new) }
     ensures written { (after : State) × WritesWhole Step empty after result (S.left input.old) (S.left input.new) (O.held output.old) (O.held output.new) }
+    ensures lines { IsOfLines result }
     ensures causes { HasCauses result (S.left input.old) (S.left input.new) (S.faults input.old) (S.faults input.new) (O.faults output.old) (O.faults output.new) }
 {
     records(alloc, &mut Desk::<L>::new(alloc, blank), input, output)

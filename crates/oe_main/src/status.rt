@@ -58,6 +58,9 @@ pub(crate) fn ended_status(ended: Ended) -> Status
 {
     match ended {
         Ended::Closed => Status::Done,
+        // a desk over lines never ends so
+        Ended::Truncated => Status::Done,
+        Ended::Refused(_) => Status::Done,
         Ended::ReadFault => Status::ReadFault,
         Ended::WriteFault => Status::WriteFault,
         Ended::Long => Status::InputLong,

@@ -1,5 +1,5 @@
 -- For proofs alone: one turn of a session's loop.
-use Rattle.std.specs.Prelude.{ℕ, ◌+◌, List, [], ◌∷◌, ◌≡◌, ◌≢◌, ◌≤◌, ◌<◌, Bool, true, false, Option, Some, None, Result, Ok, Err}
+use Rattle.std.specs.Prelude.{ℕ, List, [], ◌∷◌, ◌≡◌, ◌≢◌, Bool, true, false, Option, Some, None, Result, Ok, Err}
 use Rattle.std.specs.Io.KnownBytes.{Appends, append_known}
 use Rattle.std.specs.Str.Lines.{lines}
 use Rattle.grid_exact.specs.Texts.{Extends}
@@ -41,8 +41,3 @@ Replies step before after unread_old unread_new left waiting_old waiting_new (Ok
     EndsRead unread_old unread_new × (waiting_new ≡ waiting_old) × (after ≡ before)
 Replies step before after unread_old unread_new left waiting_old waiting_new (Err e) =
     Extends waiting_old waiting_new × (e ≢ errors.NoMemory → TakesPart unread_old left × (after ≡ before))
-
--- with each line fewer bytes are left, and at most one change more was counted: so their sum never rises
-pub record Falls (left_old left_new count_old count_new : ℕ) : Type 0 where
-  pub turns : left_new < left_old
-  pub room : count_new + left_new ≤ count_old + left_old

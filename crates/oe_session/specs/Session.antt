@@ -66,3 +66,13 @@ pub record HasCauses (ended : Ended) (input left : Option (List ℕ)) (read_old 
   pub long : ended ≡ endings.Long → TookAtLeast INPUT_LIMIT input left
   pub read_later : read_old ≤ read_new
   pub write_later : write_old ≤ write_new
+
+-- the ways in which a session over lines ends: it is neither cut short nor refused
+abbrev pub IsOfLines : Ended → Type 0
+IsOfLines endings.Truncated = ⊥
+IsOfLines (endings.Refused status) = ⊥
+IsOfLines endings.Closed = Unit {0}
+IsOfLines endings.ReadFault = Unit {0}
+IsOfLines endings.WriteFault = Unit {0}
+IsOfLines endings.Long = Unit {0}
+IsOfLines endings.NoMemory = Unit {0}

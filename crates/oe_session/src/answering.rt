@@ -1,6 +1,6 @@
 //! What answers the lines of a session.
 
-ghost use Rattle.std.specs.Prelude.{◌≡◌, ◌≤◌, ◌<◌, ◌+◌, ◌^◌, ◌++◌, List, ℕ, length, OnOk, OnErr, string_bytes};
+ghost use Rattle.std.specs.Prelude.{◌≡◌, ◌≤◌, ◌<◌, ◌++◌, List, ℕ, length, OnOk, OnErr, string_bytes};
 ghost use Rattle.grid_exact.specs.Texts.{Extends};
 
 use grid_exact::{LINE_LIMIT, NoMemory};
@@ -10,10 +10,6 @@ pub trait Answering {
     /// The text of the reply to a line takes one state to the next: the state before, the line, the text, the state after.
     ghost step: { Self → List ℕ → List ℕ → Self → Type 0 };
 
-    /// How many changes it has counted: at most one more with each line. So its count never comes near the end of its
-    /// type, since a session has fewer than 2^41 lines.
-    ghost count: { Self → ℕ };
-
     /// Appends the text of the reply to a line. An empty line has an empty reply.
     ///
     /// # Errors
@@ -21,10 +17,8 @@ pub trait Answering {
     /// `NoMemory` where memory was refused. A part of the reply may then stand at the end of the text.
     fn answer(&mut self, line: &[u8], text: &mut String) -> Result<(), NoMemory>
         requires short { length line.now ≤ LINE_LIMIT }
-        requires room { count self.old < 2 ^ 41 }
         ensures reply { OnOk result ((reply : List ℕ) × step self.old line.now reply self.new × (string_bytes text.new ≡ string_bytes text.old ++ reply)) }
-        ensures part { OnErr result (Extends (string_bytes text.old) (string_bytes text.new)) }
-        ensures count { count self.new ≤ count self.old + 1 };
+        ensures part { OnErr result (Extends (string_bytes text.old) (string_bytes text.new)) };
 
     /// The same for a line of more than [`LINE_LIMIT`] bytes, which is not kept.
     ///
@@ -32,8 +26,6 @@ pub trait Answering {
     ///
     /// `NoMemory` where memory was refused. A part of the reply may then stand at the end of the text.
     fn answer_long(&mut self, text: &mut String) -> Result<(), NoMemory>
-        requires room { count self.old < 2 ^ 41 }
         ensures reply { OnOk result ((reply : List ℕ) × ((line : List ℕ) → LINE_LIMIT < length line → step self.old line reply self.new) × (string_bytes text.new ≡ string_bytes text.old ++ reply)) }
-        ensures part { OnErr result (Extends (string_bytes text.old) (string_bytes text.new)) }
-        ensures count { count self.new ≤ count self.old + 1 };
+        ensures part { OnErr result (Extends (string_bytes text.old) (string_bytes text.new)) };
 }

@@ -1,27 +1,32 @@
 //! The loop of a session.
 
-ghost use Rattle.std.specs.Prelude.{◌≡◌, ◌≢◌, ◌≤◌, ◌<◌, ◌+◌, ◌⊎◌, [], true, List, ℕ, OnErr, OnOk, IfOk, length, take, string_bytes};
+ghost use Rattle.std.specs.Prelude.{◌≡◌, ◌≢◌, ◌≤◌, ◌<◌, ◌⊎◌, [], true, List, ℕ, OnErr, OnOk, IfOk, length, take, string_bytes};
 ghost use Rattle.oe_http.specs.Lines.{HasFeed};
 ghost use Rattle.oe_http.specs.Causes.{Rose, HasCause};
 ghost use Rattle.oe_http.specs.Written.{Sent};
 ghost use Rattle.oe_http.specs.Pending.{unread, most_left, Reads};
-ghost use Rattle.oe_session.specs.Session.{Answered, Begun, WritesWhole, HasCauses};
-ghost use Rattle.oe_session.specs.Replies.{ending_of, Replies, Falls};
+ghost use Rattle.oe_session.specs.Session.{Answered, Begun, HasCauses, IsOfLines, WritesWhole};
+ghost use Rattle.oe_session.specs.Replies.{ending_of, Replies};
 
 use crate::Answering;
 use oe_http::{
-    BLOCK_SIZE, Failed, INPUT_LIMIT, LineReader, Next, ReadError, Sink, Source, write_whole,
+    Failed, LineReader, Next, ReadError, Sink, Source, write_whole,
 };
 use std::alloc::Global;
 
 /// So many bytes of replies are written without waiting for more: 64 KiB.
 const MOST_WAITING: usize = 65_536;
 
-/// How a session ended.
+/// How a session ended: one over lines, or one of HTTP over a link.
 #[derive(Clone, Copy, Debug, PartialEq, Eq)]
 pub enum Ended {
-    /// The input ended, and each line has its reply.
+    /// The input ended, and each line has its reply, or each request its response; or a request asked that the session
+    /// ends, and it and each before it has its response.
     Closed,
+    /// The input ended inside a request. A session over lines never ends so.
+    Truncated,
+    /// A request was refused with this status. A session over lines never ends so.
+    Refused(u16),
     /// The input failed.
     ReadFault,
     /// The output failed.
@@ -34,7 +39,8 @@ pub enum Ended {
 
 /// How an error of reading ends a session.
 fn ended_by(error: ReadError) -> Ended
-    ensures { result ≡ ending_of error }
+    ensures ended { result ≡ ending_of error }
+    ensures lines { IsOfLines result }
 {
     match error {
         ReadError::Failed => Ended::ReadFault,
@@ -54,10 +60,9 @@ fn next_reply<A: Answering, S: Source>(
     input: &mut S,
 ) -> Result<bool, ReadError>
     requires sent { HasFeed reader.old.bytes ⊎ (string_bytes waiting.old ≡ []) }
-    requires room { A.count desk.old + most_left reader.old ≤ INPUT_LIMIT + BLOCK_SIZE }
     ensures replies { Replies A.step desk.old desk.new (unread reader.old (S.left input.old)) (unread reader.new (S.left input.new)) (S.left input.new) (string_bytes waiting.old) (string_bytes waiting.new) result }
     ensures still { HasFeed reader.old.bytes → input.new ≡ input.old }
-    ensures falls { IfOk result (λ found. found ≡ true → Falls (most_left reader.old) (most_left reader.new) (A.count desk.old) (A.count desk.new)) }
+    ensures falls { IfOk result (λ found. found ≡ true → most_left reader.new < most_left reader.old) }
     ensures reads { Reads reader.old reader.new (S.left input.old) (S.left input.new) (S.faults input.old) (S.faults input.new) result }
 {
     match reader.next_line(input, line)? {
@@ -101,6 +106,7 @@ fn end<O: Sink>(ended: Ended, waiting: &[u8], whole: usize, output: &mut O) -> E
     ensures write { result ≡ Ended.WriteFault → ended ≢ Ended.WriteFault → Rose (O.faults output.old) (O.faults output.new) }
     ensures later { O.faults output.old ≤ O.faults output.new }
     ensures other { (result ≡ ended) ⊎ (result ≡ Ended.WriteFault) }
+    ensures lines { IsOfLines ended → IsOfLines result }
 {
     match write_whole(output, &waiting[..whole]) {
         Ok(()) => ended,
@@ -116,12 +122,13 @@ pub fn records<A: Answering, S: Source, O: Sink>(
     input: &mut S,
     output: &mut O,
 ) -> Ended
-    requires start { A.count desk.old ≡ 0 }
     // At `Closed` the output is what it held before and the reply to each line of the input, in order.
     ensures closed { result ≡ Ended.Closed → Answered A.step desk.old desk.new (S.left input.old) (O.held output.old) (O.held output.new) }
     // However it ends, the output is what it held before and a beginning of these replies.
     ensures begun { Begun A.step desk.old (S.left input.old) (O.held output.old) (O.held output.new) }
     ensures written { WritesWhole A.step desk.old desk.new result (S.left input.old) (S.left input.new) (O.held output.old) (O.held output.new) }
+    // It ends in one of the ways of lines.
+    ensures lines { IsOfLines result }
     ensures causes { HasCauses result (S.left input.old) (S.left input.new) (S.faults input.old) (S.faults input.new) (O.faults output.old) (O.faults output.new) }
 {
     let mut reader = LineReader::new();

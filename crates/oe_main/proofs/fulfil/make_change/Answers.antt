@@ -2,13 +2,10 @@ use Rattle.std.proofs.Common.{◌++◌, ap, ◌∙◌}
 use Rattle.std.specs.String.{string_bytes}
 use Rattle.wire_replies.specs.Replies.{reply_text}
 use Rattle.wire_replies.specs.declared.reply.Reply.{Reply}
-use Rattle.oe_main.proofs.ChangeFacts.{changed, counted}
+use Rattle.oe_main.proofs.ChangeFacts.{changed}
 use Rattle.oe_main.proofs.QueryFacts.{on_ok}
 use Rattle.oe_main.proofs.fulfil.make_change.Goals as goal
 
 pub returns-clause-ok : goal.returns-clause-ok
 returns-clause-ok c =
     on_ok c.append_reply.result (λ t. changed c.args.clerk.now c.apply.new.self c.args.change.now c.apply.result _ _ c.apply.ensures (t ∙ ap (λ (x : Reply). string_bytes c.args.text.now ++ reply_text x) c.reply_of.ensures)) c.append_reply.ensures.ok
-
-pub returns-clause-count : goal.returns-clause-count
-returns-clause-count c = counted c.args.clerk.now c.apply.new.self c.args.change.now c.apply.result c.apply.ensures

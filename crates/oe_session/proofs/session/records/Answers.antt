@@ -12,12 +12,10 @@ returns-in-Err-clause-begun g c =
 pub lines-preserved : goal.lines-preserved
 lines-preserved g c =
     let u = underway_moved g.A.Answering.step _ _ _ _ _ _ _ _ _ c.lines.invariant.underway c.in-Ok.ensures.ok in
-    let falls = c.in-Ok-true.ensures.falls c.in-Ok-true.field-0-test in
     let replies = rw c.in-Ok-true.field-0-test at c.in-Ok-true.ensures.replies in
     record {
       underway = underway_on g.A.Answering.step _ _ _ _ _ _ _ _ _ u (replies (g.O.Sink.held c.send_due.new.output));
       grown = grown_moved _ _ _ _ _ c.lines.invariant.grown c.in-Ok.ensures.ok;
-      room = omega (arith, falls.room, c.lines.invariant.room);
       taken = fell_more _ _ _ _ _ c.lines.invariant.taken c.next_reply.ensures.reads.more c.next_reply.ensures.reads.taken;
       read_later = omega (arith, c.next_reply.ensures.reads.later, c.lines.invariant.read_later);
       write_later = grind (arith, c.in-Ok.ensures.cause, c.lines.invariant.write_later);
@@ -55,4 +53,4 @@ returns-in-Err-next_reply-clause-written g c =
     written_err g.A.Answering.step _ _ _ _ _ _ _ _ c.in-Err-next_reply.error _
     (λ f. underway_sent g.A.Answering.step _ _ _ _ _ _ _ _ u
     (sent_whole _ _ _ _ _ _ _ c.in-Err-next_reply.ensures.replies.0 c.as_bytes-in-Err-next_reply.ensures.value (search rules) (c.end-in-Err-next_reply.ensures.all f)))
-    c.in-Err-next_reply.ensures.replies.1 (rw c.ended_by.ensures at c.end-in-Err-next_reply.ensures.other)
+    c.in-Err-next_reply.ensures.replies.1 (rw c.ended_by.ensures.ended at c.end-in-Err-next_reply.ensures.other)

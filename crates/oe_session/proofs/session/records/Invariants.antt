@@ -1,7 +1,6 @@
-use Rattle.std.proofs.Common.{◌≤◌, ◌+◌, string_bytes}
+use Rattle.std.proofs.Common.{◌≤◌, string_bytes}
 use Rattle.std.specs.Io.KnownBytes.{append_known}
 use Rattle.oe_http.specs.Pending.{unread, most_left, FellBy}
-use Rattle.oe_http.specs.declared.lines.TheConstants.{BLOCK_SIZE, INPUT_LIMIT}
 use Rattle.oe_session.proofs.SessionFacts.{Underway}
 use Rattle.oe_session.proofs.WaitingFacts.{Grown}
 use Rattle.oe_session.proofs.session.records.Given as goal
@@ -13,7 +12,6 @@ invariant-lines g l =
     record {
       underway : Underway g.A.Answering.step l.fn.desk l.desk (left l.fn.input) (unread l.reader (left l.input)) (held l.fn.output) (append_known (held l.output) (string_bytes l.waiting));
       grown : Grown (held l.fn.output) (held l.output);
-      room : g.A.Answering.count l.desk + most_left l.reader ≤ INPUT_LIMIT + BLOCK_SIZE;
       taken : FellBy l.reader.taken (left l.fn.input) (left l.input);
       read_later : g.S.Source.faults l.fn.input ≤ g.S.Source.faults l.input;
       write_later : g.O.Sink.faults l.fn.output ≤ g.O.Sink.faults l.output;
