@@ -24,6 +24,8 @@ mod case_tests;
 #[cfg(test)]
 mod generate_tests;
 #[cfg(test)]
+mod http_tests;
+#[cfg(test)]
 mod limit_tests;
 #[cfg(test)]
 mod review_tests;
