@@ -29,11 +29,7 @@ impl<F: Answering> Routed<F> {
 }
 
 /// Puts the text of the reply to a record into an empty text.
-fn answer_record<F: Answering>(
-    desk: &mut F,
-    line: &[u8],
-    text: &mut String,
-) -> Result<(), NoMemory>
+fn answer_record<F: Answering>(desk: &mut F, line: &[u8], text: &mut String) -> Result<(), NoMemory>
     requires empty { string_bytes text.old ≡ [] }
     ensures { OnOk result (AnswersRecord F.step desk.old line.now (string_bytes text.new) desk.new) }
 {

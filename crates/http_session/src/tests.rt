@@ -106,8 +106,22 @@ fn requests_are_replied_to_in_order_until_the_session_ends(rt: HostRuntime) -> R
             Ended::Refused(411),
             "HTTP/1.1 411 Length Required\r\nContent-Type: text/plain\r\nContent-Length: 0\r\nConnection: close\r\n\r\n",
         ),
-        (b"GET /b HTTP/1.1\r\n\r\n".as_slice(), 19, 2, 0, Ended::ReadFault, ""),
-        (b"GET /b HTTP/1.1\r\n\r\n".as_slice(), 19, 0, 2, Ended::WriteFault, ""),
+        (
+            b"GET /b HTTP/1.1\r\n\r\n".as_slice(),
+            19,
+            2,
+            0,
+            Ended::ReadFault,
+            "",
+        ),
+        (
+            b"GET /b HTTP/1.1\r\n\r\n".as_slice(),
+            19,
+            0,
+            2,
+            Ended::WriteFault,
+            "",
+        ),
         // want of memory is told, and the session ends
         (
             b"POST /b HTTP/1.1\r\ncontent-length: 1\r\n\r\n\xffGET /c HTTP/1.1\r\n\r\n".as_slice(),
@@ -123,7 +137,10 @@ fn requests_are_replied_to_in_order_until_the_session_ends(rt: HostRuntime) -> R
         bytes.extend_from_slice(more)?;
         let source = FakeSource::new(Bytes::from_vec(bytes), most.max(1), vec![in alloc; read]?);
         let mut link = FakeLink::new(source, FakeSink::new(alloc, 1000, vec![in alloc; write]?)?);
-        assert_eq!(rt; echo_all(alloc, &mut Echo { requests: 0 }, &mut link), ended);
+        assert_eq!(rt;
+            echo_all(alloc, &mut Echo { requests: 0 }, &mut link),
+            ended
+        );
         let wanted = format!(in alloc; "{A_TOLD}{told}")?;
         assert_eq!(rt; link.sink().bytes(), wanted.as_bytes());
     }

@@ -9,9 +9,7 @@ ghost use Rattle.oe_session.specs.Session.{Answered, Begun, HasCauses, IsOfLines
 ghost use Rattle.oe_session.specs.Replies.{ending_of, Replies};
 
 use crate::Answering;
-use oe_http::{
-    Failed, LineReader, Next, ReadError, Sink, Source, write_whole,
-};
+use oe_http::{Failed, LineReader, Next, ReadError, Sink, Source, write_whole};
 use std::alloc::Global;
 
 /// So many bytes of replies are written without waiting for more: 64 KiB.
