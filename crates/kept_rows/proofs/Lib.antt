@@ -1,6 +1,6 @@
 mod Keys
 pub mod PartFacts
-mod FieldShapes
+pub mod FieldShapes
 mod AirfieldFacts
 mod RunwayFacts
 mod OneValue

@@ -10,8 +10,12 @@ use grid_exact::{NoMemory, Point};
 use wire_values::{WholeNumber, append_next};
 
 /// Appends a point, a comma before each coordinate.
+///
+/// # Errors
+///
+/// `NoMemory` where memory was refused; a part of it may then be appended.
 #[tactic(auto, using(grid_exact::proofs::Extending::extending))]
-pub(crate) fn append_point(text: &mut String, at: &Point) -> Result<(), NoMemory>
+pub fn append_point(text: &mut String, at: &Point) -> Result<(), NoMemory>
     ensures ok { OnOk result (string_bytes text.new ≡ string_bytes text.old ++ with_commas (point_fields at.now)) }
     ensures part { OnErr result (Extends (string_bytes text.old) (string_bytes text.new)) }
 {

@@ -21,8 +21,8 @@ pub(crate) fn whole(parts: &mut Parts<'_>) -> Option<i64>
     parts.number(-NUMBER_LIMIT, NUMBER_LIMIT)
 }
 
-/// A point of the grid.
-pub(crate) fn point(parts: &mut Parts<'_>) -> Option<Point>
+/// The point of the grid that the next two parts tell, x before y; `None` exactly where they tell none.
+pub fn point(parts: &mut Parts<'_>) -> Option<Point>
     ensures took { IfSome result (λ p. parts.old ≡ point_fields p ++ parts.new) }
     ensures none { IfNone result ((p : Seen) (rest : List (List ℕ)) → parts.old ≢ point_fields p ++ rest) }
 {

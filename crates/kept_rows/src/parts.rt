@@ -18,9 +18,9 @@ enum Left<'a> {
     Nothing,
 }
 
-/// The parts of a text that are still to be taken; seen as their list.
+/// The parts of a text that are still to be taken; seen as their list. A text without a separator is one part.
 #[derive(Drop)]
-pub(crate) struct Parts<'a> {
+pub struct Parts<'a> {
     left: Left<'a>,
     separator: u8,
 }
@@ -84,8 +84,8 @@ fn cut<'a>(text: &'a [u8], separator: u8) -> First<'a>
 }
 
 impl<'a> Parts<'a> {
-    /// All parts of a text.
-    pub(crate) fn new(text: &'a [u8], separator: u8) -> Parts<'a>
+    /// All parts of a text, which each byte `separator` ends but the last.
+    pub fn new(text: &'a [u8], separator: u8) -> Parts<'a>
         ensures { result ≡ parts_of separator text.now }
     {
         Parts {
@@ -94,8 +94,8 @@ impl<'a> Parts<'a> {
         }
     }
 
-    /// The next part, which is then taken.
-    pub(crate) fn next(&mut self) -> Option<&'a [u8]>
+    /// The next part, which is then taken; `None` where none is left.
+    pub fn next(&mut self) -> Option<&'a [u8]>
         ensures some { IfSome result (λ part. self.old ≡ part.now ∷ self.new) }
         ensures none { IfNone result (self.old ≡ []) }
     {
@@ -111,15 +111,15 @@ impl<'a> Parts<'a> {
 }
 
 impl Parts<'_> {
-    /// Whether no part is left.
-    pub(crate) fn is_done(&mut self) -> bool
+    /// Whether no part is left. A part that is left is then taken.
+    pub fn is_done(&mut self) -> bool
         ensures { IsTrue result ↔ self.old ≡ [] }
     {
         self.next().is_none()
     }
 
-    /// The value that the next part spells.
-    pub(crate) fn take<V: FieldValue>(&mut self) -> Option<V>
+    /// The value that the next part spells; `None` exactly where none is left or it spells none. A part that is left is taken in each case.
+    pub fn take<V: FieldValue>(&mut self) -> Option<V>
         ensures took { IfSome result (λ v. self.old ≡ V.spelled v ∷ self.new) }
         ensures good { IfSome result (λ v. V.good v) }
         ensures none { IfNone result ((v : V) (rest : List (List ℕ)) → V.good v → self.old ≢ V.spelled v ∷ rest) }
@@ -130,8 +130,9 @@ impl Parts<'_> {
         }
     }
 
-    /// The whole number within the limits that the next part spells.
-    pub(crate) fn number(&mut self, low: i64, high: i64) -> Option<i64>
+    /// The whole number within the limits that the next part spells; `None` exactly where none is left or it spells none. A part that is
+    /// left is taken in each case.
+    pub fn number(&mut self, low: i64, high: i64) -> Option<i64>
         requires low { HasNineDigits low }
         requires high { HasNineDigits high }
         ensures took { IfSome result (λ z. self.old ≡ signed_decimal z ∷ self.new) }

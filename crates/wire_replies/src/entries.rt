@@ -144,9 +144,13 @@ fn append_entries(text: &mut String, list: &[Finding]) -> Result<(), NoMemory>
     Ok(())
 }
 
-// Appends a list: how many entries it has, and the entries, a comma before each.
+/// Appends a list: how many entries it has, and the entries, a comma before each.
+///
+/// # Errors
+///
+/// `NoMemory` where memory was refused; the text may then have a part of the list.
 #[tactic(auto, using(grid_exact::proofs::Extending::extending))]
-pub(crate) fn append_list(text: &mut String, list: &[Finding]) -> Result<(), NoMemory>
+pub fn append_list(text: &mut String, list: &[Finding]) -> Result<(), NoMemory>
     ensures ok { OnOk result (string_bytes text.new ≡ string_bytes text.old ++ spec.list_text list.now) }
     ensures part { OnErr result (Extends (string_bytes text.old) (string_bytes text.new)) }
 {

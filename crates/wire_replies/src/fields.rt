@@ -8,8 +8,12 @@ use grid_exact::NoMemory;
 use itoa::Buffer;
 use wire_values::append_text;
 
-// Appends a number.
-pub(crate) fn append_number(text: &mut String, number: u64) -> Result<(), NoMemory>
+/// Appends a number.
+///
+/// # Errors
+///
+/// `NoMemory` where memory was refused; nothing is then appended.
+pub fn append_number(text: &mut String, number: u64) -> Result<(), NoMemory>
     ensures ok { OnOk result (string_bytes text.new ≡ string_bytes text.old ++ decimal number) }
     ensures part { OnErr result (Extends (string_bytes text.old) (string_bytes text.new)) }
 {
@@ -17,9 +21,13 @@ pub(crate) fn append_number(text: &mut String, number: u64) -> Result<(), NoMemo
     append_text(text, buffer.format(number))
 }
 
-// Appends a comma and a number.
+/// Appends a comma and a number.
+///
+/// # Errors
+///
+/// `NoMemory` where memory was refused; the text may then have the comma.
 #[tactic(auto, using(grid_exact::proofs::Extending::extending))]
-pub(crate) fn append_next_number(text: &mut String, number: u64) -> Result<(), NoMemory>
+pub fn append_next_number(text: &mut String, number: u64) -> Result<(), NoMemory>
     ensures ok { OnOk result (string_bytes text.new ≡ string_bytes text.old ++ (codes "," ++ decimal number)) }
     ensures part { OnErr result (Extends (string_bytes text.old) (string_bytes text.new)) }
 {
@@ -27,9 +35,13 @@ pub(crate) fn append_next_number(text: &mut String, number: u64) -> Result<(), N
     append_number(text, number)
 }
 
-// Appends a comma and a word.
+/// Appends a comma and a word.
+///
+/// # Errors
+///
+/// `NoMemory` where memory was refused; the text may then have the comma.
 #[tactic(auto, using(grid_exact::proofs::Extending::extending))]
-pub(crate) fn append_next_word(text: &mut String, word: &str) -> Result<(), NoMemory>
+pub fn append_next_word(text: &mut String, word: &str) -> Result<(), NoMemory>
     ensures ok { OnOk result (string_bytes text.new ≡ string_bytes text.old ++ (codes "," ++ word.now)) }
     ensures part { OnErr result (Extends (string_bytes text.old) (string_bytes text.new)) }
 {

@@ -210,9 +210,13 @@ fn append_fcc_act(text: &mut String, case: u32, expiry: Date) -> Result<(), NoMe
     append_next_date(text, expiry)
 }
 
-// Appends what an accepted request led to.
+/// Appends what an accepted request led to, a comma before it.
+///
+/// # Errors
+///
+/// `NoMemory` where memory was refused; the text may then have a part of it.
 #[tactic(auto, using(grid_exact::proofs::Extending::extending))]
-pub(crate) fn append_outcome(text: &mut String, outcome: &Outcome) -> Result<(), NoMemory>
+pub fn append_outcome(text: &mut String, outcome: &Outcome) -> Result<(), NoMemory>
     ensures ok { OnOk result (string_bytes text.new ≡ string_bytes text.old ++ (codes "," ++ spec.outcome_text outcome.now)) }
     ensures part { OnErr result (Extends (string_bytes text.old) (string_bytes text.new)) }
 {

@@ -1,0 +1,10 @@
+mod Plain
+mod NumberFacts
+mod RuleFacts
+mod EntryFacts
+mod WordFacts
+mod KeyFacts
+mod ListFacts
+mod FilingFacts
+mod OneEntry
+mod OneCase
