@@ -49,8 +49,7 @@ submission_usual = (tt, (tt, (tt, (urgency_usual, (statement_usual, site_usual))
 site_has_shape : (before : List ℕ) (s : Site) → IsValidSite s → HasShape site_shape before (site_fields s)
 site_has_shape before s h =
     let l = h.0 in
-    let most : s.mobile ≤ℤ mobile_limit (kind_word s.kind) = subst (λ m. s.mobile ≤ℤ m) (sym (limit_of_kind s.kind)) l.mobile_most in
-    (
+    let most : s.mobile ≤ℤ mobile_limit (kind_word s.kind) = subst (λ m. s.mobile ≤ℤ m) (sym (limit_of_kind s.kind)) l.mobile_most in (
       (s.at.x, refl, (s.at.on_grid.west, s.at.on_grid.east)),
       (
         (s.at.y, refl, (s.at.on_grid.south, s.at.on_grid.north)),

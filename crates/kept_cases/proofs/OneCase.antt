@@ -111,7 +111,7 @@ one_of_fields a b h k e =
     (one_optional a.form b.form h.form k.form (at 14 e)) (one_end a.life.end b.life.end (at 15 e)) judged.records judged.lists
 
 made_row : ℕ → KeptCase → FilingRow
-made_row number case = record { number = number; case = case }
+made_row number c = record { number = number; case = c }
 
 pub one_filing : (key row : List ℕ) (a b : FilingRow) → IsFilingRow key row a → IsFilingRow key row b → a ≡ b
 unfolding made_row

@@ -5,4 +5,3 @@ pub use Rattle.wire_requests.specs.Limits
 pub mod Cases
 pub mod Entries
 pub mod Filings
-pub mod Receipts

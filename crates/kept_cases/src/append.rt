@@ -130,11 +130,7 @@ fn append_course(text: &mut String, record: &Record) -> Result<(), NoMemory>
 
 // Appends a determination and its list, a comma before each field.
 #[tactic(auto, using(grid_exact::proofs::Extending::extending, crate::proofs::ListFacts::list_text_fields))]
-fn append_determination(
-    text: &mut String,
-    record: &Record,
-    kept: &KeptList,
-) -> Result<(), NoMemory>
+fn append_determination(text: &mut String, record: &Record, kept: &KeptList) -> Result<(), NoMemory>
     ensures ok { OnOk result (string_bytes text.new ≡ string_bytes text.old
         ++ with_commas (decided_word record.now.decision ∷ (record_fields record.now kept.now.last ++ list_fields kept.now.list))) }
     ensures part { OnErr result (Extends (string_bytes text.old) (string_bytes text.new)) }

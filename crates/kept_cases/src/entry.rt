@@ -246,8 +246,8 @@ fn take_words<'a>(parts: &mut Parts<'a>) -> Option<Words<'a>>
 
 // The finding that four words tell.
 fn finding_of(words: Words<'_>) -> Option<Finding>
-    ensures some { IfSome result (TellsEntry words.rule.now words.field.now words.surface.now words.excess.now) }
-    ensures none { IfNone result ((f : SomeFinding) → TellsEntry words.rule.now words.field.now words.surface.now words.excess.now f → ⊥) }
+    ensures some { IfSome result (TellsEntry words.entry.rule.now words.entry.field.now words.entry.surface.now words.entry.excess.now) }
+    ensures none { IfNone result ((f : SomeFinding) → TellsEntry words.entry.rule.now words.entry.field.now words.entry.surface.now words.entry.excess.now f → ⊥) }
 {
     let rule = rule_of(words.rule)?;
     let key = key_of(extent_of(rule), words.field, words.surface)?;

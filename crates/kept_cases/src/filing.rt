@@ -195,11 +195,7 @@ fn take_case(alloc: Global, parts: &mut Parts<'_>) -> Result<Option<KeptCase>, N
 /// # Errors
 ///
 /// `NoMemory` where memory was refused.
-pub fn read_filing_row(
-    alloc: Global,
-    key: &[u8],
-    row: &[u8],
-) -> Result<Option<FilingRow>, NoMemory>
+pub fn read_filing_row(alloc: Global, key: &[u8], row: &[u8]) -> Result<Option<FilingRow>, NoMemory>
     ensures some { IfOk result (λ o. IfSome o (λ v. IsFilingRow key.now row.now v)) }
     ensures none { IfOk result (λ o. IfNone o ((v : SomeRow) → IsFilingRow key.now row.now v → ⊥)) }
 {
