@@ -55,14 +55,19 @@ part_small least part h = omega (arith, h.1)
 pub strip_parts : (text : List ℕ) (runway : Option (List ℕ)) (least part : ℕ) → IsStrip runway → IsPart least part → text ≡ name_text runway ++ codes "." ++ decimal part
     → parts_of 46 text ≡ name_text runway ∷ decimal part ∷ []
 strip_parts text runway least part r p e =
-    ap (parts_of 46) e ∙ pair_parts 46 (name_text runway) (decimal part) (strip_undotted runway r) (decimal_undotted part (part_small least part p))
+    ap (parts_of 46) (e ∙ append_assoc (name_text runway) (codes ".") (decimal part)) ∙ pair_parts 46 (name_text runway) (decimal part) (strip_undotted runway r) (decimal_undotted part (part_small least part p))
 
-dot_plain : (rest : List ℕ) → IsPlainText rest → IsPlainText (46 ∷ rest)
-dot_plain rest h = All-cons (λ b. is_field_byte b ≡ true) 46 rest refl h
+dot_plain : IsPlainText (codes ".")
+dot_plain = All-cons (λ b. is_field_byte b ≡ true) 46 [] refl (All-nil (λ b. is_field_byte b ≡ true))
 
 strip_part_plain : (runway : Option (List ℕ)) (least part : ℕ) → IsStrip runway → IsPart least part → IsPlainText (name_text runway ++ codes "." ++ decimal part)
 strip_part_plain runway least part r p =
-    All-append (λ b. is_field_byte b ≡ true) (name_text runway) (46 ∷ decimal part) (strip_plain runway r) (dot_plain (decimal part) (decimal_plain part (part_small least part p)))
+    All-append (λ b. is_field_byte b ≡ true) (name_text runway ++ codes ".") (decimal part)
+    (All-append (λ b. is_field_byte b ≡ true) (name_text runway) (codes ".") (strip_plain runway r) dot_plain) (decimal_plain part (part_small least part p))
+
+-- and a text with these parts is theirs
+pub parts_strip : (text runway : List ℕ) (part : ℕ) → parts_of 46 text ≡ runway ∷ decimal part ∷ [] → text ≡ runway ++ codes "." ++ decimal part
+parts_strip text runway part e = parts_pair 46 text runway (decimal part) e ∙ sym (append_assoc runway (codes ".") (decimal part))
 
 -- ---- the words of an entry are plain
 
@@ -101,7 +106,11 @@ spaced a b c d = a ++ 32 ∷ (b ++ 32 ∷ (c ++ 32 ∷ d))
 
 four_words : (a b c d : List ℕ) → a ++ codes " " ++ (b ++ codes " " ++ c) ++ codes " " ++ d ≡ spaced a b c d
 unfolding spaced
-four_words a b c d = ap (λ t. a ++ 32 ∷ t) (append_assoc b (32 ∷ c) (32 ∷ d))
+four_words a b c d =
+    let s = codes " " in
+    let p = b ++ s ++ c in
+    append_assoc (a ++ s ++ p) s d ∙ append_assoc (a ++ s) p (32 ∷ d) ∙ append_assoc a s (p ++ 32 ∷ d)
+    ∙ ap (λ t. a ++ 32 ∷ t) (append_assoc (b ++ s) c (32 ∷ d) ∙ append_assoc b s (c ++ 32 ∷ d))
 
 four_parts : (a b c d : List ℕ) → Avoids 32 a → Avoids 32 b → Avoids 32 c → Avoids 32 d → parts_of 32 (spaced a b c d) ≡ a ∷ b ∷ c ∷ d ∷ []
 unfolding spaced
@@ -123,6 +132,7 @@ parts_entry text a b c d e = sym (join_with_byte-slice_split 32 text) ∙ ap (jo
 
 -- an entry has no comma and no line feed
 pub entry_avoids : (c : ℕ) → c < 45 → (32 == c) ≡ false → (f : Finding) → IsEntry f → Avoids c (entry_text f)
+unfolding spaced
 entry_avoids c low apart f h =
     let w = plain_words f h in
     let P : ℕ → Type 0 = λ b. (b == c) ≡ false in
@@ -130,3 +140,32 @@ entry_avoids c low apart f h =
     subst (Avoids c) (sym (four_words (rule_word f.rule) (airfield_text f.rule f.key) (surface_text f.rule f.key) (decimal f.excess)))
     (All-append P _ _ (plain_avoids c low _ w.rule) (space _ (All-append P _ _ (plain_avoids c low _ w.field) (space _
     (All-append P _ _ (plain_avoids c low _ w.surface) (space _ (plain_avoids c low _ w.excess)))))))
+
+-- ---- what reading tells
+
+pub read_entry : (text a b c d : List ℕ) (f : Finding) → parts_of 32 text ≡ a ∷ b ∷ c ∷ d ∷ [] → TellsEntry a b c d f → text ≡ entry_text f
+read_entry text a b c d f e h =
+    let k = h.key in
+    parts_entry text a b c d e
+    ∙ rw (h.rule_is, k.field_is, k.surface_is, h.excess_is, field_by f.rule f.key, surface_by f.rule f.key) refl
+
+pub whole_entry : (a b c d : List ℕ) (f : Finding) → TellsEntry a b c d f → IsEntry f
+whole_entry a b c d f h = (let k = h.key in record { place = k.place; level = h.level; small = h.small })
+
+heads : {x y : List ℕ} {xs ys : List (List ℕ)} → x ∷ xs ≡ y ∷ ys → (x ≡ y) × (xs ≡ ys)
+heads e = (cc, cc)
+
+pub tells_entry : (text a b c d : List ℕ) (f : Finding) → parts_of 32 text ≡ a ∷ b ∷ c ∷ d ∷ [] → IsEntry f → text ≡ entry_text f → TellsEntry a b c d f
+tells_entry text a b c d f e h is =
+    let same = sym e ∙ entry_parts f h text is in
+    let first = heads same in
+    let second = heads first.1 in
+    let third = heads second.1 in
+    let fourth = heads third.1 in
+    record {
+      rule_is = first.0;
+      key = record { field_is = second.0 ∙ field_by f.rule f.key; surface_is = third.0 ∙ surface_by f.rule f.key; place = h.place };
+      excess_is = fourth.0;
+      level = h.level;
+      small = h.small;
+    }

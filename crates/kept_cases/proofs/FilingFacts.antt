@@ -1,5 +1,5 @@
 -- The fields of the rows of cases.
-use Rattle.std.proofs.Common.{arith, ℕ, ◌≡◌, ◌==◌, ◌<◌, ◌≤◌, ◌≤ℤ◌, ◌^◌, false, List, [], ◌∷◌, ◌++◌, map, length, Option, Some, None, All, refl, ap, sym, subst, ◌∙◌}
+use Rattle.std.proofs.Common.{arith, ℕ, ◌≡◌, ◌==◌, ◌<◌, ◌≤◌, ◌≤ℤ◌, ◌^◌, false, List, [], ◌∷◌, ◌++◌, map, length, Option, Some, None, All, codes, refl, ap, sym, subst, ◌∙◌}
 use Rattle.std.specs.Fmt.{decimal}
 use Rattle.std.proofs.lemmas.List.Elements.{All-nil, All-cons, All-append, All-head, All-tail}
 use Rattle.jiff_core.specs.declared.civil.date.Date.{Date}
@@ -83,43 +83,60 @@ optional_uncut d h = uncut (optional_date d) (fits_short OptionalDateWanted tt [
 pub decimal_uncut : (n : ℕ) → n < 2 ^ 64 → IsUncut (decimal n)
 decimal_uncut n h = plain_avoids 44 (omega arith) (decimal n) (decimal_plain n h)
 
--- a field before others
-pub and_uncut : {first : List ℕ} {more : List (List ℕ)} → IsUncut first → All IsUncut more → All IsUncut (first ∷ more)
-and_uncut {first} {more} h k = All-cons IsUncut first more h k
+-- each of some fields
+abbrev pub Each : List (List ℕ) → Type 0
+Each [] = Unit {0}
+Each (f ∷ fs) = IsUncut f × Each fs
 
-pub none_uncut : All IsUncut []
-none_uncut = All-nil IsUncut
+pub each : (fields : List (List ℕ)) → Each fields → All IsUncut fields
+each [] h = All-nil IsUncut
+each (f ∷ fs) h = All-cons IsUncut f fs h.0 (each fs h.1)
 
 -- ---- a list and a determination
 
 pub entries_uncut : (list : List Finding) → All IsEntry list → All IsUncut (map entry_text list)
-entries_uncut [] h = none_uncut
-entries_uncut (f ∷ fs) h = and_uncut (entry_avoids 44 (omega arith) refl f (All-head IsEntry f fs h)) (entries_uncut fs (All-tail IsEntry f fs h))
+entries_uncut [] h = All-nil IsUncut
+entries_uncut (f ∷ fs) h =
+    All-cons IsUncut (entry_text f) (map entry_text fs) (entry_avoids 44 (omega arith) refl f (All-head IsEntry f fs h)) (entries_uncut fs (All-tail IsEntry f fs h))
 
 pub list_uncut : (list : List Finding) → IsList list → All IsUncut (list_fields list)
-list_uncut list h = and_uncut (decimal_uncut (length list) h.many) (entries_uncut list h.entries)
+list_uncut list h = All-cons IsUncut (decimal (length list)) (map entry_text list) (decimal_uncut (length list) h.many) (entries_uncut list h.entries)
 
 record_uncut : (r : Record) (last : ℕ) → IsPlainRecord r → last < 2 ^ 64 → All IsUncut (record_fields r last)
 record_uncut r last h small =
-    and_uncut (decimal_uncut last small) (and_uncut (date_uncut r.issued h.issued) (and_uncut (optional_uncut r.deadline h.deadline) (and_uncut (date_uncut r.ordinary h.ordinary)
-    (and_uncut (uncut (pending_word r.pending) (pending_short r.pending)) (and_uncut (optional_uncut r.affirmed h.affirmed) (and_uncut (optional_uncut r.set_expiry h.set_expiry)
-    (and_uncut (decimal_uncut r.extensions (omega (arith, h.extensions))) none_uncut)))))))
+    each (record_fields r last) (
+      decimal_uncut last small,
+      (
+        date_uncut r.issued h.issued,
+        (
+          optional_uncut r.deadline h.deadline,
+          (
+            date_uncut r.ordinary h.ordinary,
+            (
+              uncut (pending_word r.pending) (pending_short r.pending),
+              (optional_uncut r.affirmed h.affirmed, (optional_uncut r.set_expiry h.set_expiry, (decimal_uncut r.extensions (omega (arith, h.extensions)), tt))),
+            ),
+          ),
+        ),
+      ),
+    )
 
 dash_uncut : All IsUncut (judged_fields None None)
-dash_uncut = and_uncut (uncut _ (short_word _ (omega arith) (omega arith) refl)) none_uncut
+dash_uncut = each (judged_fields None None) (uncut (codes "-") (short_word (codes "-") (omega arith) (omega arith) refl), tt)
 
 judged_uncut : (r : Option Record) (kept : Option KeptList) → IsJudged r kept → All IsUncut (judged_fields r kept)
 judged_uncut None None h = dash_uncut
 judged_uncut None (Some kept) h = absurd h
 judged_uncut (Some r) None h = absurd h
 judged_uncut (Some r) (Some kept) h =
-    and_uncut (uncut (decision_word r.decision) (decision_short r.decision))
-    (All-append IsUncut (record_fields r kept.last) (list_fields kept.list) (record_uncut r kept.last h.0 (let k = h.1 in k.last)) (list_uncut kept.list (let k = h.1 in k.list)))
+    let k = h.1 in
+    All-cons IsUncut (decision_word r.decision) (record_fields r kept.last ++ list_fields kept.list) (uncut (decision_word r.decision) (decision_short r.decision))
+    (All-append IsUncut (record_fields r kept.last) (list_fields kept.list) (record_uncut r kept.last h.0 k.last) (list_uncut kept.list k.list))
 
 -- ---- the row
 
 standing_uncut : (received : Date) (form : Option Date) (end : Option End) → IsLimited received → IsAnyLimited form → All IsUncut (date_text received ∷ optional_date form ∷ end_word end ∷ [])
-standing_uncut received form end h k = and_uncut (date_uncut received h) (and_uncut (optional_uncut form k) (and_uncut (uncut (end_word end) (end_short end)) none_uncut))
+standing_uncut received form end h k = each (date_text received ∷ optional_date form ∷ end_word end ∷ []) (date_uncut received h, (optional_uncut form k, (uncut (end_word end) (end_short end), tt)))
 
 filing_uncut : (c : KeptCase) → IsPlainCase c → All IsUncut (filing_fields c)
 filing_uncut c h =

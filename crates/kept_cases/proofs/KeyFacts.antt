@@ -8,12 +8,18 @@ use Rattle.determination_dates.specs.Text.{last_digit}
 use Rattle.wire_requests.specs.Limits.{IsCase}
 use Rattle.kept_cases.specs.Cases.{case_key}
 
-digit : (n : ℕ) (bs : List ℕ) → All (λ b. b < 128) bs → All (λ b. b < 128) (last_digit n ∷ bs)
-digit n bs h = All-cons (λ b. b < 128) (last_digit n) bs (omega arith) h
+abbrev AreSmall : List ℕ → Type 0
+AreSmall [] = Unit {0}
+AreSmall (b ∷ bs) = (b < 128) × AreSmall bs
+
+all_small : (bs : List ℕ) → AreSmall bs → All (λ b. b < 128) bs
+all_small [] h = All-nil (λ b. b < 128)
+all_small (b ∷ bs) h = All-cons (λ b. b < 128) b bs h.0 (all_small bs h.1)
 
 pub key_utf8 : (n : ℕ) → IsUtf8 (case_key n)
-key_utf8 n = IsUtf8-from_ascii (case_key n) (IsAscii-from_all (case_key n)
-    (digit (n / 100000) _ (digit (n / 10000) _ (digit (n / 1000) _ (digit (n / 100) _ (digit (n / 10) _ (digit n _ (All-nil (λ b. b < 128)))))))))
+key_utf8 n =
+    let small : AreSmall (case_key n) = (omega arith, (omega arith, (omega arith, (omega arith, (omega arith, (omega arith, tt)))))) in
+    IsUtf8-from_ascii (case_key n) (IsAscii-from_all (case_key n) (all_small (case_key n) small))
 
 -- six bytes are those at their places
 spelt : (bs : List ℕ) → length bs ≡ 6 → bs ≡ get_or bs 0 0 ∷ get_or bs 1 0 ∷ get_or bs 2 0 ∷ get_or bs 3 0 ∷ get_or bs 4 0 ∷ get_or bs 5 0 ∷ []

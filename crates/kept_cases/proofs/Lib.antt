@@ -4,7 +4,9 @@ mod RuleFacts
 mod EntryFacts
 mod WordFacts
 mod KeyFacts
-mod ListFacts
-mod FilingFacts
 mod OneEntry
+mod ListFacts
+mod RowTexts
+mod FilingFacts
 mod OneCase
+mod Choices

@@ -70,9 +70,9 @@ one_record a b m n h k d e =
 made_kept : ℕ → List Finding → KeptList
 made_kept last list = record { last = last; list = list }
 
-one_kept : (a b : KeptList) → IsKeptList a → IsKeptList b → {r s : Record} → record_fields r a.last ++ list_fields a.list ≡ record_fields s b.last ++ list_fields b.list → a ≡ b
+one_kept : (a b : KeptList) (r s : Record) → IsKeptList a → IsKeptList b → record_fields r a.last ++ list_fields a.list ≡ record_fields s b.last ++ list_fields b.list → a ≡ b
 unfolding made_kept
-one_kept a b h k e =
+one_kept a b r s h k e =
     ap (λ n. made_kept n a.list) (decimal_injective a.last b.last h.last k.last (at 0 e))
     ∙ ap (made_kept b.last) (one_list a.list b.list (let x = h.list in x.entries) (let x = k.list in x.entries) (ap (drop 9) e))
 
@@ -93,7 +93,7 @@ one_judged (Some r) None (Some a) (Some b) h k e = absurd k
 one_judged (Some r) (Some s) (Some a) None h k e = absurd k
 one_judged (Some r) (Some s) (Some a) (Some b) h k e =
     let rest = ap (drop 1) e in
-    record { records = ap Some (one_record r s a.last b.last h.0 k.0 (one_decision r.decision s.decision (at 0 e)) rest); lists = ap Some (one_kept a b h.1 k.1 {r} {s} rest) }
+    record { records = ap Some (one_record r s a.last b.last h.0 k.0 (one_decision r.decision s.decision (at 0 e)) rest); lists = ap Some (one_kept a b r s h.1 k.1 rest) }
 
 made_case : Submission → Date → Option Date → Option End → Option Record → Option KeptList → KeptCase
 made_case submission received form end determination list =

@@ -1,5 +1,3 @@
-pub use Rattle.wire_replies.specs.Entries
-pub use Rattle.wire_replies.specs.Outcomes
 pub use Rattle.wire_requests.specs.Spellings
 pub use Rattle.wire_requests.specs.Limits
 pub mod Cases

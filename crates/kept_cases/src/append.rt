@@ -103,40 +103,44 @@ fn pending_word(pending: bool) -> &'static str
 
 // Appends the decision of a determination, what it is over, and its first days, a comma before each field.
 #[tactic(auto, using(grid_exact::proofs::Extending::extending))]
-fn append_issue(text: &mut String, record: &Record, last: u64) -> Result<(), NoMemory>
-    ensures ok { OnOk result (string_bytes text.new ≡ string_bytes text.old ++ with_commas (decided_word record.now.decision ∷ decimal last
-        ∷ date_text record.now.issued ∷ optional_date record.now.deadline ∷ date_text record.now.ordinary ∷ [])) }
+fn append_issue(text: &mut String, determination: &Record, kept: &KeptList) -> Result<(), NoMemory>
+    ensures ok { OnOk result (string_bytes text.new ≡ string_bytes text.old ++ with_commas (decided_word determination.now.decision ∷ decimal kept.now.last
+        ∷ date_text determination.now.issued ∷ optional_date determination.now.deadline ∷ date_text determination.now.ordinary ∷ [])) }
     ensures part { OnErr result (Extends (string_bytes text.old) (string_bytes text.new)) }
 {
-    append_next_word(text, decision_word(record.decision))?;
-    append_next_number(text, last)?;
-    append_next(text, &record.issued)?;
-    append_next(text, &record.deadline)?;
-    append_next(text, &record.ordinary)
+    append_next_word(text, decision_word(determination.decision))?;
+    append_next_number(text, kept.last)?;
+    append_next(text, &determination.issued)?;
+    append_next(text, &determination.deadline)?;
+    append_next(text, &determination.ordinary)
 }
 
 // Appends what came of a determination, a comma before each field.
 #[tactic(auto, using(grid_exact::proofs::Extending::extending))]
-fn append_course(text: &mut String, record: &Record) -> Result<(), NoMemory>
-    ensures ok { OnOk result (string_bytes text.new ≡ string_bytes text.old ++ with_commas (pends_word record.now.pending
-        ∷ optional_date record.now.affirmed ∷ optional_date record.now.set_expiry ∷ decimal record.now.extensions ∷ [])) }
+fn append_course(text: &mut String, determination: &Record) -> Result<(), NoMemory>
+    ensures ok { OnOk result (string_bytes text.new ≡ string_bytes text.old ++ with_commas (pends_word determination.now.pending
+        ∷ optional_date determination.now.affirmed ∷ optional_date determination.now.set_expiry ∷ decimal determination.now.extensions ∷ [])) }
     ensures part { OnErr result (Extends (string_bytes text.old) (string_bytes text.new)) }
 {
-    append_next_word(text, pending_word(record.pending))?;
-    append_next(text, &record.affirmed)?;
-    append_next(text, &record.set_expiry)?;
-    append_next_number(text, u64::from(record.extensions))
+    append_next_word(text, pending_word(determination.pending))?;
+    append_next(text, &determination.affirmed)?;
+    append_next(text, &determination.set_expiry)?;
+    append_next_number(text, u64::from(determination.extensions))
 }
 
 // Appends a determination and its list, a comma before each field.
-#[tactic(auto, using(grid_exact::proofs::Extending::extending, crate::proofs::ListFacts::list_text_fields))]
-fn append_determination(text: &mut String, record: &Record, kept: &KeptList) -> Result<(), NoMemory>
+#[tactic(auto, using(grid_exact::proofs::Extending::extending))]
+fn append_determination(
+    text: &mut String,
+    determination: &Record,
+    kept: &KeptList,
+) -> Result<(), NoMemory>
     ensures ok { OnOk result (string_bytes text.new ≡ string_bytes text.old
-        ++ with_commas (decided_word record.now.decision ∷ (record_fields record.now kept.now.last ++ list_fields kept.now.list))) }
+        ++ with_commas (decided_word determination.now.decision ∷ (record_fields determination.now kept.now.last ++ list_fields kept.now.list))) }
     ensures part { OnErr result (Extends (string_bytes text.old) (string_bytes text.new)) }
 {
-    append_issue(text, record, kept.last)?;
-    append_course(text, record)?;
+    append_issue(text, determination, kept)?;
+    append_course(text, determination)?;
     append_list(text, kept.list.as_slice())
 }
 

@@ -64,7 +64,7 @@ fn part_of(text: &[u8], least: u8) -> Option<u8>
 }
 
 // The airfield of a name.
-#[tactic(auto, using(crate::proofs::EntryFacts::no_field))]
+
 fn field_of(text: &[u8]) -> Option<FieldId>
     ensures some { IfSome result (λ id. text.now ≡ id) }
     ensures named { IfSome result (λ id. IsFieldId id) }
@@ -74,7 +74,7 @@ fn field_of(text: &[u8]) -> Option<FieldId>
 }
 
 // The runway of a name.
-#[tactic(auto, using(crate::proofs::EntryFacts::no_strip))]
+
 fn runway_of(text: &[u8]) -> Option<RunwayName>
     ensures some { IfSome result (λ name. text.now ≡ name) }
     ensures named { IfSome result (λ name. IsRunwayName name) }

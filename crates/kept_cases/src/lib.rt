@@ -16,3 +16,6 @@ mod site;
 pub use append::append_filing_row;
 pub use filing::{FilingRow, append_filing_key, read_filing_row};
 pub use laws::one_filing_row;
+
+#[cfg(test)]
+mod tests;
