@@ -1,22 +1,20 @@
 -- Entries and their words.
-use Rattle.std.proofs.Common.{arith, ℕ, ◌≡◌, ◌==◌, ◌<◌, ◌≤◌, ◌^◌, true, false, List, [], ◌∷◌, ◌++◌, Option, Some, None, All, codes, refl, ap, sym, subst, ◌∙◌, append_assoc}
+use Rattle.std.proofs.Common.{arith, ℕ, ◌≡◌, ◌==◌, ◌<◌, ◌^◌, true, false, List, [], ◌∷◌, ◌++◌, Option, Some, None, codes, refl, ap, sym, subst, ◌∙◌, append_assoc}
 use Rattle.std.specs.List.{join_with_byte}
 use Rattle.std.specs.Fmt.{decimal}
-use Rattle.std.proofs.lemmas.Bool.Decides.{nat_tests}
 use Rattle.std.proofs.lemmas.List.Elements.{All-nil, All-cons, All-append}
 use Rattle.std.proofs.lemmas.List.Splits.{slice_split_at, join_with_byte-slice_split}
 use Rattle.airfields.specs.Names.{IsFieldId, IsRunwayName}
-use Rattle.airfield_findings.specs.declared.finding.Rule.{Rule}
 use Rattle.airfield_findings.specs.declared.finding.SurfaceKey.{SurfaceKey}
 use Rattle.airfield_findings.specs.declared.finding.Finding.{Finding}
 use Rattle.wire_values.specs.Words.{name_text}
 use Rattle.wire_values.specs.Wanted.{Fits, FieldIdWanted, RunwayNameWanted}
 use Rattle.wire_values.specs.Plainness.{is_field_byte}
 use Rattle.wire_values.proofs.FieldFacts.{fits_short, short_word}
-use Rattle.wire_replies.specs.Entries.{rule_word, airfield_text, surface_text, runway_part_text, entry_text}
+use Rattle.wire_replies.specs.Entries.{rule_word, airfield_text, surface_text, entry_text}
 use Rattle.kept_rows.specs.Parts.{parts_of}
 use Rattle.kept_rows.proofs.PartFacts.{only_part, pair_parts, parts_pair}
-use Rattle.kept_cases.specs.Entries.{extent_of, IsField, IsStrip, IsPart, HasExtent, IsEntry, field_word, surface_word, TellsKey, TellsEntry}
+use Rattle.kept_cases.specs.Entries.{extent_of, IsField, IsStrip, IsPart, HasExtent, IsEntry, field_word, surface_word, TellsEntry}
 use Rattle.kept_cases.specs.declared.extent.Extent.{Extent}
 use Rattle.kept_cases.specs.declared.extent.Extent.TheVariants as extents
 use Rattle.kept_cases.proofs.Plain.{Avoids, IsPlainText, plain_avoids, decimal_plain, decimal_undotted, runway_undotted}

@@ -1,9 +1,9 @@
 -- The fields of the rows of cases.
-use Rattle.std.proofs.Common.{arith, ℕ, ◌≡◌, ◌==◌, ◌<◌, ◌≤◌, ◌≤ℤ◌, ◌^◌, false, List, [], ◌∷◌, ◌++◌, map, length, Option, Some, None, All, codes, refl, ap, sym, subst, ◌∙◌}
+use Rattle.std.proofs.Common.{arith, ℕ, ◌≡◌, ◌<◌, ◌≤ℤ◌, ◌^◌, List, [], ◌∷◌, ◌++◌, map, length, Option, Some, None, All, codes, refl, ap, sym, subst, ◌∙◌}
 use Rattle.std.specs.Fmt.{decimal}
 use Rattle.std.proofs.lemmas.List.Elements.{All-nil, All-cons, All-append, All-head, All-tail}
 use Rattle.jiff_core.specs.declared.civil.date.Date.{Date}
-use Rattle.airfields.specs.Sites.{Site, greatest_mobile}
+use Rattle.airfields.specs.Sites.{Site}
 use Rattle.airfield_findings.specs.declared.finding.Finding.{Finding}
 use Rattle.determination_dates.specs.Days.{IsLimited}
 use Rattle.determination_dates.specs.Text.{date_text}
@@ -12,10 +12,9 @@ use Rattle.determination_dates.specs.declared.life.End.{End}
 use Rattle.case_values.specs.declared.submission.Submission.{Submission}
 use Rattle.case_records.specs.declared.case.KeptList.{KeptList}
 use Rattle.case_records.specs.declared.case.KeptCase.{KeptCase}
-use Rattle.wire_values.specs.Commas.{joined}
 use Rattle.wire_values.specs.Words.{kind_word, urgency_word, statement_word, decision_word, optional_date, IsAnyLimited}
-use Rattle.wire_values.specs.Wanted.{Wanted, Choice, DateWanted, OptionalDateWanted, mobile_limit}
-use Rattle.wire_values.specs.Plainness.{IsShortField, IsUsual}
+use Rattle.wire_values.specs.Wanted.{Choice, DateWanted, OptionalDateWanted, mobile_limit}
+use Rattle.wire_values.specs.Plainness.{IsUsual}
 use Rattle.wire_values.proofs.FieldFacts.{fits_short, short_word}
 use Rattle.wire_values.proofs.LimitFacts.{limit_of_kind}
 use Rattle.wire_cursor.specs.Shape.{HasShape}
@@ -30,7 +29,7 @@ use Rattle.kept_rows.specs.Parts.{parts_of}
 use Rattle.kept_rows.proofs.PartFacts.{IsUncut, joined_parts, parts_joined}
 use Rattle.kept_rows.proofs.FieldShapes.{uncut, uncut_fields}
 use Rattle.kept_cases.specs.Entries.{IsEntry, IsList, list_fields}
-use Rattle.kept_cases.specs.Filings.{end_word, pending_word, record_fields, judged_fields, notice_parts, filing_fields, filing_row, IsPlainRecord, IsKeptList, IsJudged, IsPlainCase}
+use Rattle.kept_cases.specs.Filings.{end_word, pending_word, record_fields, judged_fields, notice_parts, filing_fields, filing_row, IsPlainRecord, IsJudged, IsPlainCase}
 use Rattle.kept_cases.proofs.Plain.{plain_avoids, decimal_plain}
 use Rattle.kept_cases.proofs.WordFacts.{end_short, decision_short, pending_short}
 use Rattle.kept_cases.proofs.EntryFacts.{entry_avoids}

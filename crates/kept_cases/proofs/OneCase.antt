@@ -1,5 +1,5 @@
 -- A case is known by its row.
-use Rattle.std.proofs.Common.{arith, ℕ, ◌≡◌, ◌<◌, ◌≤◌, ◌^◌, List, [], ◌∷◌, ◌++◌, Bool, true, false, Option, Some, None, take, drop, codes, refl, ap, sym, subst, ◌∙◌}
+use Rattle.std.proofs.Common.{arith, ℕ, ◌≡◌, List, ◌++◌, Bool, Option, Some, None, take, drop, refl, ap, sym, ◌∙◌}
 use Rattle.std.proofs.lemmas.Fmt.{decimal_injective}
 use Rattle.jiff_core.specs.declared.civil.date.Date.{Date}
 use Rattle.airfields.specs.Sites.{Site}
@@ -7,7 +7,6 @@ use Rattle.airfield_findings.specs.declared.finding.Finding.{Finding}
 use Rattle.determination_dates.specs.declared.determination.Decision.{Decision}
 use Rattle.determination_dates.specs.declared.determination.Record.{Record}
 use Rattle.determination_dates.specs.declared.life.End.{End}
-use Rattle.determination_dates.specs.declared.life.Life.{Life}
 use Rattle.determination_dates.proofs.Texts.{one_date}
 use Rattle.case_values.specs.declared.submission.Submission.{Submission}
 use Rattle.case_records.specs.declared.case.KeptList.{KeptList}

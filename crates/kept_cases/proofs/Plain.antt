@@ -1,5 +1,5 @@
 -- Plain texts: of bytes from the minus sign to the letter z. Such a text has no space, comma or line feed.
-use Rattle.std.proofs.Common.{arith, ℕ, ◌≡◌, ◌==◌, ◌≤◌, ◌<◌, ◌^◌, true, false, List, [], ◌∷◌, ◌++◌, All, inl, inr}
+use Rattle.std.proofs.Common.{arith, ℕ, ◌≡◌, ◌==◌, ◌≤◌, ◌<◌, ◌^◌, true, false, List, [], ◌∷◌, All, inl, inr}
 use Rattle.std.specs.Fmt.{decimal}
 use Rattle.std.specs.Str.Parse.{AllDigits}
 use Rattle.std.proofs.lemmas.Bool.Decides.{nat_tests}

@@ -1,5 +1,5 @@
 -- Findings that a row can tell. Excesses are whole tenths of a foot.
-use Rattle.std.specs.Prelude.{ℕ, ◌^◌, ◌<◌, ◌≤◌, ◌≡◌, List, [], ◌∷◌, ◌++◌, map, length, Option, Some, None, All, codes}
+use Rattle.std.specs.Prelude.{ℕ, ◌^◌, ◌<◌, ◌≤◌, ◌≡◌, List, ◌∷◌, map, length, Option, Some, None, All, codes}
 use Rattle.std.specs.Fmt.{decimal}
 use Rattle.airfields.specs.Names.{IsFieldId, IsRunwayName}
 use Rattle.airfield_findings.specs.declared.finding.Rule.{Rule}

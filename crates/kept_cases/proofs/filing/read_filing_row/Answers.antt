@@ -1,5 +1,4 @@
 use Rattle.std.proofs.Common.{◌≡◌, sym, ◌∙◌}
-use Rattle.kept_rows.specs.Parts.{parts_of}
 use Rattle.case_records.specs.declared.case.KeptCase.{KeptCase}
 use Rattle.kept_cases.specs.Filings.{filing_fields, IsPlainCase}
 use Rattle.kept_cases.proofs.Choices.{at_none, at_some}

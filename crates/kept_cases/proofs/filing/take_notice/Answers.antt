@@ -1,5 +1,5 @@
-use Rattle.std.proofs.Common.{[], refl, drop, ap, sym, ◌∙◌}
-use Rattle.kept_rows.proofs.PartFacts.{if_none, behind}
+use Rattle.std.proofs.Common.{drop, ap, sym, ◌∙◌}
+use Rattle.kept_rows.proofs.PartFacts.{if_none}
 use Rattle.kept_cases.proofs.filing.take_notice.Goals as goal
 
 pub returns-in_err-submission-clause-none : goal.returns-in_err-submission-clause-none

@@ -1,4 +1,4 @@
-use Rattle.std.proofs.Common.{arith, rules, ◌≡◌, List, ℕ, map, All, length}
+use Rattle.std.proofs.Common.{arith, rules, ◌≡◌, List, map, All}
 use Rattle.airfield_findings.specs.declared.finding.Finding.{Finding}
 use Rattle.wire_replies.specs.Entries.{entry_text}
 use Rattle.kept_cases.specs.Entries.{IsEntry}

@@ -1,4 +1,3 @@
-use Rattle.std.proofs.Common.{[], refl, drop, ap, sym, ◌∙◌}
 use Rattle.kept_rows.proofs.PartFacts.{if_none, behind}
 use Rattle.kept_cases.proofs.site.take_manner.Goals as goal
 
