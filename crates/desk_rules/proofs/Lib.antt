@@ -1,3 +1,4 @@
 pub mod Replaying
 pub mod Worked
 pub mod Going
+pub mod CaseFacts

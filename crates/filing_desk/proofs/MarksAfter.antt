@@ -28,6 +28,7 @@ use Rattle.review_marks.specs.declared.row.Row.{Row}
 use Rattle.review_marks.proofs.Unconcerned.{same_lists, unconcerned}
 use Rattle.review_marks.proofs.Turning.{apart, by_places, eq_suc, same_number, suc_zero, zero_suc}
 use Rattle.desk_rules.specs.States.{State, case_at, changed_at, with_case, with_entry, stepped}
+use Rattle.desk_rules.proofs.CaseFacts.{case_changed, case_past}
 use Rattle.desk_rules.specs.Views.{status_on}
 use Rattle.desk_rules.specs.Marks.{Goes, is_marked, marks, stands_on, stands_in, compared, watched, row_of}
 use Rattle.filing_desk.specs.Desks.{with_register}
@@ -57,47 +58,6 @@ marks_amended s airfields change rows new l are turns n =
     turns n ∙ ap (option_map (turned airfields change)) (are n) ∙ row_as s airfields change (case_at s.cases n) l
 
 -- ---- a case is changed
-
-map_same : (o : Option KeptCase) → o ≡ option_map (λ c. c) o
-map_same None = refl
-map_same (Some c) = refl
-
-map_apart : (b : Bool) (f : KeptCase → KeptCase) (o : Option KeptCase) → b ≡ false → o ≡ option_map (λ c. cond b (f c) c) o
-map_apart true f o h = absurd (cc (h))
-map_apart false f o h = map_same o
-
-abbrev put_by_found : List KeptCase → ℕ → (KeptCase → KeptCase) → Option KeptCase → List KeptCase
-put_by_found cases k f None = cases
-put_by_found cases k f (Some c) = slice_set cases k (f c)
-
-kept_head : (c : KeptCase) (cases : List KeptCase) (k : ℕ) (f : KeptCase → KeptCase) (v : Option KeptCase) → put_by_found (c ∷ cases) (suc k) f v ≡ c ∷ put_by_found cases k f v
-kept_head c cases k f None = refl
-kept_head c cases k f (Some d) = refl
-
-case_placed : (cases : List KeptCase) (f : KeptCase → KeptCase) (k j : ℕ) → slice_get (put_by_found cases k f (slice_get cases k)) j ≡ option_map (λ c. cond (nat_eq k j) (f c) c) (slice_get cases j)
-case_placed [] f k j = refl
-case_placed (c ∷ cases) f zero zero = refl
-case_placed (c ∷ cases) f zero (suc j) = map_apart (nat_eq 0 (suc j)) f (slice_get cases j) (zero_suc j)
-case_placed (c ∷ cases) f (suc k) zero = ap (λ (xs : List KeptCase). slice_get xs 0) (kept_head c cases k f (slice_get cases k)) ∙ map_apart (nat_eq (suc k) 0) f (Some c) (suc_zero k)
-case_placed (c ∷ cases) f (suc k) (suc j) =
-    ap (λ (xs : List KeptCase). slice_get xs (suc j)) (kept_head c cases k f (slice_get cases k)) ∙ case_placed cases f k j
-    ∙ ap (λ (b : Bool). option_map (λ d. cond b (f d) d) (slice_get cases j)) (sym (eq_suc k j))
-
-changed_put : (number : ℕ) (f : KeptCase → KeptCase) (cases : List KeptCase) (v : Option KeptCase) → changed_at number f cases v ≡ put_by_found cases (number - 1) f v
-changed_put number f cases None = refl
-changed_put number f cases (Some c) = refl
-
-case_by : (k : ℕ) (f : KeptCase → KeptCase) (cases : List KeptCase) (n : ℕ) (b d : Bool) → (k == 0) ≡ b → (n == 0) ≡ d
-    → cond d None (slice_get (changed_at k f cases (cond b None (slice_get cases (k - 1)))) (n - 1)) ≡ option_map (λ c. cond (nat_eq k n) (f c) c) (cond d None (slice_get cases (n - 1)))
-case_by k f cases n b true h e = refl
-case_by k f cases n true false h e = map_same (slice_get cases (n - 1)) ∙ ap (λ (x : Bool). option_map (λ c. cond x (f c) c) (slice_get cases (n - 1))) (sym (apart k n h e))
-case_by k f cases n false false h e =
-    ap (λ (xs : List KeptCase). slice_get xs (n - 1)) (changed_put k f cases (slice_get cases (k - 1))) ∙ case_placed cases f (k - 1) (n - 1)
-    ∙ ap (λ (x : Bool). option_map (λ c. cond x (f c) c) (slice_get cases (n - 1))) (by_places k n h e)
-
--- the case of a number after the one of a number was changed
-pub case_changed : (k : ℕ) (f : KeptCase → KeptCase) (cases : List KeptCase) (n : ℕ) → case_at (with_case k f cases) n ≡ option_map (λ c. cond (nat_eq k n) (f c) c) (case_at cases n)
-case_changed k f cases n = case_by k f cases n (k == 0) (n == 0) refl refl
 
 -- where no case is watched otherwise than before
 kept_by : (s : State) (f : KeptCase → KeptCase) (b : Bool) (o : Option KeptCase) → ((c : KeptCase) → watched s (f c) ≡ watched s c) → with_some (option_map (λ c. cond b (f c) c) o) (watched s) ≡ with_some o (watched s)
@@ -390,18 +350,6 @@ numbers_beyond f m (suc t) le h = by_last f m t (nat_lt m (suc t)) refl le (λ s
 numbers_same : (f g : ℕ → Bool) (n : ℕ) → ((k : ℕ) → f k ≡ g k) → numbers_up_to f n ≡ numbers_up_to g n
 numbers_same f g zero h = refl
 numbers_same f g (suc n) h = ap (λ xs. xs ++ cond (f (suc n)) (suc n ∷ []) []) (numbers_same f g n h) ∙ ap (λ (b : Bool). numbers_up_to g n ++ cond b (suc n ∷ []) []) (h (suc n))
-
-case_past : (cases : List KeptCase) (n : ℕ) → length cases < n → case_at cases n ≡ None
-case_past cases n h = by (n == 0)
-  where
-    past : (cases : List KeptCase) (i : ℕ) → length cases ≤ i → slice_get cases i ≡ None
-    past [] i h = refl
-    past (c ∷ cases) zero h = absurd (omega (arith, h))
-    past (c ∷ cases) (suc i) h = past cases i (omega (arith, h))
-
-    by : (b : Bool) → cond b None (slice_get cases (n - 1)) ≡ None
-    by true = refl
-    by false = past cases (n - 1) (omega (arith, h))
 
 pub is_marked_as : (s : State) (rows : List (Option Row)) (n : ℕ) → AreMarks s rows → is_marked_in rows n ≡ is_marked s n
 is_marked_as s rows n are = ap is_marked_row (are n)

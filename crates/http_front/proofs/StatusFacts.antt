@@ -1,5 +1,5 @@
 -- The status of each reply, by its text.
-use Rattle.std.proofs.Common.{◌≡◌, ◌++◌, ℕ, List, codes, refl, ap, ◌∙◌}
+use Rattle.std.proofs.Common.{◌≡◌, refl, ap}
 use Rattle.std.specs.Fmt.{digits}
 use Rattle.case_records.specs.declared.refusal.Refusal.{Refusal}
 use Rattle.case_records.specs.declared.refusal.Refusal.TheVariants as refusals

@@ -1,6 +1,6 @@
 //! Requests, replied to by whatever answers records.
 
-ghost use Rattle.std.specs.Prelude.{◌≡◌, [], List, ℕ, OnOk, string_bytes};
+ghost use Rattle.std.specs.Prelude.{◌≡◌, [], OnOk, string_bytes};
 ghost use Rattle.http_front.specs.Replying.{AnswersRecord};
 
 use crate::status::{NOT_ALLOWED, NOT_FOUND, status_of};

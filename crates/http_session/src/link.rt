@@ -1,6 +1,6 @@
 //! The loop of a session.
 
-ghost use Rattle.std.specs.Prelude.{◌≡◌, ◌≢◌, ◌≤◌, ◌<◌, ◌-◌, [], List, ℕ, Option, None, OnErr, OnOk, IsErrOf, IsNone, IfSome, string_bytes};
+ghost use Rattle.std.specs.Prelude.{◌≡◌, ◌≢◌, ◌≤◌, ◌<◌, ◌-◌, [], List, ℕ, Option, None, OnErr, OnOk, IsErrOf, IsNone, IfSome};
 ghost use Rattle.std.specs.Io.KnownBytes.{Keeps};
 ghost use Rattle.http.specs.StatusCode.{IsStatusCode};
 ghost use Rattle.oe_http.specs.Causes.{Rose, HasCause};

@@ -3,7 +3,7 @@ mod NumberFacts
 mod RuleFacts
 mod EntryFacts
 mod WordFacts
-mod KeyFacts
+pub mod KeyFacts
 mod OneEntry
 mod ListFacts
 mod RowTexts

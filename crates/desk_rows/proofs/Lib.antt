@@ -1,0 +1,9 @@
+pub mod Split
+pub mod Named
+pub mod Kepts
+pub mod Registers
+pub mod Days
+pub mod Cases
+pub mod Receipts
+pub mod Keeping
+pub mod OneRows

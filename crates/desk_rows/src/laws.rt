@@ -1,0 +1,22 @@
+//! Laws of the rows.
+
+ghost use Rattle.std.specs.Prelude.{◌≡◌};
+ghost use Rattle.oe_keeper.specs.Kept.{Kept, all_changed};
+ghost use Rattle.case_acts.specs.declared.effect.Step.{Step};
+ghost use Rattle.desk_rules.specs.States.{State, stepped, with_entry};
+ghost use Rattle.desk_rules.specs.declared.entry.Entry.{Entry};
+ghost use Rattle.desk_rows.specs.Rows.{AreRows};
+ghost use Rattle.desk_rows.specs.Changes.{changes, Fits};
+
+/// The changes of an accepted request make the rows of the state before it those of the state after it.
+#[tactic(auto, using(crate::proofs::Keeping::rows_kept))]
+pub fn keeps_rows()
+    ensures { (s : State) (e : Entry) (step : Step) (kept : Kept) → Fits s e step → AreRows s kept →
+        AreRows (with_entry e (stepped step s)) (all_changed kept (changes s e step)) }
+{}
+
+/// A state has one set of rows.
+#[tactic(auto, using(crate::proofs::OneRows::one_rows))]
+pub fn one_rows()
+    ensures { (s : State) (a b : Kept) → AreRows s a → AreRows s b → a ≡ b }
+{}

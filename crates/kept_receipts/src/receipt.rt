@@ -1,0 +1,67 @@
+//! The rows of accepted requests.
+
+ghost use Rattle.std.specs.Prelude.{◌≡◌, ◌++◌, OnOk, OnErr, string_bytes};
+ghost use Rattle.grid_exact.specs.Texts.{Extends};
+ghost use Rattle.wire_replies.specs.Outcomes.{outcome_text};
+ghost use Rattle.kept_receipts.specs.Receipts.{receipt_key, receipt_row};
+
+use case_records::Outcome;
+use grid_exact::NoMemory;
+use std::alloc::Global;
+use wire_changes::write_request;
+use wire_replies::{append_number, append_outcome};
+use wire_requests::Change;
+use wire_values::{FieldValue, append_text};
+
+/// Appends the key of an accepted request's row.
+///
+/// # Errors
+///
+/// `NoMemory` where memory was refused; a part of the key may then be appended.
+#[tactic(auto, using(grid_exact::proofs::Extending::extending))]
+pub fn append_receipt_key(text: &mut String, change: &Change) -> Result<(), NoMemory>
+    ensures ok { OnOk result (string_bytes text.new ≡ string_bytes text.old ++ receipt_key change.now.caller change.now.key) }
+    ensures part { OnErr result (Extends (string_bytes text.old) (string_bytes text.new)) }
+{
+    change.caller.append(text)?;
+    append_text(text, " ")?;
+    change.key.append(text)
+}
+
+// Appends what a reply tells of an outcome, which is what stands there behind a comma.
+#[tactic(auto, using(grid_exact::proofs::Extending::extending))]
+fn append_told(alloc: Global, text: &mut String, outcome: &Outcome) -> Result<(), NoMemory>
+    ensures ok { OnOk result (string_bytes text.new ≡ string_bytes text.old ++ outcome_text outcome.now) }
+    ensures part { OnErr result (Extends (string_bytes text.old) (string_bytes text.new)) }
+{
+    let mut told = String::new(alloc);
+    append_outcome(&mut told, outcome)?;
+    match told.as_str().strip_prefix(",") {
+        Some(rest) => append_text(text, rest),
+        None => unreachable!(),
+    }
+}
+
+/// Appends an accepted request's row: the number of its entry, its record and its outcome.
+///
+/// # Errors
+///
+/// `NoMemory` where memory was refused; a part of the row may then be appended.
+#[tactic(auto, using(grid_exact::proofs::Extending::extending))]
+pub fn append_receipt_row(
+    alloc: Global,
+    text: &mut String,
+    number: u64,
+    change: &Change,
+    outcome: &Outcome,
+) -> Result<(), NoMemory>
+    ensures ok { OnOk result (string_bytes text.new ≡ string_bytes text.old ++ receipt_row number change.now outcome.now) }
+    ensures part { OnErr result (Extends (string_bytes text.old) (string_bytes text.new)) }
+{
+    append_number(text, number)?;
+    append_text(text, "\n")?;
+    let request = write_request(alloc, change)?;
+    append_text(text, request.as_str())?;
+    append_text(text, "\n")?;
+    append_told(alloc, text, outcome)
+}
