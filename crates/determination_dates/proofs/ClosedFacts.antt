@@ -1,16 +1,16 @@
 -- A set of closed days with one more.
-use Rattle.std.proofs.Common.{◌≡◌, refl, sym, ap, arith, Bool, ◌||◌, List, [], ◌∷◌, ℤ, Result, Ok, Err, OnOk, OnErr}
+use Rattle.std.proofs.Common.{◌≡◌, refl, sym, ap, arith, Bool, true, false, true≢false, ◌∙◌, ◌||◌, List, [], ◌∷◌, ℤ, Result, Ok, Err, OnOk, OnErr}
 use Rattle.std.specs.List.{All}
 use Rattle.std.specs.Ordering.{int_eq, int_cmp, is_eq, match_ordering}
 use Rattle.std.specs.declared.cmp.Ordering.{Ordering}
 use Rattle.std.specs.declared.cmp.Ordering.TheVariants.{Less, Equal, Greater}
 use Rattle.std.specs.BTreeSet.{insert_key}
 use Rattle.std.proofs.lemmas.Bool.Decides.{Decides-int_eq}
-use Rattle.std.proofs.lemmas.Map.Views.{All-insert_key}
+use Rattle.std.proofs.lemmas.Map.Views.{All-insert_key, All-remove_key}
 use Rattle.jiff_core.specs.declared.civil.date.Date.{Date}
 use Rattle.jiff_core.specs.Date.{epoch_day}
 use Rattle.determination_dates.specs.Days.{IsLimited}
-use Rattle.determination_dates.specs.Closed.{is_closed, with_day}
+use Rattle.determination_dates.specs.Closed.{is_closed, with_day, without_day}
 
 -- whether the day was added or refused, all days are within the limit
 pub limited_after : {T E : Type 0} (r : Result T E) (cmp : Date → Date → Ordering) (d : Date) (before after : List Date) → All IsLimited before → IsLimited d
@@ -38,3 +38,26 @@ closed_with d (c ∷ cs) z =
       | Equal ↦ λ e. rw (same_day (epoch_day d) (epoch_day c) e) (sym (or_same (int_eq z (epoch_day c)) (is_closed cs z)))
       | Greater ↦ λ e. rw (closed_with d cs z) (or_swap (int_eq z (epoch_day c)) (int_eq z (epoch_day d)) (is_closed cs z))
     ] refl
+
+-- ---- a day that was not closed, put in and taken out
+
+itself : (z : ℤ) → is_eq (int_cmp z z) ≡ true
+itself z = (Decides-int_eq z z).1 refl
+
+or_right : (a b : Bool) → (a || b) ≡ false → b ≡ false
+or_right a b e = grind arith
+
+or_left : (a b : Bool) → (a || b) ≡ false → a ≡ false
+or_left a b e = grind arith
+
+pub without_with : (d : Date) (before : List Date) → is_closed before (epoch_day d) ≡ false → without_day d (with_day d before) ≡ before
+without_with d [] h = rw (itself (epoch_day d)) refl
+without_with d (c ∷ cs) h =
+    elim (int_cmp (epoch_day d) (epoch_day c)) as (λ o. int_cmp (epoch_day d) (epoch_day c) ≡ o → without_day d (match_ordering o (d ∷ c ∷ cs) (c ∷ cs) (c ∷ with_day d cs)) ≡ c ∷ cs) [
+      | Less ↦ λ _. rw (itself (epoch_day d)) refl
+      | Equal ↦ λ e. absurd (true≢false (sym (ap is_eq e) ∙ or_left (is_eq (int_cmp (epoch_day d) (epoch_day c))) (is_closed cs (epoch_day d)) h))
+      | Greater ↦ λ e. rw (ap is_eq e) (ap (λ l. c ∷ l) (without_with d cs (or_right (int_eq (epoch_day d) (epoch_day c)) (is_closed cs (epoch_day d)) h)))
+    ] refl
+
+pub limited_without : (d : Date) (closed : List Date) → All IsLimited closed → All IsLimited (without_day d closed)
+limited_without d closed h = All-remove_key _ IsLimited closed h

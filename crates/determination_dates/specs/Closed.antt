@@ -2,9 +2,10 @@
 use Rattle.std.specs.Prelude.{◌≡◌, ◌<◌, Bool, false, List, ℤ}
 use Rattle.std.specs.List.{list_any, All}
 use Rattle.std.specs.List.Sorted.{IsStrictlySortedBy}
-use Rattle.std.specs.Ordering.{int_cmp, int_eq, on}
+use Rattle.std.specs.Ordering.{int_cmp, int_eq, is_eq, on}
 use Rattle.std.specs.declared.cmp.Ordering.{Ordering}
 use Rattle.std.specs.BTreeSet.{insert_key}
+use Rattle.std.specs.Set.{remove_key}
 use Rattle.jiff_core.specs.declared.civil.date.Date.{Date}
 use Rattle.jiff_core.specs.Date.{epoch_day}
 use Rattle.jiff_core.specs.Calendar.{weekday_number}
@@ -25,6 +26,10 @@ date_cmp = on epoch_day int_cmp
 -- the closed days with one more, in its place
 abbrev pub with_day : Date → List Date → List Date
 with_day d closed = insert_key date_cmp closed d
+
+-- the closed days without that one
+abbrev pub without_day : Date → List Date → List Date
+without_day d closed = remove_key (λ c. is_eq (date_cmp d c)) closed
 
 -- a set of closed days, as a list
 pub record AreClosedDays (closed : List Date) : Type 0 where

@@ -1,11 +1,12 @@
 //! Days on which the Federal government is closed.
 
-ghost use Rattle.std.specs.Prelude.{◌≡◌, ◌↔◌, [], OnOk, OnErr, IsTrue};
+ghost use Rattle.std.specs.Prelude.{◌≡◌, ◌↔◌, [], false, List, OnOk, OnErr, IsTrue};
 ghost use Rattle.std.specs.List.{All};
 ghost use Rattle.std.specs.List.Sorted.{IsStrictlySortedBy};
 ghost use Rattle.jiff_core.specs.Date.{epoch_day};
+ghost use Rattle.jiff_core.specs.declared.civil.date.Date.{Date as Plain};
 ghost use Rattle.determination_dates.specs.Days.{IsLimited};
-ghost use Rattle.determination_dates.specs.Closed.{date_cmp, is_closed, with_day, IsOpen};
+ghost use Rattle.determination_dates.specs.Closed.{date_cmp, is_closed, with_day, without_day, IsOpen};
 
 use grid_exact::NoMemory;
 use jiff::civil::Date;
@@ -63,6 +64,14 @@ impl ClosedDays {
             Ok(_) => Ok(()),
             Err(_) => Err(NoMemory),
         }
+    }
+
+    /// Takes the date out; where it is not there, nothing changes. It takes no memory, and undoes `with` of a date that was not there.
+    pub fn without(&mut self, d: Date)
+        ensures taken { self.new ≡ without_day d self.old }
+        ensures undone { (before : List Plain) → self.old ≡ with_day d before → is_closed before (epoch_day d) ≡ false → self.new ≡ before }
+    {
+        let _ = self.days.remove(&d);
     }
 
     /// Shows to a proof that the dates stand in rising order and are within the limit.

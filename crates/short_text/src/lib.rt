@@ -4,7 +4,7 @@
 mod comparison;
 mod short_text;
 
-pub use short_text::ShortText;
+pub use short_text::{LONGEST, ShortText};
 
 #[cfg(test)]
 mod tests;

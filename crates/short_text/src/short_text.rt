@@ -1,17 +1,20 @@
 //! A text of few bytes.
 
-ghost use Rattle.std.specs.Prelude.{◌≡◌, ◌<◌, ◌≤◌, MatchOption, length};
+ghost use Rattle.std.specs.Prelude.{◌≡◌, ◌<◌, ◌≤◌, min, MatchOption, length};
 ghost use Rattle.std.specs.Ordering.{nat_cmp};
 ghost use Rattle.std.specs.Cmp.Lexicographic.{slice_cmp};
 
 use std::cmp::Ordering;
 use std::marker::Model;
 
+/// How many bytes a short text may have, whatever its room: its length is kept in one byte.
+pub const LONGEST: usize = 255;
+
 /// A text of at most `MOST` bytes, kept in place.
 #[derive(Clone, Copy)]
 pub struct ShortText<const MOST: usize> {
     bytes: [u8; MOST],
-    len: usize,
+    len: u8,
 }
 
 impl<const MOST: usize> Model for ShortText<MOST> {
@@ -30,19 +33,21 @@ impl<const MOST: usize> Model for ShortText<MOST> {
 }
 
 impl<const MOST: usize> ShortText<MOST> {
-    /// The text, where it has at most `MOST` bytes; else `None`.
+    /// The text, where it has at most `MOST` bytes and at most `LONGEST`; else `None`.
     pub fn new(text: &[u8]) -> Option<ShortText<MOST>>
-        ensures exact { MatchOption result (MOST < length text.now) (λ t. t ≡ text.now) }
+        ensures exact { MatchOption result (min MOST LONGEST < length text.now) (λ t. t ≡ text.now) }
     {
         if text.len() > MOST {
             return None;
         }
-        let mut bytes = [0u8; MOST];
-        bytes[..text.len()].copy_from_slice(text);
-        Some(ShortText {
-            bytes,
-            len: text.len(),
-        })
+        match u8::try_from(text.len()) {
+            Ok(len) => {
+                let mut bytes = [0u8; MOST];
+                bytes[..text.len()].copy_from_slice(text);
+                Some(ShortText { bytes, len })
+            }
+            Err(_) => None,
+        }
     }
 
     /// The bytes of the text.
@@ -50,7 +55,7 @@ impl<const MOST: usize> ShortText<MOST> {
         ensures value { result.now ≡ self.now }
         ensures size { length self.now ≤ MOST }
     {
-        &self.bytes[..self.len]
+        &self.bytes[..usize::from(self.len)]
     }
 
     /// The order of the two texts, byte by byte; a text stands before each longer one that it begins.
