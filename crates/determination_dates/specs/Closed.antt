@@ -1,5 +1,5 @@
 -- Days on which the government is open: 77.39(c).
-use Rattle.std.specs.Prelude.{◌≡◌, ◌<◌, Bool, false, List, ℤ}
+use Rattle.std.specs.Prelude.{◌≡◌, ◌<◌, Bool, true, false, List, [], ◌∷◌, ℤ}
 use Rattle.std.specs.List.{list_any, All}
 use Rattle.std.specs.List.Sorted.{IsStrictlySortedBy}
 use Rattle.std.specs.Ordering.{int_cmp, int_eq, is_eq, on}
@@ -10,6 +10,10 @@ use Rattle.jiff_core.specs.declared.civil.date.Date.{Date}
 use Rattle.jiff_core.specs.Date.{epoch_day}
 use Rattle.jiff_core.specs.Calendar.{weekday_number}
 use Rattle.determination_dates.specs.Days.{IsLimited}
+
+abbrev pub is_none_of : {A : Type 0} → List A → Bool
+is_none_of [] = true
+is_none_of (x ∷ xs) = false
 
 -- the day is one of the closed days
 abbrev pub is_closed : List Date → ℤ → Bool

@@ -6,7 +6,7 @@ ghost use Rattle.std.specs.List.Sorted.{IsStrictlySortedBy};
 ghost use Rattle.jiff_core.specs.Date.{epoch_day};
 ghost use Rattle.jiff_core.specs.declared.civil.date.Date.{Date as Plain};
 ghost use Rattle.determination_dates.specs.Days.{IsLimited};
-ghost use Rattle.determination_dates.specs.Closed.{date_cmp, is_closed, with_day, without_day, IsOpen};
+ghost use Rattle.determination_dates.specs.Closed.{date_cmp, is_closed, is_none_of, with_day, without_day, IsOpen};
 
 use grid_exact::NoMemory;
 use jiff::civil::Date;
@@ -41,6 +41,13 @@ impl ClosedDays {
         ClosedDays {
             days: BTreeSet::new(alloc),
         }
+    }
+
+    /// Whether there are no dates.
+    pub fn is_empty(&self) -> bool
+        ensures { result ≡ is_none_of self.now }
+    {
+        self.days.is_empty()
     }
 
     /// Whether the date is one of these.

@@ -1,6 +1,6 @@
 //! What keeps the tables.
 
-ghost use Rattle.std.specs.Prelude.{◌≡◌, ℕ, IfOk, OnOk, OnErr};
+ghost use Rattle.std.specs.Prelude.{◌≡◌, false, ℕ, IfOk, OnOk, OnErr};
 ghost use Rattle.oe_keeper.specs.Kept.{Kept};
 ghost use Rattle.oe_keeper.specs.Keeping.{Stays, StaysSilent, HasAll, HasCause, IfFailed};
 
@@ -74,6 +74,10 @@ pub trait Keeper {
         ensures cause { HasCause (faults self.old) (faults self.new) result }
         ensures steady { IsSteady self.old → IsSteady self.new }
         ensures unfailing { IsSteady self.old → IfFailed result ⊥ };
+
+    /// Whether it keeps what it is handed. One that does not tells no rows.
+    fn keeps(&self) -> bool
+        ensures { result ≡ false → (rows : Kept) → Tells self.now rows → ⊥ };
 
     /// It tells no other rows at the same time.
     ghost one: { (k : Self) (a b : Kept) → Tells k a → Tells k b → a ≡ b };

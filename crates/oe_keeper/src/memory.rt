@@ -1,6 +1,6 @@
 //! A keeper in memory, which fails at listed calls.
 
-ghost use Rattle.std.specs.Prelude.{◌≡◌, ◌≤◌, IfOk, OnOk, OnErr};
+ghost use Rattle.std.specs.Prelude.{◌≡◌, ◌≤◌, true, IfOk, OnOk, OnErr};
 ghost use Rattle.std.proofs.Common.{◌∙◌, sym};
 ghost use Rattle.oe_keeper.specs.Kept.{Kept, all_changed};
 ghost use Rattle.oe_keeper.specs.Memory.{HasRows, IsFresh, IsUnfailing, IsCounted, fails_next, has_failed};
@@ -115,6 +115,12 @@ impl Keeper for MemoryKeeper {
         }
         self.tables = self.changed(alloc, changes)?;
         Ok(())
+    }
+
+    fn keeps(&self) -> bool
+        ensures { result ≡ true }
+    {
+        true
     }
 
     ghost one = { λ k a b p q. p ∙ sym q };

@@ -1,6 +1,6 @@
 //! The keeper.
 
-ghost use Rattle.std.specs.Prelude.{◌≡◌, false, None, Err, IsTrue, IfOk, OnOk, OnErr};
+ghost use Rattle.std.specs.Prelude.{◌≡◌, true, false, None, Err, IsTrue, IfOk, OnOk, OnErr};
 ghost use Rattle.oe_keeper.specs.Kept.{Kept};
 ghost use Rattle.oe_keeper.specs.Keeping.{HasCause, IfFailed, Stays, StaysSilent, HasAll};
 ghost use Rattle.oe_sqlite.specs.declared.place.Place.TheVariants.{Nowhere};
@@ -161,6 +161,12 @@ impl<O: Opens> Keeper for StoreKeeper<O> {
             Ok(()) => Ok(()),
             Err(stop) => Err(count(&mut self.faults, stop)),
         }
+    }
+
+    fn keeps(&self) -> bool
+        ensures { result ≡ true }
+    {
+        true
     }
 
     ghost one = { λ k a b p q. told_once k.place a b p.1 q.1 };
