@@ -1,0 +1,2 @@
+mod NumberFacts
+mod Words

@@ -1,0 +1,2 @@
+pub use Rattle.wire_replies.specs.Outcomes
+pub mod Kinds
