@@ -1,2 +1,3 @@
-mod NumberFacts
+pub mod NumberFacts
 mod Words
+mod KindFacts

@@ -1,2 +1,3 @@
 pub use Rattle.wire_replies.specs.Outcomes
 pub mod Kinds
+pub mod Fields

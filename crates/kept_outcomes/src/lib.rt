@@ -3,7 +3,8 @@
 //! Excesses are whole tenths of a foot.
 #![tactic(auto)]
 
-
+mod course;
+mod filed;
 mod number;
 mod only;
 mod parts;

@@ -87,6 +87,7 @@ pub(crate) fn timeliness(text: &[u8]) -> Option<Timeliness>
 /// How a notice stands to the application to the FCC, where there is one.
 pub(crate) fn fcc(text: &[u8]) -> Option<Option<u32>>
     ensures some { IfSome result (λ d. text.now ≡ fcc_text d) }
+    ensures good { IfSome result (λ d. AreDays d) }
     ensures none { IfNone result ((d : Option ℕ) → AreDays d → text.now ≢ fcc_text d) }
 {
     if text == b"-".as_slice() {
