@@ -148,12 +148,15 @@ pub disposed_told : (text : List ℕ) (n : ℕ) (affirmed : Bool) (effective exp
     → text ≡ disposed_text n affirmed effective expiry
 disposed_told text n affirmed effective expiry h e = parts_joined text _ _ e ∙ sym (disposed_same n affirmed effective expiry h)
 
+pub disposed_parts : (text : List ℕ) (n : ℕ) (affirmed : Bool) (effective expiry : Option Date) → n < 2 ^ 32 → HasDays affirmed effective expiry → text ≡ disposed_text n affirmed effective expiry
+    → parts_of 44 text ≡ disposed_fields n affirmed effective expiry
+disposed_parts text n affirmed effective expiry small h e =
+    ap (parts_of 44) (e ∙ disposed_same n affirmed effective expiry h) ∙ joined_parts _ _ (disposed_uncut n affirmed effective expiry small h)
+
 pub no_disposed : (text : List ℕ) (n : ℕ) → n < 2 ^ 32 → ((affirmed : Bool) (effective expiry : Option Date) → HasDays affirmed effective expiry
     → parts_of 44 text ≢ disposed_fields n affirmed effective expiry) → (v : Outcome) → IsDisposed n v → text ≢ outcome_text v
 no_disposed text n small misses (outcomes.Disposed number affirmed effective expiry) good e =
-    misses affirmed effective expiry good.1
-    (ap (parts_of 44) (subst (λ m. text ≡ disposed_text m affirmed effective expiry) good.0 e ∙ disposed_same n affirmed effective expiry good.1)
-    ∙ joined_parts _ _ (disposed_uncut n affirmed effective expiry small good.1))
+    misses affirmed effective expiry good.1 (disposed_parts text n affirmed effective expiry small good.1 (subst (λ m. text ≡ disposed_text m affirmed effective expiry) good.0 e))
 no_disposed text n small misses _ good e = good
 
 -- ---- an extension
@@ -169,12 +172,15 @@ extended_uncut n expiry last_day small h k =
       (number_uncut n (omega (arith, small)), (date_uncut expiry h, (date_uncut last_day k, tt))),
     )
 
+pub extended_parts : (text : List ℕ) (n : ℕ) (expiry last_day : Date) → n < 2 ^ 32 → IsLimited expiry → IsLimited last_day → text ≡ extended_text n expiry last_day
+    → parts_of 44 text ≡ extended_fields n expiry last_day
+unfolding date_word
+extended_parts text n expiry last_day small h k e = ap (parts_of 44) e ∙ joined_parts _ _ (extended_uncut n expiry last_day small h k)
+
 pub no_extended : (text : List ℕ) (n : ℕ) → n < 2 ^ 32 → ((expiry last_day : Date) → IsLimited expiry → IsLimited last_day → parts_of 44 text ≢ extended_fields n expiry last_day)
     → (v : Outcome) → IsExtended n v → text ≢ outcome_text v
-unfolding date_word
 no_extended text n small misses (outcomes.Extended number expiry last_day) good e =
-    misses expiry last_day good.1 good.2
-    (ap (parts_of 44) (subst (λ m. text ≡ extended_text m expiry last_day) good.0 e) ∙ joined_parts _ _ (extended_uncut n expiry last_day small good.1 good.2))
+    misses expiry last_day good.1 good.2 (extended_parts text n expiry last_day small good.1 good.2 (subst (λ m. text ≡ extended_text m expiry last_day) good.0 e))
 no_extended text n small misses _ good e = good
 
 -- ---- what the FCC did
@@ -187,8 +193,11 @@ fcc_act_uncut : (n : ℕ) (expiry : Date) → n < 2 ^ 32 → IsLimited expiry �
 fcc_act_uncut n expiry small h =
     each (fcc_fields n expiry) (uncut (codes "fcc") (short_word _ (omega arith) (omega arith) refl), (number_uncut n (omega (arith, small)), (date_uncut expiry h, tt)))
 
-pub no_fcc_act : (text : List ℕ) (n : ℕ) → n < 2 ^ 32 → ((expiry : Date) → IsLimited expiry → parts_of 44 text ≢ fcc_fields n expiry) → (v : Outcome) → IsFccAct n v → text ≢ outcome_text v
+pub fcc_parts : (text : List ℕ) (n : ℕ) (expiry : Date) → n < 2 ^ 32 → IsLimited expiry → text ≡ fcc_act_text n expiry → parts_of 44 text ≡ fcc_fields n expiry
 unfolding date_word
+fcc_parts text n expiry small h e = ap (parts_of 44) e ∙ joined_parts _ _ (fcc_act_uncut n expiry small h)
+
+pub no_fcc_act : (text : List ℕ) (n : ℕ) → n < 2 ^ 32 → ((expiry : Date) → IsLimited expiry → parts_of 44 text ≢ fcc_fields n expiry) → (v : Outcome) → IsFccAct n v → text ≢ outcome_text v
 no_fcc_act text n small misses (outcomes.Fcc number expiry) good e =
-    misses expiry good.1 (ap (parts_of 44) (subst (λ m. text ≡ fcc_act_text m expiry) good.0 e) ∙ joined_parts _ _ (fcc_act_uncut n expiry small good.1))
+    misses expiry good.1 (fcc_parts text n expiry small good.1 (subst (λ m. text ≡ fcc_act_text m expiry) good.0 e))
 no_fcc_act text n small misses _ good e = good

@@ -1,3 +1,7 @@
 pub mod NumberFacts
 mod Words
+mod Choices
 mod KindFacts
+mod FrameFacts
+mod DeterminedFacts
+mod OneOutcome

@@ -1,11 +1,15 @@
 -- Words of outcomes.
-use Rattle.std.proofs.Common.{ℕ, ◌≡◌, ◌≢◌, ◌≤◌, ◌<◌, ◌^◌, List, ◌++◌, Bool, true, false, Option, Some, None, codes, refl, ap, ◌∙◌}
+use Rattle.std.proofs.Common.{arith, ℕ, ◌≡◌, ◌≢◌, ◌≤◌, ◌<◌, ◌^◌, List, ◌++◌, Bool, true, false, Option, Some, None, codes, refl, ap, ◌∙◌}
 use Rattle.jiff_core.specs.declared.civil.date.Date.{Date}
 use Rattle.determination_dates.specs.Days.{IsLimited}
 use Rattle.determination_dates.specs.Text.{date_text}
+use Rattle.determination_dates.specs.declared.determination.Decision.{Decision}
+use Rattle.determination_dates.specs.declared.determination.Decision.TheVariants as decisions
 use Rattle.determination_dates.specs.declared.timely.Timeliness.{Timeliness}
 use Rattle.determination_dates.specs.declared.timely.Timeliness.TheVariants as timeliness
-use Rattle.wire_values.specs.Words.{optional_date}
+use Rattle.wire_values.specs.Words.{decision_word, optional_date}
+use Rattle.wire_values.specs.Plainness.{IsShortField}
+use Rattle.wire_values.proofs.FieldFacts.{short_word}
 use Rattle.wire_replies.specs.States.{date_word, day_text}
 use Rattle.wire_replies.specs.Outcomes.{late_text, timeliness_text, presumption_text}
 use Rattle.kept_outcomes.specs.Kinds.{IsTimeliness}
@@ -38,3 +42,13 @@ pub no_presumption : (text : List ℕ) → text ≢ codes "-" → text ≢ codes
 no_presumption text n y x None = n
 no_presumption text n y x (Some true) = y
 no_presumption text n y x (Some false) = x
+
+-- ---- decisions
+
+pub no_decision : (word : List ℕ) → word ≢ codes "nohazard" → word ≢ codes "hazard" → (d : Decision) → word ≢ decision_word d
+no_decision word n h decisions.NoHazard = n
+no_decision word n h decisions.Hazard = h
+
+pub decision_short : (d : Decision) → IsShortField (decision_word d)
+decision_short decisions.NoHazard = short_word _ (omega arith) (omega arith) refl
+decision_short decisions.Hazard = short_word _ (omega arith) (omega arith) refl

@@ -13,6 +13,7 @@ use Rattle.wire_values.specs.declared.plain.Plain.TheVariants as plains
 use Rattle.wire_requests.specs.Limits.{IsCase}
 use Rattle.wire_requests.specs.Spellings.{plain_of}
 use Rattle.wire_replies.specs.Outcomes.{outcome_text}
+use Rattle.kept_cases.specs.Entries.{IsList}
 
 -- a late notice is late by a day at least
 abbrev pub IsTimeliness : Timeliness → Type 0
@@ -44,7 +45,7 @@ IsFormCame n _ = ⊥
 
 abbrev pub IsDetermined : ℕ → Outcome → Type 0
 IsDetermined n (outcomes.Determined number decision last issued deadline effective expiry list) =
-    (number ≡ n) × (last < 2 ^ 64) × IsLimited issued × IsAnyLimited deadline × IsAnyLimited effective × IsAnyLimited expiry
+    (number ≡ n) × (last < 2 ^ 64) × IsLimited issued × IsAnyLimited deadline × IsAnyLimited effective × IsAnyLimited expiry × IsList list
 IsDetermined n _ = ⊥
 
 abbrev pub IsDisposed : ℕ → Outcome → Type 0

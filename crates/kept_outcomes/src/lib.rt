@@ -4,10 +4,18 @@
 #![tactic(auto)]
 
 mod course;
+mod determination;
 mod filed;
+mod laws;
+mod list;
 mod number;
 mod only;
 mod parts;
+mod read;
+
+pub use laws::one_outcome;
+pub use number::read_number;
+pub use read::read_outcome;
 
 #[cfg(test)]
 mod tests;

@@ -1,0 +1,17 @@
+//! Laws of the texts of outcomes.
+
+ghost use Rattle.std.specs.Prelude.{◌≡◌};
+ghost use Rattle.case_values.specs.declared.act.Act.{Act};
+ghost use Rattle.case_records.specs.declared.outcome.Outcome.{Outcome};
+ghost use Rattle.wire_requests.specs.Limits.{IsValidAct};
+ghost use Rattle.wire_replies.specs.Outcomes.{outcome_text};
+ghost use Rattle.kept_outcomes.specs.Kinds.{CanLeadTo};
+
+use kept_cases::one_filing_row;
+
+/// No two outcomes to which one act can lead have the same text. So what is read back is what was written.
+pub fn one_outcome()
+    ensures { (act : Act) (a b : Outcome) → IsValidAct act → CanLeadTo act a → CanLeadTo act b → outcome_text a ≡ outcome_text b → a ≡ b }
+{
+    one_filing_row();
+}
