@@ -1,17 +1,32 @@
 //! The rows of accepted requests.
 
-ghost use Rattle.std.specs.Prelude.{◌≡◌, ◌++◌, OnOk, OnErr, string_bytes};
+ghost use Rattle.std.specs.Prelude.{◌≡◌, ◌↔◌, ◌++◌, IsTrue, IfSome, IfNone, IfOk, OnOk, OnErr, string_bytes};
 ghost use Rattle.grid_exact.specs.Texts.{Extends};
 ghost use Rattle.wire_replies.specs.Outcomes.{outcome_text};
-ghost use Rattle.kept_receipts.specs.Receipts.{receipt_key, receipt_row};
+ghost use Rattle.kept_receipts.specs.Receipts.{receipt_key, receipt_row, IsReceiptRow};
+ghost use Rattle.kept_receipts.specs.declared.receipt.ReceiptRow.{ReceiptRow as SomeRow};
 
+use crate::change::read_change;
+use crate::cut::lines_of;
 use case_records::Outcome;
 use grid_exact::NoMemory;
+use kept_outcomes::{read_number, read_outcome};
 use std::alloc::Global;
 use wire_changes::write_request;
 use wire_replies::{append_number, append_outcome};
 use wire_requests::Change;
 use wire_values::{FieldValue, append_text};
+
+/// An accepted request.
+#[derive(Drop)]
+pub struct ReceiptRow {
+    /// The number of its entry.
+    pub number: u64,
+    /// The request.
+    pub change: Change,
+    /// What it led to.
+    pub outcome: Outcome,
+}
 
 /// Appends the key of an accepted request's row.
 ///
@@ -64,4 +79,48 @@ pub fn append_receipt_row(
     append_text(text, request.as_str())?;
     append_text(text, "\n")?;
     append_told(alloc, text, outcome)
+}
+
+// Whether a key is that of a request.
+fn is_key(alloc: Global, key: &[u8], change: &Change) -> Result<bool, NoMemory>
+    ensures { IfOk result (λ b. IsTrue b ↔ key.now ≡ receipt_key change.now.caller change.now.key) }
+{
+    let mut text = String::new(alloc);
+    append_receipt_key(&mut text, change)?;
+    Ok(text.as_str().as_bytes() == key)
+}
+
+/// The accepted request whose row has this key and text; `None` exactly where there is none.
+///
+/// # Errors
+///
+/// `NoMemory` where memory was refused.
+pub fn read_receipt_row(
+    alloc: Global,
+    key: &[u8],
+    row: &[u8],
+) -> Result<Option<ReceiptRow>, NoMemory>
+    ensures some { IfOk result (λ o. IfSome o (λ v. IsReceiptRow key.now row.now v)) }
+    ensures none { IfOk result (λ o. IfNone o ((v : SomeRow) → IsReceiptRow key.now row.now v → ⊥)) }
+{
+    let Some(lines) = lines_of(row) else {
+        return Ok(None);
+    };
+    let Some(number) = read_number(lines.number) else {
+        return Ok(None);
+    };
+    let Some(change) = read_change(alloc, lines.request)? else {
+        return Ok(None);
+    };
+    if !is_key(alloc, key, &change)? {
+        return Ok(None);
+    }
+    let Some(outcome) = read_outcome(alloc, &change.act, lines.outcome)? else {
+        return Ok(None);
+    };
+    Ok(Some(ReceiptRow {
+        number,
+        change,
+        outcome,
+    }))
 }

@@ -1,0 +1,4 @@
+mod CutFacts
+mod Choices
+mod ChangeFacts
+mod RowFacts
