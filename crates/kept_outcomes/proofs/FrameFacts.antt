@@ -18,7 +18,7 @@ use Rattle.case_records.specs.declared.case.KeptCase.{KeptCase}
 use Rattle.wire_values.specs.Commas.{with_commas}
 use Rattle.wire_replies.specs.Entries.{entry_text, entries_text, list_text}
 use Rattle.kept_cases.specs.Entries.{IsList, list_fields}
-use Rattle.kept_cases.specs.Filings.{filing_row, IsJudged, IsPlainCase, IsFilingRow}
+use Rattle.kept_cases.specs.Filings.{filing_row, IsPlainCase, IsFilingRow}
 use Rattle.kept_cases.specs.declared.filing.FilingRow.{FilingRow}
 use Rattle.kept_outcomes.specs.Fields.{frame_text, framed}
 

@@ -1,5 +1,5 @@
 -- Outcomes and their fields.
-use Rattle.std.proofs.Common.{arith, ℕ, ◌≡◌, ◌≢◌, ◌==◌, ◌≤◌, ◌<◌, ◌^◌, List, [], ◌∷◌, ◌++◌, Bool, true, false, if◌then◌else◌, Option, Some, None, All, codes, refl, ap, sym, subst, ◌∙◌}
+use Rattle.std.proofs.Common.{arith, ℕ, ◌≡◌, ◌≢◌, ◌==◌, ◌<◌, ◌^◌, List, [], ◌∷◌, ◌++◌, Bool, true, false, if◌then◌else◌, Option, Some, None, All, codes, refl, ap, sym, subst, ◌∙◌}
 use Rattle.std.specs.Fmt.{decimal}
 use Rattle.std.proofs.lemmas.List.Elements.{All-nil, All-cons, All-append}
 use Rattle.jiff_core.specs.declared.civil.date.Date.{Date}

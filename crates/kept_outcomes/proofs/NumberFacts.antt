@@ -1,5 +1,5 @@
 -- Numbers are texts of digits.
-use Rattle.std.proofs.Common.{arith, ℕ, ◌≡◌, ◌==◌, ◌≤◌, ◌<◌, ◌^◌, true, false, List, [], ◌∷◌, All, subst, sym}
+use Rattle.std.proofs.Common.{arith, ℕ, ◌≡◌, ◌==◌, ◌≤◌, ◌<◌, ◌^◌, false, List, [], ◌∷◌, All, subst, sym}
 use Rattle.std.specs.Fmt.{decimal}
 use Rattle.std.specs.Str.{IsUtf8}
 use Rattle.std.specs.Str.Parse.{AllDigits}

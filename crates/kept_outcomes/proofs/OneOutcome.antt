@@ -1,14 +1,11 @@
 -- No two outcomes of an act have the same text.
-use Rattle.std.proofs.Common.{arith, ℕ, ◌≡◌, ◌≢◌, ◌<◌, ◌≤◌, ◌==◌, ◌^◌, List, ◌∷◌, ◌++◌, Bool, true, false, Option, Some, None, inl, inr, if◌then◌else◌, take, drop, get_or, codes, refl, ap, sym, subst, ◌∙◌}
+use Rattle.std.proofs.Common.{arith, ℕ, ◌≡◌, ◌≢◌, ◌<◌, ◌≤◌, ◌==◌, ◌^◌, List, ◌++◌, Bool, true, false, Option, Some, None, inl, inr, if◌then◌else◌, take, drop, get_or, codes, refl, ap, sym, ◌∙◌}
 use Rattle.std.specs.Fmt.{decimal}
 use Rattle.std.specs.Str.{bytes_eq}
 use Rattle.std.proofs.lemmas.Bool.{cases_lt}
 use Rattle.std.proofs.lemmas.Bool.Decides.{nat_tests}
 use Rattle.std.proofs.lemmas.Fmt.{decimal_injective}
 use Rattle.std.proofs.lemmas.List.{append_cancel_left}
-use Rattle.jiff_core.specs.declared.civil.date.Date.{Date}
-use Rattle.airfield_findings.specs.declared.finding.Finding.{Finding}
-use Rattle.determination_dates.specs.Days.{IsLimited}
 use Rattle.determination_dates.specs.declared.determination.Decision.{Decision}
 use Rattle.determination_dates.specs.declared.determination.Decision.TheVariants as decisions
 use Rattle.determination_dates.specs.declared.timely.Timeliness.{Timeliness}
@@ -27,10 +24,10 @@ use Rattle.wire_requests.specs.Limits.{IsCase, IsValidAct}
 use Rattle.wire_replies.specs.States.{date_word}
 use Rattle.wire_replies.specs.Entries.{list_text}
 use Rattle.wire_replies.specs.Outcomes.{late_text, lateness_text, timeliness_text, fcc_text, presumption_text, form_text, disposed_text, extended_text, fcc_act_text, determined_text, outcome_text}
-use Rattle.kept_outcomes.specs.Kinds.{IsTimeliness, AreDays, HasDays, IsFiled, IsFormCame, IsDetermined, IsDisposed, IsExtended, IsFccAct, CanLeadTo}
+use Rattle.kept_outcomes.specs.Kinds.{IsTimeliness, AreDays, IsFiled, IsFormCame, IsDetermined, IsDisposed, IsExtended, IsFccAct, CanLeadTo}
 use Rattle.kept_outcomes.specs.Fields.{issued_fields}
 use Rattle.kept_outcomes.proofs.KindFacts.{days_limited, filed_parts, form_parts, disposed_parts, extended_parts, fcc_parts}
-use Rattle.kept_outcomes.proofs.DeterminedFacts.{AreIssued, list_parts, text_same, determined_parts}
+use Rattle.kept_outcomes.proofs.DeterminedFacts.{AreIssued, text_same, determined_parts}
 use Rattle.kept_outcomes.proofs.FrameFacts.{OneRow, one_list}
 
 -- ---- values of single fields

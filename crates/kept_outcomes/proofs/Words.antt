@@ -1,5 +1,5 @@
 -- Words of outcomes.
-use Rattle.std.proofs.Common.{arith, ℕ, ◌≡◌, ◌≢◌, ◌≤◌, ◌<◌, ◌^◌, List, ◌++◌, Bool, true, false, Option, Some, None, codes, refl, ap, ◌∙◌}
+use Rattle.std.proofs.Common.{arith, ℕ, ◌≡◌, ◌≢◌, ◌≤◌, ◌<◌, ◌^◌, List, ◌++◌, Bool, true, false, Option, Some, None, codes, refl}
 use Rattle.jiff_core.specs.declared.civil.date.Date.{Date}
 use Rattle.determination_dates.specs.Days.{IsLimited}
 use Rattle.determination_dates.specs.Text.{date_text}

@@ -143,11 +143,7 @@ fn take_determined(
 /// # Errors
 ///
 /// `NoMemory` where memory was refused.
-pub(crate) fn determined(
-    alloc: Global,
-    text: &[u8],
-    case: u32,
-) -> Result<Option<Outcome>, NoMemory>
+pub(crate) fn determined(alloc: Global, text: &[u8], case: u32) -> Result<Option<Outcome>, NoMemory>
     ensures { IfOk result (λ o. Reads (IsDetermined case) text.now o) }
 {
     take_determined(alloc, &mut Parts::new(text, b','), case)

@@ -26,7 +26,11 @@ fn tells(alloc: Global, text: &[u8], outcome: &Outcome) -> Result<bool, NoMemory
 /// # Errors
 ///
 /// `NoMemory` where memory was refused.
-pub(crate) fn only(alloc: Global, text: &[u8], outcome: Outcome) -> Result<Option<Outcome>, NoMemory>
+pub(crate) fn only(
+    alloc: Global,
+    text: &[u8],
+    outcome: Outcome,
+) -> Result<Option<Outcome>, NoMemory>
     ensures { IfOk result (λ o. Reads (λ v. v ≡ outcome) text.now o) }
 {
     if tells(alloc, text, &outcome)? {

@@ -15,7 +15,6 @@ use itoa::Buffer;
 use jiff::civil::Date;
 use kept_rows::Parts;
 
-
 /// Takes the next two parts, where they are the word of a kind and the number of a case.
 pub(crate) fn take_head(parts: &mut Parts<'_>, word: &[u8], case: u32) -> Option<()>
     ensures took { IfSome result (λ _. parts.old ≡ word.now ∷ decimal case ∷ parts.new) }

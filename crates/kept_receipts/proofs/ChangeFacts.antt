@@ -31,7 +31,6 @@ one_change c d h k e = one_recorded (joined (change_spelling c)) c d (canonical_
 
 -- ---- a record is one line
 
-
 more_line : (fields : List (List ℕ)) → All IsShortField fields → IsLine (with_commas fields)
 more_line [] h = All-nil (λ b. (b == 10) ≡ false)
 more_line (f ∷ fs) h =
