@@ -1,5 +1,5 @@
 -- Requests and their records.
-use Rattle.std.proofs.Common.{arith, ℕ, ◌≡◌, ◌≢◌, ◌==◌, false, List, [], ◌∷◌, ◌++◌, All, refl, sym, ◌∙◌}
+use Rattle.std.proofs.Common.{arith, ℕ, ◌≡◌, ◌==◌, false, List, [], ◌∷◌, ◌++◌, All, refl}
 use Rattle.std.proofs.lemmas.List.Elements.{All-nil, All-cons, All-append, All-head, All-tail}
 use Rattle.wire_values.specs.Commas.{joined, with_commas}
 use Rattle.wire_values.specs.Plainness.{IsShortField}

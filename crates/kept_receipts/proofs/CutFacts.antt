@@ -1,5 +1,5 @@
 -- Texts, cut at their first line feed.
-use Rattle.std.proofs.Common.{arith, ℕ, Bool, ◌+◌, ◌<◌, ◌≤◌, ◌≡◌, ◌≢◌, ◌==◌, true, false, Option, Some, None, IfSome, IfNone, List, [], ◌∷◌, ◌++◌, take, drop, length, get_or, get_or-take, length-take, All, subst, refl, sym, ap, ◌∙◌}
+use Rattle.std.proofs.Common.{arith, ℕ, Bool, ◌+◌, ◌<◌, ◌≡◌, ◌==◌, true, false, Option, Some, None, IfSome, IfNone, List, [], ◌∷◌, ◌++◌, take, drop, length, get_or, get_or-take, length-take, subst, refl, sym, ap, ◌∙◌}
 use Rattle.std.specs.List.{slice_split}
 use Rattle.std.proofs.lemmas.List.{append_cancel_left, take-append-drop, drop_more}
 use Rattle.std.proofs.lemmas.List.Elements.{All-head, All-tail, All-from_get_or}

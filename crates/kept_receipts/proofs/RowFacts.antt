@@ -1,5 +1,5 @@
 -- The lines of rows.
-use Rattle.std.proofs.Common.{arith, ℕ, ◌≡◌, ◌≢◌, ◌^◌, ◌<◌, Option, None, List, ◌∷◌, ◌++◌, ap, sym, subst, ◌∙◌}
+use Rattle.std.proofs.Common.{arith, ℕ, ◌≡◌, ◌≢◌, ◌^◌, ◌<◌, Option, None, List, ◌∷◌, ◌++◌, sym, subst, ◌∙◌}
 use Rattle.std.specs.Fmt.{decimal}
 use Rattle.std.proofs.lemmas.Fmt.{decimal_injective}
 use Rattle.case_values.specs.declared.act.Act.{Act}

@@ -1,4 +1,4 @@
-use Rattle.std.proofs.Common.{rules, ◌≡◌, ap, sym, ◌∙◌}
+use Rattle.std.proofs.Common.{rules, ap, sym, ◌∙◌}
 use Rattle.wire_values.specs.Commas.{joined}
 use Rattle.wire_requests.specs.Changes.{Asked}
 use Rattle.wire_requests.specs.Requests.{IsRecord}
