@@ -1,6 +1,6 @@
 //! Lists of findings, read.
 //!
-//! `kept_cases` reads a list in the row of a case alone. So the row of a case that is always the same is written before the list.
+//! `kept_cases` reads a list in the row of a case alone, so a list is read behind the fields of a case that is always the same.
 
 ghost use Rattle.std.specs.Prelude.{◌≡◌, ◌≢◌, ◌↔◌, ◌++◌, List, IfSome, IfNone, IfOk, IsTrue};
 ghost use Rattle.airfield_findings.specs.declared.finding.Finding.{Finding as SomeFinding};
@@ -17,7 +17,7 @@ use std::alloc::Global;
 use wire_replies::append_list;
 use wire_values::append_text;
 
-// The row of a case before its list.
+// The row of that case before its list.
 fn frame_text() -> &'static str
     ensures { result.now ≡ framing_text }
 {

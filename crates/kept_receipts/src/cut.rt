@@ -31,6 +31,7 @@ fn first_feed(text: &[u8]) -> Option<usize>
     memchr(b'\n', text)
 }
 
+// The first line of a text, where a line feed ends it.
 #[tactic(auto, using(crate::proofs::CutFacts::no_line))]
 fn first_line(text: &[u8]) -> Option<Cut<'_>>
     ensures cut { IfSome result (λ c. text.now ≡ c.line.now ++ 10 ∷ c.behind.now) }
