@@ -5,7 +5,8 @@ use Rattle.desk_rules.specs.States.{State}
 use Rattle.desk_rules.specs.Machine.{Answer as Decided, after}
 use Rattle.filing_desk.specs.declared.answer.Answer.{Answer}
 use Rattle.filing_desk.specs.declared.answer.Answer.TheVariants as answers
-use Rattle.filing_desk.specs.Clerks.{Clerking, Advances}
+use Rattle.filing_desk.specs.Clerks.{Clerking, Advances, HasCause}
+use Rattle.filing_desk.proofs.Clerks.{never_rose}
 use Rattle.desk_generator.specs.Desks.{Course, each}
 
 -- ---- a loop of steps
@@ -23,9 +24,9 @@ each_last step n k c = let e : n - n ≡ 0 = omega arith in ap (λ m. each step 
 
 -- ---- one request
 
--- the desk is as the rules of the desk say, unless memory was wanting
-pub went_on : (d : Decided) (k l : Clerking) (a : Answer) → Advances d k l a → a ≢ answers.Refused refusals.NoMemory → l.state ≡ after k.state d
-went_on d k l (answers.Accepted number outcome) h n = ap (λ (c : Clerking). c.state) h.1
-went_on d k l (answers.Refused why) h n =
-    let no = h.0 (λ e. n (ap answers.Refused e)) in
-    ap (λ (c : Clerking). c.state) h.1 ∙ sym (ap (after k.state) no)
+-- the desk is as the rules of the desk say, unless memory was wanting, where its keeper never fails
+pub went_on : (d : Decided) (k l : Clerking) (a : Answer) → Advances d k l a → HasCause k l a → l.faults ≡ 0 → a ≢ answers.Refused refusals.NoMemory → l.state ≡ after k.state d
+went_on d k l (answers.Accepted number outcome) h cause none n = h.1.0
+went_on d k l (answers.Refused why) h cause none n =
+    let no = h.0 (λ e. n (ap answers.Refused e)) (λ e. never_rose k.faults l.faults (cause.failed e) none) in
+    h.1.0 ∙ sym (ap (after k.state) no)

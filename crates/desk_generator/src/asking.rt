@@ -18,6 +18,7 @@ use case_values::{Act, Impact};
 use filing_desk::{Answer, Clerk};
 use grid_exact::{NoMemory, Steps};
 use oe_findings::Sky;
+use placed_keeper::NoKeeper;
 use std::alloc::Global;
 use std::marker::{Brand, Model};
 use std::sync::ledger::{Blank, Ledger};
@@ -29,7 +30,7 @@ pub(crate) struct Generator {
     pub(crate) alloc: Global,
     pub(crate) draws: Draws,
     pub(crate) asked: u32,
-    pub(crate) clerk: Clerk,
+    pub(crate) clerk: Clerk<NoKeeper>,
 }
 
 impl Model for Generator {
@@ -79,10 +80,12 @@ fn is_wanting(answer: &Answer) -> bool
 
 /// Makes a request to the clerk.
 #[tactic(auto, using(crate::proofs::CourseFacts::went_on))]
-fn make(alloc: Global, clerk: &mut Clerk, c: &Change) -> Result<(), NoMemory>
+fn make(alloc: Global, clerk: &mut Clerk<NoKeeper>, c: &Change) -> Result<(), NoMemory>
     ensures { OnOk result (clerk.new.state ≡ after clerk.old.state (decision clerk.old.state c.now)) }
 {
     let answer = clerk.apply(alloc, c);
+    // a keeper of nothing never fails
+    clerk.keeper();
     if is_wanting(&answer) {
         return Err(NoMemory);
     }

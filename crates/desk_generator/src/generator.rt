@@ -9,6 +9,7 @@ use crate::asking::Generator;
 use crate::draws::Draws;
 use filing_desk::Clerk;
 use grid_exact::NoMemory;
+use placed_keeper::NoKeeper;
 use std::alloc::Global;
 
 /// There are as many airports as cases, but at most so many.
@@ -93,7 +94,7 @@ impl Generator {
 /// # Errors
 ///
 /// `NoMemory` where memory was refused.
-pub fn generated(alloc: Global, seed: u64, count: u32) -> Result<Clerk, NoMemory>
+pub fn generated(alloc: Global, seed: u64, count: u32) -> Result<Clerk<NoKeeper>, NoMemory>
     requires { count ≤ COUNT_LIMIT }
     ensures { IfOk result (λ c. c.state ≡ generated_state seed count) }
 {
@@ -102,7 +103,7 @@ pub fn generated(alloc: Global, seed: u64, count: u32) -> Result<Clerk, NoMemory
         alloc,
         draws: Draws::new(seed),
         asked: 0,
-        clerk: Clerk::empty(alloc),
+        clerk: Clerk::unkept(alloc),
     };
     generator.ask(first_day())?;
     generator.register_all(airports)?;

@@ -4,6 +4,7 @@ ghost use Rattle.std.specs.Prelude.{◌≡◌, ◌-◌, ◌^◌, length, min};
 ghost use Rattle.desk_generator.specs.Tallies.{tally_of};
 
 use filing_desk::Clerk;
+use placed_keeper::NoKeeper;
 
 /// How much a desk holds.
 #[derive(Clone, Copy, Debug, PartialEq, Eq)]
@@ -19,7 +20,7 @@ pub struct Tally {
 }
 
 /// How many cases there are; no desk has as many as the type tells.
-fn count_cases(clerk: &Clerk) -> u32
+fn count_cases(clerk: &Clerk<NoKeeper>) -> u32
     ensures { result ≡ min (length clerk.now.state.cases) (2 ^ 32 - 1) }
 {
     let mut count: u32 = 0;
@@ -34,7 +35,7 @@ fn count_cases(clerk: &Clerk) -> u32
 
 impl Tally {
     /// How much the desk of this clerk holds.
-    pub fn of(clerk: &Clerk) -> Tally
+    pub fn of(clerk: &Clerk<NoKeeper>) -> Tally
         ensures { result ≡ tally_of clerk.now.state }
     {
         Tally {

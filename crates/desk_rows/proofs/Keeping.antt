@@ -23,7 +23,8 @@ use Rattle.kept_cases.specs.Cases.{case_key}
 use Rattle.kept_cases.specs.Filings.{filing_row}
 use Rattle.kept_receipts.specs.Receipts.{receipt_key}
 use Rattle.desk_rows.specs.Tables.{found_in, AreNamed, AreDays, AreFilings, AreReceipts, entry_row}
-use Rattle.desk_rows.specs.Rows.{AreRows, AreTables, is_bare, is_none_of}
+use Rattle.desk_rows.specs.Rows.{AreRows, AreTables, is_bare}
+use Rattle.determination_dates.specs.Closed.{is_none_of}
 use Rattle.desk_rows.specs.Changes.{changes, step_changes, case_changes, amendment_changes, put_desk, put_receipt, Fits}
 use Rattle.desk_rows.proofs.Named.{IsSame}
 use Rattle.desk_rows.proofs.Kepts.{put_in, put_beside}

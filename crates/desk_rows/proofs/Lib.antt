@@ -7,3 +7,4 @@ pub mod Cases
 pub mod Receipts
 pub mod Keeping
 pub mod OneRows
+pub mod Bare

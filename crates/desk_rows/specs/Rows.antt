@@ -1,6 +1,7 @@
 -- The rows of a state of the desk.
-use Rattle.std.specs.Prelude.{ℕ, ◌≤◌, ◌≡◌, Bool, true, false, not, ◌&&◌, List, [], ◌∷◌, None, is_none}
+use Rattle.std.specs.Prelude.{ℕ, ◌≤◌, ◌≡◌, Bool, not, ◌&&◌, List, None, is_none}
 use Rattle.std.specs.FinMap as map
+use Rattle.determination_dates.specs.Closed.{is_none_of}
 use Rattle.oe_keeper.specs.Kept.{Kept}
 use Rattle.oe_keeper.specs.declared.change.Table.TheVariants as tables
 use Rattle.desk_rules.specs.States.{State}
@@ -14,10 +15,6 @@ pub record AreTables (has_format : Bool) (s : State) (kept : Kept) : Type 0 wher
   pub filings : AreFilings s.cases (found_in kept tables.Filing)
   pub receipts : AreReceipts s.entries (found_in kept tables.Receipt)
   pub only : (t : ℕ) (key : List ℕ) → 5 ≤ t → map.get kept (t, key) ≡ None
-
-abbrev pub is_none_of : {A : Type 0} → List A → Bool
-is_none_of [] = true
-is_none_of (x ∷ xs) = false
 
 -- the desk holds nothing
 abbrev pub is_bare : State → Bool

@@ -3,7 +3,8 @@
 ghost use Rattle.std.specs.Prelude.{◌≡◌};
 ghost use Rattle.oe_keeper.specs.Kept.{Kept, all_changed};
 ghost use Rattle.case_acts.specs.declared.effect.Step.{Step};
-ghost use Rattle.desk_rules.specs.States.{State, stepped, with_entry};
+ghost use Rattle.std.specs.FinMap as maps;
+ghost use Rattle.desk_rules.specs.States.{State, empty, stepped, with_entry};
 ghost use Rattle.desk_rules.specs.declared.entry.Entry.{Entry};
 ghost use Rattle.desk_rows.specs.Rows.{AreRows};
 ghost use Rattle.desk_rows.specs.Changes.{changes, Fits};
@@ -19,4 +20,10 @@ pub fn keeps_rows()
 #[tactic(auto, using(crate::proofs::OneRows::one_rows))]
 pub fn one_rows()
     ensures { (s : State) (a b : Kept) → AreRows s a → AreRows s b → a ≡ b }
+{}
+
+/// A desk that holds nothing has no rows.
+#[tactic(auto, using(crate::proofs::Bare::bare_rows))]
+pub fn no_rows()
+    ensures { AreRows empty maps.empty }
 {}

@@ -8,7 +8,7 @@ mod change_list;
 mod laws;
 
 pub use change_list::ChangeList;
-pub use laws::{keeps_rows, one_rows};
+pub use laws::{keeps_rows, no_rows, one_rows};
 
 #[cfg(test)]
 mod tests;

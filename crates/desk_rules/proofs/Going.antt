@@ -42,7 +42,7 @@ pub record Came (v : Option Refusal) (o : Option Effect) (e : Effect) : Type 0 w
   pub none : v ≡ None
   pub some : o ≡ Some e
 
-came : (v : Option Refusal) (o : Option Effect) (e : Effect) → by_first v o ≡ Ok e → Came v o e
+pub came : (v : Option Refusal) (o : Option Effect) (e : Effect) → by_first v o ≡ Ok e → Came v o e
 came (Some why) o e h = absurd (cc (h))
 came None None e h = absurd (cc (h))
 came None (Some x) e h = record { none = refl; some = (let s : x ≡ e = cc (h) in ap Some s) }
@@ -68,7 +68,7 @@ pub record PutsLife (number : ℕ) (e : Effect) : Type 0 where
   pub life : Life
   pub step : e.step ≡ steps.LifePut number life
 
-some_same : (x e : Effect) → Some x ≡ Some e → x ≡ e
+pub some_same : (x e : Effect) → Some x ≡ Some e → x ≡ e
 some_same x e h = cc (h)
 
 puts_same : (number : ℕ) (x e : Effect) → PutsLife number x → Some x ≡ Some e → PutsLife number e
@@ -82,23 +82,23 @@ puts_mapped : (A : Type 0) (number : ℕ) (o : Option A) (f : A → Effect) (e :
 puts_mapped A number None f e put h = absurd (cc (h))
 puts_mapped A number (Some r) f e put h = puts_same number (f r) e (put r) h
 
-petition_puts : (number : ℕ) (c : KeptCase) (e : Effect) → petitioned number c ≡ Some e → PutsLife number e
+pub petition_puts : (number : ℕ) (c : KeptCase) (e : Effect) → petitioned number c ≡ Some e → PutsLife number e
 petition_puts number c e h = puts_by Record number c.life.determination _ e (λ r k. puts_same number _ e (record { life = _; step = refl }) k) h
 
 settled_puts : (number : ℕ) (affirm : Bool) (today : Date) (c : KeptCase) (e : Effect) (r : Record) → settled number affirm today c r ≡ Some e → PutsLife number e
 settled_puts number true today c e r h = puts_mapped Record number (affirmed_record today r) _ e (λ q. record { life = _; step = refl }) h
 settled_puts number false today c e r h = puts_same number _ e (record { life = _; step = refl }) h
 
-disposal_puts : (number : ℕ) (affirm : Bool) (today : Date) (c : KeptCase) (e : Effect) → disposed number affirm today c ≡ Some e → PutsLife number e
+pub disposal_puts : (number : ℕ) (affirm : Bool) (today : Date) (c : KeptCase) (e : Effect) → disposed number affirm today c ≡ Some e → PutsLife number e
 disposal_puts number affirm today c e h = puts_by Record number c.life.determination _ e (settled_puts number affirm today c e) h
 
 moved_puts : (number : ℕ) (c : KeptCase) (e : Effect) (r : Record) → moved number c r ≡ Some e → PutsLife number e
 moved_puts number c e r h = puts_by Date number (expiry_date r) _ e (λ x k. puts_mapped Date number (last_date r) _ e (λ l. record { life = _; step = refl }) k) h
 
-extension_puts : (number : ℕ) (x : Extension) (c : KeptCase) (e : Effect) → extended number x c ≡ Some e → PutsLife number e
+pub extension_puts : (number : ℕ) (x : Extension) (c : KeptCase) (e : Effect) → extended number x c ≡ Some e → PutsLife number e
 extension_puts number x c e h = puts_by Record number c.life.determination _ e (λ r k. puts_by Record number (extended_record x.months r) _ e (moved_puts number c e) k) h
 
-license_puts : (number : ℕ) (completion : Option Date) (today : Date) (c : KeptCase) (e : Effect) → licensed number completion today c ≡ Some e → PutsLife number e
+pub license_puts : (number : ℕ) (completion : Option Date) (today : Date) (c : KeptCase) (e : Effect) → licensed number completion today c ≡ Some e → PutsLife number e
 license_puts number completion today c e h = puts_by Record number c.life.determination _ e (λ r k. puts_same number _ e (record { life = _; step = refl }) k) h
 
 -- ---- of acts on a case
@@ -126,7 +126,7 @@ standing_act s number rest o b why today there e day at stands puts h =
 
 -- ---- each act
 
-on_day_shown : (d : Option Date) (act : Date → Result Effect Refusal) (e : Effect) (P : Type 0) → ((today : Date) → d ≡ Some today → act today ≡ Ok e → P) → on_day d act ≡ Ok e → P
+pub on_day_shown : (d : Option Date) (act : Date → Result Effect Refusal) (e : Effect) (P : Type 0) → ((today : Date) → d ≡ Some today → act today ≡ Ok e → P) → on_day d act ≡ Ok e → P
 on_day_shown None act e P f h = absurd (cc (h))
 on_day_shown (Some today) act e P f h = f today refl h
 
@@ -134,7 +134,7 @@ on_kept_shown : (o : Option KeptCase) (act : KeptCase → Result Effect Refusal)
 on_kept_shown None act e P f h = absurd (cc (h))
 on_kept_shown (Some c) act e P f h = f c refl h
 
-on_case_shown : (s : State) (number : ℕ) (act : Date → KeptCase → Result Effect Refusal) (e : Effect) (P : Type 0) → ((today : Date) (c : KeptCase) → s.day ≡ Some today → case_at s.cases number ≡ Some c → act today c ≡ Ok e → P)
+pub on_case_shown : (s : State) (number : ℕ) (act : Date → KeptCase → Result Effect Refusal) (e : Effect) (P : Type 0) → ((today : Date) (c : KeptCase) → s.day ≡ Some today → case_at s.cases number ≡ Some c → act today c ≡ Ok e → P)
     → on_day s.day (λ today. on_kept (case_at s.cases number) (act today)) ≡ Ok e → P
 on_case_shown s number act e P f h = on_day_shown s.day _ e P (λ today day k. on_kept_shown (case_at s.cases number) (act today) e P (λ c at m. f today c day at m) k) h
 
@@ -149,7 +149,7 @@ day_goes s (Some kept) d x e is h = not_before (int_lt (epoch_day d) (epoch_day 
 abbrev come : Effect → Result Effect Refusal
 come x = Ok x
 
-ok_same : (x e : Effect) → come x ≡ come e → x ≡ e
+pub ok_same : (x e : Effect) → come x ≡ come e → x ≡ e
 ok_same x e h = cc (h)
 
 goes_as : (s : State) (x e : Effect) → Goes s x.step → x ≡ e → Goes s e.step

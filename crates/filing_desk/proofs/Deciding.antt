@@ -1,5 +1,5 @@
 -- What was done is what is decided.
-use Rattle.std.proofs.Common.{◌≡◌, ◌≢◌, refl, sym, ap, ◌∙◌, subst, Bool, true, false, cond, List, [], ◌∷◌, ◌++◌, Option, Some, None, Result, Ok, Err}
+use Rattle.std.proofs.Common.{◌≡◌, ◌≢◌, refl, sym, ap, ◌∙◌, subst, ℕ, Bool, true, false, cond, List, [], ◌∷◌, ◌++◌, Option, Some, None, Result, Ok, Err}
 use Rattle.wire_requests.specs.Changes.{Asked}
 use Rattle.case_values.specs.contracts.act.ActPartialEq.TheImpl as act
 use Rattle.case_records.specs.declared.refusal.Refusal.{Refusal}
@@ -17,7 +17,7 @@ use Rattle.filing_desk.specs.Clerks.{Clerking, IsReplay, Advances}
 
 -- another request under a key, and the same one again
 pub reused : (s : State) (e : Entry) (q : Asked) → act.ghosts.eq e.change.act q.act ≡ false → Answers (repeated e q) s s (answers.Refused (refusals.KeyReused e.number))
-reused s e q other = (λ _. ap (λ b. cond b (Kept e) (No (refusals.KeyReused e.number))) other, refl)
+reused s e q other = (λ _ _. ap (λ b. cond b (Kept e) (No (refusals.KeyReused e.number))) other, refl)
 
 pub told_again : (s : State) (e : Entry) (q : Asked) → act.ghosts.eq e.change.act q.act ≡ true → Answers (repeated e q) s s (answers.Accepted e.number e.outcome)
 told_again s e q same = subst (λ d. Answers d s s (answers.Accepted e.number e.outcome)) (sym (ap (λ b. cond b (Kept e) (No (refusals.KeyReused e.number))) same)) (refl, refl)
@@ -35,7 +35,7 @@ new_as s q x new is = ap (λ v. decide_by v s q (basis_of s (last_number s) None
 -- a new one that is refused
 pub refused_as : (s : State) (q : Asked) (why : Refusal) → entry_of q.caller q.key s.entries ≡ None
     → (why ≢ refusals.NoMemory → acted s (basis_of s (last_number s) None q.act) q.act ≡ Err why) → Answers (decision s q) s s (answers.Refused why)
-refused_as s q why new is = (λ other. new_as s q (Err why) new (is other), refl)
+refused_as s q why new is = (λ other kept. new_as s q (Err why) new (is other), refl)
 
 -- and one that is accepted where the rules of the register allow that
 pub accepted_as : (s t : State) (q : Asked) (e : Effect) (r : Answer) → entry_of q.caller q.key s.entries ≡ None → acted s (basis_of s (last_number s) None q.act) q.act ≡ Ok e
@@ -49,17 +49,16 @@ entries_after s (Kept e) = sym (append_nothing s.entries)
 entries_after s (No why) = sym (append_nothing s.entries)
 entries_after s (Done e step) = ap (λ (es : List Entry). es ++ e ∷ []) (same_entries step s)
 
-abbrev seen : State → Clerking
-seen s = record { state = s; accepted = s.entries }
+abbrev seen : State → ℕ → Clerking
+seen s faults = record { state = s; accepted = s.entries; faults = faults }
 
-pub goes_on : (s t : State) (q : Asked) (r : Answer) → IsReplay empty (seen s) → Answers (decision s q) s t r → IsReplay empty (seen t)
-goes_on s t q (answers.Accepted number outcome) is h =
+pub goes_on : (s t : State) (m n : ℕ) (q : Asked) (r : Answer) → IsReplay empty (seen s m) → Answers (decision s q) s t r → IsReplay empty (seen t n)
+goes_on s t m n q (answers.Accepted number outcome) is h =
     let next : after s (decision s q) ≡ replay empty (after s (decision s q)).entries =
     replayed_always empty s s.entries (last_number s) q None is ∙ ap (replay empty) (sym (entries_after s (decision s q))) in
-    subst (λ u. IsReplay empty (seen u)) (sym h.1) next
-goes_on s t q (answers.Refused why) is h = subst (λ u. IsReplay empty (seen u)) (sym h.1) is
+    subst (λ u. IsReplay empty (seen u n)) (sym h.1) next
+goes_on s t m n q (answers.Refused why) is h = subst (λ u. IsReplay empty (seen u n)) (sym h.1) is
 
-pub advances : (s t : State) (d : Decided) (r : Answer) → Answers d s t r → Advances d (seen s) (seen t) r
-advances s t d (answers.Accepted number outcome) h =
-    (h.0, λ i. record { state = h.1 i; accepted = (ap (λ (u : State). u.entries) h.1 ∙ entries_after s d) i })
-advances s t d (answers.Refused why) h = (h.0, ap seen h.1)
+pub advances : (s t : State) (m n : ℕ) (d : Decided) (r : Answer) → Answers d s t r → Advances d (seen s m) (seen t n) r
+advances s t m n d (answers.Accepted number outcome) h = (h.0, h.1, ap (λ (u : State). u.entries) h.1 ∙ entries_after s d)
+advances s t m n d (answers.Refused why) h = (h.0, h.1, ap (λ (u : State). u.entries) h.1)

@@ -5,3 +5,7 @@ pub mod Deciding
 pub mod MarksAfter
 pub mod Closing
 pub mod AmendFacts
+pub mod Rooms
+pub mod Handing
+pub mod Causes
+pub mod Clerks

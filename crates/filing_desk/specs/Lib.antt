@@ -3,3 +3,4 @@ pub mod Desks
 pub mod Answers
 pub mod Clerks
 pub mod Marked
+pub mod Handed

@@ -1,19 +1,25 @@
 //! How the desk decides a changing request.
 
-ghost use Rattle.std.specs.Prelude.{◌≡◌, None, Ok};
+ghost use Rattle.std.specs.Prelude.{◌≡◌, ◌≢◌, None, Ok};
 ghost use Rattle.case_values.specs.contracts.act.ActPartialEq.TheImpl as act;
 ghost use Rattle.case_acts.specs.Cases.{IsSoundStep};
 ghost use Rattle.desk_rules.specs.States.{State, entry_of};
 ghost use Rattle.desk_rules.specs.Machine.{decide_new, registered, repeated as repeat};
 ghost use Rattle.desk_rules.specs.Marks.{Goes};
-ghost use Rattle.filing_desk.specs.Answers.{Answers, decision};
+ghost use Rattle.desk_rows.specs.Changes.{HasRoom, IsNamed};
+ghost use Rattle.wire_values.specs.Words.{IsWord};
+ghost use Rattle.filing_desk.specs.Answers.{Answers, IfRefused, decision};
+ghost use Rattle.filing_desk.specs.Handed.{Serves};
 
 use crate::answer::Answer;
+use crate::handing::Accepted;
 use crate::office::Office;
-use case_acts::Effect;
+use airport_register::Amendment;
+use case_acts::{Effect, Step};
 use case_records::Refusal;
 use case_values::Act;
 use desk_rules::Entry;
+use oe_keeper::Keeper;
 use std::alloc::Global;
 use wire_requests::Change;
 
@@ -24,10 +30,44 @@ fn is_same(a: &Act, b: &Act) -> bool
     a == b
 }
 
+/// Shows to a proof that an airfield that is amended has a name.
+fn name_of(step: &Step)
+    ensures { IsNamed step.now }
+{
+    match step {
+        Step::Amended(amendment) => match amendment {
+            Amendment::PutAirport { id, .. } => {
+                id.as_bytes();
+            }
+            Amendment::PutRunway { id, .. } => {
+                id.as_bytes();
+            }
+            Amendment::DropRunway { id, .. } => {
+                id.as_bytes();
+            }
+            Amendment::PutHeliport(heliport) => {
+                heliport.id.as_bytes();
+            }
+            Amendment::Drop(id) => {
+                id.as_bytes();
+            }
+        },
+        _ => {}
+    }
+}
+
+/// Shows to a proof that a caller has a name.
+fn caller_of(c: &Change)
+    ensures { IsWord c.now.caller }
+{
+    c.caller.as_bytes();
+}
+
 /// What a request is answered whose caller's key stands for an entry.
 #[tactic(auto, using(crate::proofs::Deciding::reused, crate::proofs::Deciding::told_again))]
 fn repeated(alloc: Global, entry: &Entry, c: &Change) -> Answer
-    ensures { (s : State) → Answers (repeat entry.now c.now) s s result }
+    ensures answer { (s : State) → Answers (repeat entry.now c.now) s s result }
+    ensures cause { IfRefused result (λ why. why ≢ Refusal.KeeperFault) }
 {
     if !is_same(&entry.change.act, &c.act) {
         return Answer::Refused(Refusal::KeyReused {
@@ -45,11 +85,20 @@ fn repeated(alloc: Global, entry: &Entry, c: &Change) -> Answer
 
 impl Office {
     /// Accepts a request with this effect, where the rules of the register allow that.
-    fn accept(&mut self, alloc: Global, c: &Change, effect: Effect) -> Answer
+    fn accept<K: Keeper>(
+        &mut self,
+        alloc: Global,
+        keeper: &mut K,
+        c: &Change,
+        effect: Effect,
+    ) -> Answer
         requires new { entry_of c.now.caller c.now.key self.old.entries ≡ None }
         requires sound { IsSoundStep effect.step }
+        requires room { HasRoom self.old.cases effect.step }
         requires goes { Goes self.old effect.step }
-        ensures { Answers (decide_new self.old c.now (registered self.old.register (Ok effect))) self.old self.new result }
+        requires loaded { ∥ K.IsLoaded keeper.old ∥₁ }
+        ensures answer { Answers (decide_new self.old c.now (registered self.old.register (Ok effect))) self.old self.new result }
+        ensures serves { Serves K.Tells K.IsLoaded K.faults keeper.old keeper.new self.old self.new result }
     {
         let Some(number) = (self.desk.receipts.len() as u64).checked_add(1) else {
             return Answer::Refused(Refusal::NoMemory);
@@ -62,7 +111,14 @@ impl Office {
             change: *c,
             outcome: effect.outcome,
         };
-        match self.take(alloc, entry, effect.step) {
+        let step = effect.step;
+        name_of(&step);
+        caller_of(c);
+        self.desk.soundness();
+        let Ok(changes) = self.desk.changes(alloc, keeper, &entry, &step) else {
+            return Answer::Refused(Refusal::NoMemory);
+        };
+        match self.take(alloc, keeper, Accepted { entry, changes }, step) {
             Ok(()) => Answer::Accepted {
                 entry: number,
                 outcome,
@@ -73,8 +129,10 @@ impl Office {
 
     /// Decides a changing request.
     #[tactic(auto, using(crate::proofs::Deciding::known_as, crate::proofs::Deciding::refused_as, crate::proofs::Deciding::accepted_as))]
-    pub(crate) fn apply(&mut self, alloc: Global, c: &Change) -> Answer
-        ensures { Answers (decision self.old c.now) self.old self.new result }
+    pub(crate) fn apply<K: Keeper>(&mut self, alloc: Global, keeper: &mut K, c: &Change) -> Answer
+        requires { ∥ K.IsLoaded keeper.old ∥₁ }
+        ensures answer { Answers (decision self.old c.now) self.old self.new result }
+        ensures serves { Serves K.Tells K.IsLoaded K.faults keeper.old keeper.new self.old self.new result }
     {
         match self.desk.entry(c.caller, c.key) {
             Some(entry) => return repeated(alloc, entry, c),
@@ -82,7 +140,7 @@ impl Office {
         }
         c.has_record();
         match self.desk.acted(alloc, &c.act) {
-            Ok(effect) => self.accept(alloc, c, effect),
+            Ok(effect) => self.accept(alloc, keeper, c, effect),
             Err(why) => Answer::Refused(why),
         }
     }

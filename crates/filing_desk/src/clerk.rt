@@ -8,7 +8,8 @@ ghost use Rattle.desk_rules.specs.States.{case_at, last_number};
 ghost use Rattle.desk_rules.specs.Evaluations.{site_of};
 ghost use Rattle.desk_rules.specs.Marks.{case_view, marks};
 ghost use Rattle.filing_desk.specs.Answers.{decision};
-ghost use Rattle.filing_desk.specs.Clerks.{Advances};
+ghost use Rattle.filing_desk.specs.Clerks.{Advances, HasCause};
+ghost use Rattle.filing_desk.specs.Handed.{Told};
 
 use crate::answer::Answer;
 use crate::office::Office;
@@ -16,40 +17,62 @@ use airfields::Filing;
 use case_records::{CaseList, CaseView};
 use grid_exact::{NoMemory, Text};
 use oe_findings::Sky;
+use oe_keeper::Keeper;
 use std::alloc::Global;
 use std::marker::Model;
 use wire_requests::Change;
 
-/// The clerk decides changing requests one after the other, and keeps what it accepted. It is seen as its state and the requests that it
-/// accepted since the opening; the state is always the replay of these from the state at the opening, which holds nothing.
+/// The clerk decides changing requests one after the other, and has a keeper keep what it accepted. It is seen as its state, the requests that
+/// it accepted since the opening and the number of the keeper's faults; the state is always the replay of these requests from the state at the
+/// opening, which holds nothing.
 #[derive(Drop)]
-pub struct Clerk {
+pub struct Clerk<K: Keeper> {
     pub(crate) office: Office,
+    pub(crate) keeper: K,
 }
 
-impl Model for Clerk {
+impl<K: Keeper> Model for Clerk<K> {
     ghost use Rattle.desk_rules.specs.States.{empty};
     ghost use Rattle.filing_desk.specs.Clerks.{Clerking, IsReplay};
+    ghost use Rattle.filing_desk.specs.Handed.{Told};
 
     ghost Value = { Clerking };
 
-    ghost view = { λ c. record { state = c.office; accepted = c.office.entries } };
+    ghost view = { λ c. record { state = c.office; accepted = c.office.entries; faults = K.faults c.keeper } };
 
-    ghost invariant = { λ c. IsReplay empty (record { state = c.office; accepted = c.office.entries }) };
+    ghost invariant = { λ c. IsReplay empty (record { state = c.office; accepted = c.office.entries; faults = K.faults c.keeper }) × Told K.Tells c.keeper c.office × ∥ K.IsLoaded c.keeper ∥₁ };
 }
 
-impl Clerk {
-    /// Decides a changing request on the desk's day. One that was accepted before, of the same caller under the same key, is answered as
-    /// it was then, and changes nothing.
+impl<K: Keeper> Clerk<K> {
+    /// Decides a changing request on the desk's day. What is accepted is kept before it is answered. One that was accepted before, of the same
+    /// caller under the same key, is answered as it was then, and changes nothing.
     ///
     /// # Errors
     ///
-    /// The first rule that the request breaks, in the order of the rules, or `NoMemory` where memory was refused; nothing is changed then.
+    /// The first rule that the request breaks, in the order of the rules, or `KeeperFault` where the keeper failed, or `NoMemory` where memory
+    /// was refused; nothing is changed then, in the desk or in what is kept.
     #[tactic(auto, using(crate::proofs::Deciding::goes_on, crate::proofs::Deciding::advances))]
     pub fn apply(&mut self, alloc: Global, c: &Change) -> Answer
-        ensures { Advances (decision self.old.state c.now) self.old self.new result }
+        ensures answer { Advances (decision self.old.state c.now) self.old self.new result }
+        ensures cause { HasCause self.old self.new result }
     {
-        self.office.apply(alloc, c)
+        self.office.apply(alloc, &mut self.keeper, c)
+    }
+
+    /// The keeper. Where it tells its rows, they are those of the clerk's state.
+    pub fn keeper(&self) -> &K
+        ensures told { Told K.Tells result.now self.now.state }
+        ensures faults { K.faults result.now ≡ self.now.faults }
+    {
+        &self.keeper
+    }
+
+    /// The keeper as it stands; the clerk is given up.
+    pub fn into_keeper(self) -> K
+        ensures told { Told K.Tells result self.state }
+        ensures faults { K.faults result ≡ self.faults }
+    {
+        self.keeper
     }
 
     /// What is told of the case of this number; `None` exactly where there is no such case.

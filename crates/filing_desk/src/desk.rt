@@ -1,8 +1,9 @@
 //! All that the desk holds.
 
-ghost use Rattle.std.specs.Prelude.{◌≡◌, IfSome, option_copied, slice_get};
+ghost use Rattle.std.specs.Prelude.{◌≡◌, ◌≤◌, IfSome, length, option_copied, slice_get};
 ghost use Rattle.case_acts.specs.Cases.{IsSound};
 ghost use Rattle.determination_dates.specs.Days.{IsLimited};
+ghost use Rattle.desk_rules.specs.declared.entry.TheConstants.{MOST_CASES};
 ghost use Rattle.desk_rules.specs.States.{empty, case_at, entry_of};
 ghost use Rattle.desk_rules.specs.Marks.{stands_in};
 ghost use Rattle.filing_desk.specs.Desks.{AreSound};
@@ -30,16 +31,17 @@ pub(crate) struct Desk {
 }
 
 impl Model for Desk {
-    ghost use Rattle.std.specs.Prelude.{IfSome};
+    ghost use Rattle.std.specs.Prelude.{IfSome, ◌≤◌, length};
     ghost use Rattle.determination_dates.specs.Days.{IsLimited};
     ghost use Rattle.desk_rules.specs.States.{State};
+    ghost use Rattle.desk_rules.specs.declared.entry.TheConstants.{MOST_CASES};
     ghost use Rattle.filing_desk.specs.Desks.{AreSound};
 
     ghost Value = { State };
 
     ghost view = { λ d. record { register = d.sky; day = d.today; closed = d.closed; cases = d.cases.items; entries = d.receipts } };
 
-    ghost invariant = { λ d. AreSound d.cases.items × IfSome d.today IsLimited };
+    ghost invariant = { λ d. AreSound d.cases.items × IfSome d.today IsLimited × (length d.cases.items ≤ MOST_CASES) };
 }
 
 impl Desk {
@@ -63,10 +65,11 @@ impl Desk {
         self.cases.get(place)
     }
 
-    /// Shows to a proof that the dates of the cases are within their limit.
-    fn soundness(&self)
+    /// Shows to a proof that the dates of the cases are within their limit, and that their number is.
+    pub(crate) fn soundness(&self)
         ensures cases { AreSound self.now.cases }
         ensures day { IfSome self.now.day IsLimited }
+        ensures most { length self.now.cases ≤ MOST_CASES }
     {
         let _ = &self.cases;
     }

@@ -8,6 +8,7 @@ mod answer;
 mod applying;
 mod clerk;
 mod desk;
+mod handing;
 mod marking;
 mod office;
 mod opening;
@@ -15,8 +16,13 @@ mod receipt_key;
 mod receipts;
 mod register_change;
 mod reports;
+mod rows;
 mod steps;
 mod view;
 
 pub use answer::Answer;
 pub use clerk::Clerk;
+pub use opening::FreshRefusal;
+
+#[cfg(test)]
+mod tests;

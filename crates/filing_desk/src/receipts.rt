@@ -1,17 +1,21 @@
 //! The accepted requests.
 
-ghost use Rattle.std.specs.Prelude.{◌≡◌, ◌∷◌, ◌++◌, [], Some, None, OnOk, OnErr, option_copied, length};
+ghost use Rattle.std.specs.Prelude.{◌≡◌, ◌∷◌, ◌++◌, [], Some, None, IfErr, OnOk, OnErr, option_copied, length};
 ghost use Rattle.std.specs.BTreeMap.{Updates, IsUnchanged};
 ghost use Rattle.determination_dates.specs.Days.{IsLimited};
 ghost use Rattle.determination_dates.specs.Closed.{with_day};
 ghost use Rattle.desk_rules.specs.States.{entry_of};
+ghost use Rattle.filing_desk.specs.Handed.{Handed, IsUnkept};
 ghost use Rattle.filing_desk.specs.contracts.receipt_key.ReceiptKeyOrd.TheImpl as keys;
 
+use crate::handing::{Accepted, hand};
 use crate::receipt_key::ReceiptKey;
+use case_records::Refusal;
 use desk_rules::Entry;
 use determination_dates::ClosedDays;
 use grid_exact::NoMemory;
 use jiff::civil::Date;
+use oe_keeper::Keeper;
 use std::alloc::Global;
 use std::collections::BTreeMap;
 use std::marker::Model;
@@ -97,67 +101,84 @@ impl Receipts {
         }
     }
 
-    /// Puts an entry behind the others.
+    /// Has the keeper make the changes of an accepted request, and puts its entry behind the others.
     ///
     /// # Errors
     ///
-    /// `NoMemory` where memory was refused; the entries are as they were.
-    #[tactic(auto, using(crate::proofs::Indexing::indexed_on))]
-    pub fn keep(&mut self, entry: Entry) -> Result<(), NoMemory>
-        requires new { entry_of entry.change.caller entry.change.key self.old ≡ None }
-        ensures kept { OnOk result (self.new ≡ self.old ++ entry ∷ []) }
+    /// `NoMemory` where memory was refused, `KeeperFault` where the keeper failed; the entries are as they were.
+    #[tactic(auto, using(crate::proofs::Indexing::indexed_on, crate::proofs::Indexing::indexed_off, crate::proofs::Handing::unasked))]
+    pub fn keep<K: Keeper>(
+        &mut self,
+        alloc: Global,
+        keeper: &mut K,
+        accepted: Accepted,
+    ) -> Result<(), Refusal>
+        requires new { entry_of accepted.entry.change.caller accepted.entry.change.key self.old ≡ None }
+        requires loaded { ∥ K.IsLoaded keeper.old ∥₁ }
+        ensures kept { OnOk result (self.new ≡ self.old ++ accepted.entry ∷ []) }
         ensures same { OnErr result (self.new ≡ self.old) }
+        ensures refused { IfErr result IsUnkept }
+        ensures handed { Handed K.Tells K.IsLoaded K.faults keeper.old keeper.new accepted.changes result }
     {
+        let Accepted { entry, changes } = accepted;
         match self.entries.reserve(1) {
             Ok(()) => {}
-            Err(_) => return Err(NoMemory),
+            Err(_) => return Err(Refusal::NoMemory),
         }
         let key = key_of(&entry);
         let place = self.entries.len();
         match remember(&mut self.places, key, place) {
             Ok(()) => {}
-            Err(_) => return Err(NoMemory),
+            Err(_) => return Err(Refusal::NoMemory),
+        }
+        match hand(alloc, keeper, changes.as_slice()) {
+            Ok(()) => {}
+            Err(why) => {
+                let key = key_of(&entry);
+                forget(&mut self.places, key);
+                return Err(why);
+            }
         }
         self.entries.push_reserved(entry);
         Ok(())
     }
 
-    /// Puts an entry behind the others, and closes a day.
+    /// The same for a request that closes a day.
     ///
     /// # Errors
     ///
-    /// `NoMemory` where memory was refused; the entries and the closed days are as they were.
-    #[tactic(auto, using(crate::proofs::Indexing::indexed_on, crate::proofs::Indexing::indexed_off))]
-    pub fn keep_closing(
+    /// `NoMemory` where memory was refused, `KeeperFault` where the keeper failed; the entries and the closed days are as they were.
+    #[tactic(auto, using(crate::proofs::Handing::unasked, crate::proofs::Handing::closed_already))]
+    pub fn keep_closing<K: Keeper>(
         &mut self,
-        entry: Entry,
+        alloc: Global,
+        keeper: &mut K,
+        accepted: Accepted,
         closed: &mut ClosedDays,
         day: Date,
-    ) -> Result<(), NoMemory>
-        requires new { entry_of entry.change.caller entry.change.key self.old ≡ None }
+    ) -> Result<(), Refusal>
+        requires new { entry_of accepted.entry.change.caller accepted.entry.change.key self.old ≡ None }
+        requires loaded { ∥ K.IsLoaded keeper.old ∥₁ }
         requires day { IsLimited day }
-        ensures kept { OnOk result ((self.new ≡ self.old ++ entry ∷ []) × (closed.new ≡ with_day day closed.old)) }
+        ensures kept { OnOk result ((self.new ≡ self.old ++ accepted.entry ∷ []) × (closed.new ≡ with_day day closed.old)) }
         ensures same { OnErr result ((self.new ≡ self.old) × (closed.new ≡ closed.old)) }
+        ensures refused { IfErr result IsUnkept }
+        ensures handed { Handed K.Tells K.IsLoaded K.faults keeper.old keeper.new accepted.changes result }
     {
-        match self.entries.reserve(1) {
-            Ok(()) => {}
-            Err(_) => return Err(NoMemory),
-        }
-        let key = key_of(&entry);
-        let place = self.entries.len();
-        match remember(&mut self.places, key, place) {
-            Ok(()) => {}
-            Err(_) => return Err(NoMemory),
+        closed.order();
+        if closed.has(day) {
+            return self.keep(alloc, keeper, accepted);
         }
         match closed.with(day) {
             Ok(()) => {}
-            Err(_) => {
-                let key = key_of(&entry);
-                forget(&mut self.places, key);
-                return Err(NoMemory);
+            Err(_) => return Err(Refusal::NoMemory),
+        }
+        match self.keep(alloc, keeper, accepted) {
+            Ok(()) => Ok(()),
+            Err(why) => {
+                closed.without(day);
+                Err(why)
             }
         }
-        self.entries.push_reserved(entry);
-        Ok(())
     }
 }

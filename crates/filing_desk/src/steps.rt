@@ -10,29 +10,36 @@ ghost use Rattle.determination_dates.specs.Days.{IsLimited};
 ghost use Rattle.determination_dates.specs.Effects.{IsKept};
 ghost use Rattle.desk_rules.specs.States.{entry_of, with_entry, stepped};
 ghost use Rattle.desk_rules.specs.Machine.{register_rule};
+ghost use Rattle.desk_rows.specs.Changes.{HasRoom};
 ghost use Rattle.filing_desk.specs.Desks.{with_register};
+ghost use Rattle.filing_desk.specs.Handed.{Handed, IsUnkept};
 
 use crate::desk::Desk;
+use crate::handing::Accepted;
 use airport_register::{Amendment, Changed};
 use case_records::{KeptCase, KeptList, Refusal};
-use desk_rules::Entry;
 use determination_dates::Life;
 use jiff::civil::Date;
 use oe_findings::Sky;
+use oe_keeper::Keeper;
 use std::alloc::Global;
 
 impl Desk {
-    /// Puts an entry behind the others.
-    pub(crate) fn keep(&mut self, entry: Entry) -> Result<(), Refusal>
-        requires new { entry_of entry.change.caller entry.change.key self.old.entries ≡ None }
-        ensures kept { OnOk result (self.new ≡ with_entry entry self.old) }
+    /// Has the keeper make the changes of an accepted request, and puts its entry behind the others.
+    pub(crate) fn keep<K: Keeper>(
+        &mut self,
+        alloc: Global,
+        keeper: &mut K,
+        accepted: Accepted,
+    ) -> Result<(), Refusal>
+        requires new { entry_of accepted.entry.change.caller accepted.entry.change.key self.old.entries ≡ None }
+        requires loaded { ∥ K.IsLoaded keeper.old ∥₁ }
+        ensures kept { OnOk result (self.new ≡ with_entry accepted.entry self.old) }
         ensures same { OnErr result (self.new ≡ self.old) }
-        ensures refused { IfErr result (λ why. why ≡ Refusal.NoMemory) }
+        ensures refused { IfErr result IsUnkept }
+        ensures handed { Handed K.Tells K.IsLoaded K.faults keeper.old keeper.new accepted.changes result }
     {
-        match self.receipts.keep(entry) {
-            Ok(()) => Ok(()),
-            Err(_) => Err(Refusal::NoMemory),
-        }
+        self.receipts.keep(alloc, keeper, accepted)
     }
 
     /// The airfields after an amendment, with their surfaces, and what it changes.
@@ -40,11 +47,13 @@ impl Desk {
     /// # Errors
     ///
     /// The first rule of the register that the amendment breaks, or `NoMemory` where memory was refused.
+    #[tactic(auto, using(crate::proofs::Handing::no_fault_of_register))]
     pub(crate) fn amended(&self, alloc: Global, a: &Amendment) -> Result<(Sky, Changed), Refusal>
         ensures allowed { IfOk result (λ _. register_rule self.now.register (steps.Amended a.now) ≡ None) }
         ensures after { IfOk result (λ r. r.0 ≡ after_amendment self.now.register a.now) }
         ensures held { IfOk result (λ r. AreHeld (change_of r.1)) }
         ensures leads { IfOk result (λ r. Leads self.now.register r.0 (change_of r.1)) }
+        ensures cause { IfErr result (λ why. why ≢ Refusal.KeeperFault) }
         ensures refused { IfErr result (λ why. why ≢ Refusal.NoMemory → register_rule self.now.register (steps.Amended a.now) ≡ Some why) }
     {
         self.sky.register().limits();
@@ -58,51 +67,68 @@ impl Desk {
     }
 
     /// Puts the airfields after an amendment, with their surfaces, in the place of those before it.
-    pub(crate) fn put_sky(&mut self, entry: Entry, sky: Sky) -> Result<(), Refusal>
-        requires new { entry_of entry.change.caller entry.change.key self.old.entries ≡ None }
-        ensures done { OnOk result (self.new ≡ with_entry entry (with_register sky self.old)) }
+    pub(crate) fn put_sky<K: Keeper>(
+        &mut self,
+        alloc: Global,
+        keeper: &mut K,
+        accepted: Accepted,
+        sky: Sky,
+    ) -> Result<(), Refusal>
+        requires new { entry_of accepted.entry.change.caller accepted.entry.change.key self.old.entries ≡ None }
+        requires loaded { ∥ K.IsLoaded keeper.old ∥₁ }
+        ensures done { OnOk result (self.new ≡ with_entry accepted.entry (with_register sky self.old)) }
         ensures same { OnErr result (self.new ≡ self.old) }
-        ensures refused { IfErr result (λ why. why ≡ Refusal.NoMemory) }
+        ensures refused { IfErr result IsUnkept }
+        ensures handed { Handed K.Tells K.IsLoaded K.faults keeper.old keeper.new accepted.changes result }
     {
-        match self.receipts.keep(entry) {
-            Ok(()) => {}
-            Err(_) => return Err(Refusal::NoMemory),
-        }
+        self.receipts.keep(alloc, keeper, accepted)?;
         self.sky = sky;
         Ok(())
     }
 
     /// Closes a day.
-    pub(crate) fn close(&mut self, entry: Entry, day: Date) -> Result<(), Refusal>
-        requires new { entry_of entry.change.caller entry.change.key self.old.entries ≡ None }
+    pub(crate) fn close<K: Keeper>(
+        &mut self,
+        alloc: Global,
+        keeper: &mut K,
+        accepted: Accepted,
+        day: Date,
+    ) -> Result<(), Refusal>
+        requires new { entry_of accepted.entry.change.caller accepted.entry.change.key self.old.entries ≡ None }
+        requires loaded { ∥ K.IsLoaded keeper.old ∥₁ }
         requires day { IsLimited day }
-        ensures done { OnOk result (self.new ≡ with_entry entry (stepped (steps.DayClosed day) self.old)) }
+        ensures done { OnOk result (self.new ≡ with_entry accepted.entry (stepped (steps.DayClosed day) self.old)) }
         ensures same { OnErr result (self.new ≡ self.old) }
-        ensures refused { IfErr result (λ why. why ≡ Refusal.NoMemory) }
+        ensures refused { IfErr result IsUnkept }
+        ensures handed { Handed K.Tells K.IsLoaded K.faults keeper.old keeper.new accepted.changes result }
     {
-        match self.receipts.keep_closing(entry, &mut self.closed, day) {
-            Ok(()) => Ok(()),
-            Err(_) => Err(Refusal::NoMemory),
-        }
+        self.receipts
+            .keep_closing(alloc, keeper, accepted, &mut self.closed, day)
     }
 
     /// Opens a case behind the others.
-    #[tactic(auto, using(crate::proofs::Sound::sound_more))]
-    pub(crate) fn open(&mut self, entry: Entry, case: KeptCase) -> Result<(), Refusal>
-        requires new { entry_of entry.change.caller entry.change.key self.old.entries ≡ None }
+    #[tactic(auto, using(crate::proofs::Sound::sound_more, crate::proofs::Handing::unasked))]
+    pub(crate) fn open<K: Keeper>(
+        &mut self,
+        alloc: Global,
+        keeper: &mut K,
+        accepted: Accepted,
+        case: KeptCase,
+    ) -> Result<(), Refusal>
+        requires new { entry_of accepted.entry.change.caller accepted.entry.change.key self.old.entries ≡ None }
+        requires loaded { ∥ K.IsLoaded keeper.old ∥₁ }
         requires case { IsSound case }
-        ensures done { OnOk result (self.new ≡ with_entry entry (stepped (steps.CaseFiled case) self.old)) }
+        requires room { HasRoom self.old.cases (steps.CaseFiled case) }
+        ensures done { OnOk result (self.new ≡ with_entry accepted.entry (stepped (steps.CaseFiled case) self.old)) }
         ensures same { OnErr result (self.new ≡ self.old) }
-        ensures refused { IfErr result (λ why. why ≡ Refusal.NoMemory) }
+        ensures refused { IfErr result IsUnkept }
+        ensures handed { Handed K.Tells K.IsLoaded K.faults keeper.old keeper.new accepted.changes result }
     {
         match self.cases.reserve(1) {
             Ok(()) => {}
             Err(_) => return Err(Refusal::NoMemory),
         }
-        match self.receipts.keep(entry) {
-            Ok(()) => {}
-            Err(_) => return Err(Refusal::NoMemory),
-        }
+        self.receipts.keep(alloc, keeper, accepted)?;
         self.cases.push_reserved(case);
         Ok(())
     }

@@ -11,6 +11,7 @@ use grid_exact::{LINE_LIMIT, NoMemory, Steps};
 use oe_findings::Findings;
 use oe_session::Answering;
 use oe_wire::{ReadRefusal, RecordReader, Refusal, Reply, append_reply};
+use placed_keeper::NoKeeper;
 use std::alloc::Global;
 use std::marker::Model;
 use std::sync::ledger::{Blank, Ledger};
@@ -19,7 +20,7 @@ use std::sync::ledger::{Blank, Ledger};
 #[derive(Drop)]
 pub struct Desk<L: Ledger> {
     alloc: Global,
-    clerk: Clerk,
+    clerk: Clerk<NoKeeper>,
     records: RecordReader,
     list: Findings,
     steps: Steps<L>,
@@ -36,7 +37,7 @@ impl<L: Ledger> Model for Desk<L> {
 /// Appends the reply to a line; an empty line has none.
 fn append_answer<L: Ledger>(
     alloc: Global,
-    clerk: &mut Clerk,
+    clerk: &mut Clerk<NoKeeper>,
     records: &mut RecordReader,
     list: &mut Findings,
     steps: &mut Steps<L>,
@@ -76,7 +77,7 @@ impl<L: Ledger> Desk<L> {
     {
         Desk {
             alloc,
-            clerk: Clerk::empty(alloc),
+            clerk: Clerk::unkept(alloc),
             records: RecordReader::new(alloc),
             list: Findings::new(alloc),
             steps: Steps::new(blank),

@@ -15,13 +15,14 @@ use oe_reports::airfield_table;
 use oe_wire::{
     Change, Query, Refusal, Reply, ReportKind, Request, append_airfield, append_found, append_reply,
 };
+use placed_keeper::NoKeeper;
 use std::alloc::Global;
 use std::sync::ledger::Ledger;
 
 /// Appends the reply with the findings of a structure. The list is some list, whose room is used.
 fn append_findings<L: Ledger>(
     alloc: Global,
-    clerk: &Clerk,
+    clerk: &Clerk<NoKeeper>,
     list: &mut Findings,
     steps: &mut Steps<L>,
     filing: &Filing,
@@ -38,7 +39,7 @@ fn append_findings<L: Ledger>(
 
 /// Appends the reply with what the findings of a structure come to.
 fn append_verdict<L: Ledger>(
-    clerk: &Clerk,
+    clerk: &Clerk<NoKeeper>,
     steps: &mut Steps<L>,
     filing: &Filing,
     text: &mut String,
@@ -56,7 +57,7 @@ fn append_verdict<L: Ledger>(
 }
 
 /// Appends the reply with how a case stands.
-fn append_case(clerk: &Clerk, number: u32, text: &mut String) -> Result<(), NoMemory>
+fn append_case(clerk: &Clerk<NoKeeper>, number: u32, text: &mut String) -> Result<(), NoMemory>
     ensures ok { OnOk result (Tells clerk.now.state (requests.Query (queries.Case number)) (string_bytes text.old) (string_bytes text.new) clerk.now.state) }
     ensures part { OnErr result (Extends (string_bytes text.old) (string_bytes text.new)) }
 {
@@ -67,7 +68,7 @@ fn append_case(clerk: &Clerk, number: u32, text: &mut String) -> Result<(), NoMe
 }
 
 /// Appends the reply with the cases that are marked for review.
-fn append_review(alloc: Global, clerk: &Clerk, text: &mut String) -> Result<(), NoMemory>
+fn append_review(alloc: Global, clerk: &Clerk<NoKeeper>, text: &mut String) -> Result<(), NoMemory>
     ensures ok { OnOk result (Tells clerk.now.state (requests.Query queries.Review) (string_bytes text.old) (string_bytes text.new) clerk.now.state) }
     ensures part { OnErr result (Extends (string_bytes text.old) (string_bytes text.new)) }
 {
@@ -78,7 +79,7 @@ fn append_review(alloc: Global, clerk: &Clerk, text: &mut String) -> Result<(), 
 }
 
 /// Appends the report of the marked cases.
-fn append_review_report(alloc: Global, clerk: &Clerk, text: &mut String) -> Result<(), NoMemory>
+fn append_review_report(alloc: Global, clerk: &Clerk<NoKeeper>, text: &mut String) -> Result<(), NoMemory>
     ensures ok { OnOk result (Tells clerk.now.state (requests.Query (queries.Report reports.Review)) (string_bytes text.old) (string_bytes text.new) clerk.now.state) }
     ensures part { OnErr result (Extends (string_bytes text.old) (string_bytes text.new)) }
 {
@@ -89,7 +90,7 @@ fn append_review_report(alloc: Global, clerk: &Clerk, text: &mut String) -> Resu
 }
 
 /// Appends the report of the determinations that expire.
-fn append_expiry_report(alloc: Global, clerk: &Clerk, text: &mut String) -> Result<(), NoMemory>
+fn append_expiry_report(alloc: Global, clerk: &Clerk<NoKeeper>, text: &mut String) -> Result<(), NoMemory>
     ensures ok { OnOk result (Tells clerk.now.state (requests.Query (queries.Report reports.Expiry)) (string_bytes text.old) (string_bytes text.new) clerk.now.state) }
     ensures part { OnErr result (Extends (string_bytes text.old) (string_bytes text.new)) }
 {
@@ -100,7 +101,7 @@ fn append_expiry_report(alloc: Global, clerk: &Clerk, text: &mut String) -> Resu
 }
 
 /// Appends the report of the airfields.
-fn append_airfield_report(alloc: Global, clerk: &Clerk, text: &mut String) -> Result<(), NoMemory>
+fn append_airfield_report(alloc: Global, clerk: &Clerk<NoKeeper>, text: &mut String) -> Result<(), NoMemory>
     ensures ok { OnOk result (Tells clerk.now.state (requests.Query (queries.Report reports.Airfields)) (string_bytes text.old) (string_bytes text.new) clerk.now.state) }
     ensures part { OnErr result (Extends (string_bytes text.old) (string_bytes text.new)) }
 {
@@ -113,7 +114,7 @@ fn append_airfield_report(alloc: Global, clerk: &Clerk, text: &mut String) -> Re
 /// Appends the reply with a report.
 fn append_report(
     alloc: Global,
-    clerk: &Clerk,
+    clerk: &Clerk<NoKeeper>,
     kind: ReportKind,
     text: &mut String,
 ) -> Result<(), NoMemory>
@@ -128,7 +129,7 @@ fn append_report(
 }
 
 /// Appends the reply with the airfield of a name.
-fn append_named(clerk: &Clerk, id: &FieldId, text: &mut String) -> Result<(), NoMemory>
+fn append_named(clerk: &Clerk<NoKeeper>, id: &FieldId, text: &mut String) -> Result<(), NoMemory>
     ensures ok { OnOk result (Tells clerk.now.state (requests.Query (queries.Airfield id.now)) (string_bytes text.old) (string_bytes text.new) clerk.now.state) }
     ensures part { OnErr result (Extends (string_bytes text.old) (string_bytes text.new)) }
 {
@@ -155,20 +156,23 @@ fn reply_of(answer: Answer) -> Reply
 /// Makes a change, or refuses it, and appends the reply.
 fn make_change(
     alloc: Global,
-    clerk: &mut Clerk,
+    clerk: &mut Clerk<NoKeeper>,
     change: &Change,
     text: &mut String,
 ) -> Result<(), NoMemory>
     ensures ok { OnOk result (Tells clerk.old.state (requests.Change change.now) (string_bytes text.old) (string_bytes text.new) clerk.new.state) }
     ensures part { OnErr result (Extends (string_bytes text.old) (string_bytes text.new)) }
 {
-    append_reply(text, &reply_of(clerk.apply(alloc, change)))
+    let answer = clerk.apply(alloc, change);
+    // a keeper of nothing never fails
+    clerk.keeper();
+    append_reply(text, &reply_of(answer))
 }
 
 /// Does what a request asks for, and appends the reply.
 pub(crate) fn fulfil<L: Ledger>(
     alloc: Global,
-    clerk: &mut Clerk,
+    clerk: &mut Clerk<NoKeeper>,
     list: &mut Findings,
     steps: &mut Steps<L>,
     request: &Request,

@@ -14,8 +14,8 @@ use Rattle.filing_desk.proofs.MarksAfter.{AreKept, kept_amended}
 use Rattle.filing_desk.proofs.office.Office.amend.Goals as goal
 
 pub invariant_of-self-2 : goal.invariant_of-self-2
-invariant_of-self-2 c =
+invariant_of-self-2 g c =
     let rows = c.self.inside.marks in
     let made : c.commit.new.self ≡ committed c.in-Ok.change rows = c.commit.ensures ∙ ap (committed c.in-Ok.change) c.mark_change.ensures.same in
     subst (λ (s : State). AreKept s c.commit.new.self) (sym c.in_ok-put_sky.ensures.done)
-    (kept_amended (with_entry c.args.entry c.self.inside.desk) _ _ rows c.commit.new.self c.in_ok-sky.ensures.leads c.self.invariant (λ n. ap (λ (new : List (Option Row)). row_at new n) made ∙ c.in-Ok.ensures.turned n))
+    (kept_amended (with_entry c.args.accepted.entry c.self.inside.desk) _ _ rows c.commit.new.self c.in_ok-sky.ensures.leads c.self.invariant (λ n. ap (λ (new : List (Option Row)). row_at new n) made ∙ c.in-Ok.ensures.turned n))

@@ -7,7 +7,7 @@ use Rattle.filing_desk.proofs.Deciding.{known_as}
 use Rattle.filing_desk.proofs.office.Office.apply.Goals as goal
 
 pub returns-in-Some : goal.returns-in-Some
-returns-in-Some c =
+returns-in-Some g c =
     let s = c.args.self.now in
     let q = c.args.c.now in
     let e = c.in-Some.entry.now in
@@ -16,4 +16,4 @@ returns-in-Some c =
     known_as s q e c.repeated.result there (c.repeated.ensures s)
 
 pub accept-requires-clause-goes : goal.accept-requires-clause-goes
-accept-requires-clause-goes c = subst (λ (s : State). Goes s c.in-Ok.effect.step) c.self.view_is (acted_goes c.self.inside.desk (last_number c.self.inside.desk) c.c.inside.act c.in-Ok.effect c.in-Ok.ensures.value)
+accept-requires-clause-goes g c = subst (λ (s : State). Goes s c.in-Ok.effect.step) c.self.view_is (acted_goes c.self.inside.desk (last_number c.self.inside.desk) c.c.inside.act c.in-Ok.effect c.in-Ok.ensures.value)

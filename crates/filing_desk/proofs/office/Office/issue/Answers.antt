@@ -9,8 +9,8 @@ use Rattle.filing_desk.proofs.MarksAfter.{AreKept, kept_issued}
 use Rattle.filing_desk.proofs.office.Office.issue.Goals as goal
 
 pub invariant_of-self-2 : goal.invariant_of-self-2
-invariant_of-self-2 c =
-    let begun = with_entry c.args.entry c.self.inside.desk in
+invariant_of-self-2 g c =
+    let begun = with_entry c.args.accepted.entry c.self.inside.desk in
     let step = steps.Issued c.args.number c.args.life c.args.list in
     let there = c.in-Some.case.now in
     let rows = c.added_unmarked.new.self in
@@ -26,8 +26,8 @@ invariant_of-self-2 c =
     (sym (c.close_fallen_one.ensures ∙ ap (λ (rs : List (Option Row)). cond (stands_in c.issue.new.self c.args.number) rs (closed c.args.number rs)) made)) done
 
 pub returns-clause-done : goal.returns-clause-done
-returns-clause-done c =
-    let begun = with_entry c.args.entry c.self.inside.desk in
+returns-clause-done g c =
+    let begun = with_entry c.args.accepted.entry c.self.inside.desk in
     let step = steps.Issued c.args.number c.args.life c.args.list in
     let at : c.issue.new.self ≡ stepped step begun = c.issue.ensures ∙ ap (stepped step) c.in_ok-keep.ensures.kept in
-    subst (λ (s : State). c.issue.new.self ≡ with_entry c.args.entry (stepped step s)) c.self.view_is at
+    subst (λ (s : State). c.issue.new.self ≡ with_entry c.args.accepted.entry (stepped step s)) c.self.view_is at

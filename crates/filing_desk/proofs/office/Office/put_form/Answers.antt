@@ -5,8 +5,8 @@ use Rattle.filing_desk.proofs.MarksAfter.{AreKept, form_watched, kept_formed}
 use Rattle.filing_desk.proofs.office.Office.put_form.Goals as goal
 
 pub invariant_of-self-2 : goal.invariant_of-self-2
-invariant_of-self-2 c =
-    let begun = with_entry c.args.entry c.self.inside.desk in
+invariant_of-self-2 g c =
+    let begun = with_entry c.args.accepted.entry c.self.inside.desk in
     let step = steps.FormPut c.args.number c.args.day in
     let at : c.put_form.new.self ≡ stepped step begun = c.put_form.ensures ∙ ap (stepped step) c.in_ok-keep.ensures.kept in
     subst (λ (s : State). AreKept s c.self.inside.marks) (sym at) (kept_formed begun c.args.number (λ d. record d { form = Some c.args.day }) c.self.inside.marks (λ d. form_watched begun d (Some c.args.day)) c.self.invariant)

@@ -8,8 +8,8 @@ use Rattle.filing_desk.proofs.MarksAfter.{AreKept, kept_alive}
 use Rattle.filing_desk.proofs.office.Office.put_life.Goals as goal
 
 pub invariant_of-self-2 : goal.invariant_of-self-2
-invariant_of-self-2 c =
-    let begun = with_entry c.args.entry c.self.inside.desk in
+invariant_of-self-2 g c =
+    let begun = with_entry c.args.accepted.entry c.self.inside.desk in
     let step = steps.LifePut c.args.number c.args.life in
     let rows = c.self.inside.marks in
     let at : c.put_life.new.self ≡ stepped step begun = c.put_life.ensures ∙ ap (stepped step) c.in_ok-keep.ensures.kept in

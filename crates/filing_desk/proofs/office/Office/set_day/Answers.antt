@@ -7,8 +7,8 @@ use Rattle.filing_desk.proofs.MarksAfter.{AreKept, kept_on_day}
 use Rattle.filing_desk.proofs.office.Office.set_day.Goals as goal
 
 pub invariant_of-self-2 : goal.invariant_of-self-2
-invariant_of-self-2 c =
-    let begun = with_entry c.args.entry c.self.inside.desk in
+invariant_of-self-2 g c =
+    let begun = with_entry c.args.accepted.entry c.self.inside.desk in
     let step = steps.DaySet c.args.day in
     let at : c.set_day.new.self ≡ stepped step begun = c.set_day.ensures ∙ ap (stepped step) c.in_ok-keep.ensures.kept in
     let goes : Goes c.self.inside.desk step = subst (λ (s : State). Goes s step) (sym c.self.view_is) c.requires.goes in

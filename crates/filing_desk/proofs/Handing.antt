@@ -1,0 +1,74 @@
+-- What is handed to the keeper.
+use Rattle.std.proofs.Common.{◌≡◌, ◌≢◌, refl, sym, ap, ◌∙◌, subst, arith, ℕ, ◌≤◌, Bool, true, false, ◌||◌, nat_eq, List, [], ◌∷◌, length, ℤ, Result, Err}
+use Rattle.std.proofs.Math.Logic.{∥∥₁_elim, ∥∥₁_map, ∥∥₁_prop}
+use Rattle.std.proofs.lemmas.Grind.{common_steps}
+use Rattle.std.specs.List.{AllByRecursion}
+use Rattle.std.specs.List.Sorted.{IsStrictlySortedBy}
+use Rattle.std.specs.Cmp.{int_cmp_total}
+use Rattle.std.specs.Ordering.{int_cmp, int_eq, is_eq, match_ordering}
+use Rattle.std.specs.declared.cmp.Ordering.{Ordering}
+use Rattle.std.specs.declared.cmp.Ordering.TheVariants.{Less, Equal, Greater}
+use Rattle.jiff_core.specs.declared.civil.date.Date.{Date}
+use Rattle.jiff_core.specs.Date.{epoch_day}
+use Rattle.determination_dates.specs.Closed.{date_cmp, is_closed, with_day, is_none_of}
+use Rattle.oe_keeper.specs.Kept.{Kept, all_changed}
+use Rattle.oe_keeper.specs.Keeping.{Stays, StaysSilent, HasAll}
+use Rattle.oe_keeper.specs.declared.change.RowChange.{RowChange}
+use Rattle.case_records.specs.declared.refusal.Refusal.{Refusal}
+use Rattle.case_records.specs.declared.refusal.Refusal.TheVariants as refusals
+use Rattle.desk_rules.specs.States.{State}
+use Rattle.desk_rows.specs.Rows.{AreRows}
+use Rattle.filing_desk.specs.Handed.{Told, Carry, Handed, Serves}
+use Rattle.filing_desk.specs.declared.answer.Answer.TheVariants as answers
+
+module _ {K : Type 0} (Tells : K → Kept → Type 0) (IsLoaded : K → Type 0) (faults : K → ℕ) where
+  -- the keeper was not asked
+  pub unasked : {T : Type 0} (k : K) (changes : List RowChange) (why : Refusal) → ∥ IsLoaded k ∥₁ → why ≢ refusals.KeeperFault → Handed {K} {T} Tells IsLoaded faults k k changes (Err why)
+  unasked k changes why loaded other = record { done = tt; undone = λ s h. h; loaded = loaded; later = omega arith; cause = λ e. absurd (other e) }
+
+  pub unserved : (k : K) (s : State) (why : Refusal) → ∥ IsLoaded k ∥₁ → why ≢ refusals.KeeperFault → Serves Tells IsLoaded faults k k s s (answers.Refused why)
+  unserved k s why loaded other = record { told = λ h. h; loaded = loaded; later = omega arith; cause = λ e. absurd (other e) }
+
+module _ {K : Type 0} (Tells : K → Kept → Type 0) (old new : K) where
+  -- it made all changes
+  pub told_on : (changes : List RowChange) → StaysSilent Tells old new → HasAll Tells old new changes → (s t : State) → Carry Tells old s changes t → Told Tells old s → Told Tells new t
+  unfolding Told Carry
+  told_on changes silent all s t carry told now is =
+      ∥∥₁_elim (silent now is) ∥∥₁_prop (λ b. ∥∥₁_map (told b.0 b.1) (λ are. subst (λ (rows : Kept). AreRows t rows) (sym (all b.0 now b.1 is)) (carry b.0 b.1 are)))
+
+  -- it made none
+  pub told_still : StaysSilent Tells old new → Stays Tells old new → (s : State) → Told Tells old s → Told Tells new s
+  unfolding Told
+  told_still silent stays s told now is =
+      ∥∥₁_elim (silent now is) ∥∥₁_prop (λ b. ∥∥₁_map (told b.0 b.1) (λ are. subst (λ (rows : Kept). AreRows s rows) (sym (stays b.0 now b.1 is)) are))
+
+pub none_of : {A : Type 0} (xs : List A) → nat_eq (length xs) 0 ≡ is_none_of xs
+none_of [] = refl
+none_of (x ∷ xs) = refl
+
+-- ---- a day that is closed already
+
+or_right : (a b : Bool) → (a || b) ≡ true → a ≡ false → b ≡ true
+or_right a b h n = grind (arith, h, n)
+
+-- a day before all of these is none of them
+none_before : (d : Date) (closed : List Date) → AllByRecursion (λ c. date_cmp d c ≡ Less) closed → is_closed closed (epoch_day d) ≡ false
+none_before d [] h = refl
+none_before d (c ∷ cs) h = rw (ap is_eq h.0) (none_before d cs h.1)
+
+later_still : (a b : ℤ) (c : ℤ) → int_cmp a b ≡ Less → int_cmp b c ≡ Less → int_cmp a c ≡ Less
+later_still a b c p q = int_cmp_total.trans a b c p q
+
+all_later : (d c : Date) (cs : List Date) → date_cmp d c ≡ Less → AllByRecursion (λ x. date_cmp c x ≡ Less) cs → AllByRecursion (λ x. date_cmp d x ≡ Less) cs
+all_later d c [] p h = tt
+all_later d c (x ∷ xs) p h = (later_still (epoch_day d) (epoch_day c) (epoch_day x) p h.0, all_later d c xs p h.1)
+
+pub closed_already : (d : Date) (closed : List Date) → IsStrictlySortedBy date_cmp closed → is_closed closed (epoch_day d) ≡ true → closed ≡ with_day d closed
+unfolding IsStrictlySortedBy
+closed_already d [] rising is = absurd (cc (is))
+closed_already d (c ∷ cs) rising is =
+    elim (int_cmp (epoch_day d) (epoch_day c)) as (λ o. int_cmp (epoch_day d) (epoch_day c) ≡ o → c ∷ cs ≡ match_ordering o (d ∷ c ∷ cs) (c ∷ cs) (c ∷ with_day d cs)) [
+      | Less ↦ λ e. absurd (cc (or_right (int_eq (epoch_day d) (epoch_day c)) (is_closed cs (epoch_day d)) is (ap is_eq e), none_before d cs (all_later d c cs e rising.0)))
+      | Equal ↦ λ e. refl
+      | Greater ↦ λ e. ap (λ (l : List Date). c ∷ l) (closed_already d cs rising.1 (or_right (int_eq (epoch_day d) (epoch_day c)) (is_closed cs (epoch_day d)) is (ap is_eq e)))
+    ] refl

@@ -1,0 +1,36 @@
+//! The keeper of nothing.
+
+ghost use Rattle.std.specs.Prelude.{◌≡◌, false, IfOk, OnOk, OnErr};
+ghost use Rattle.oe_keeper.specs.Kept.{Kept};
+ghost use Rattle.oe_keeper.specs.Keeping.{Stays, StaysSilent, HasAll, HasCause, IfFailed};
+
+use oe_keeper::{KeepErr, Keeper, RowChange, Tables};
+use std::alloc::Global;
+
+/// Keeps nothing: it has no rows to load, takes every change and forgets it. It never fails, and tells no rows.
+#[derive(Debug, Drop)]
+pub struct NoKeeper;
+
+impl Keeper for NoKeeper {
+    ghost Tells = { λ k rows. ⊥ };
+
+    ghost faults = { λ k. 0 };
+
+    ghost IsLoaded = { λ k. Unit {0} };
+
+    ghost IsSteady = { λ k. Unit {0} };
+
+    fn load(&mut self, alloc: Global, _place: Option<&str>) -> Result<Tables, KeepErr> {
+        Ok(Tables::empty(alloc))
+    }
+
+    fn apply(&mut self, _alloc: Global, _changes: &[RowChange]) -> Result<(), KeepErr> {
+        Ok(())
+    }
+
+    fn keeps(&self) -> bool {
+        false
+    }
+
+    ghost one = { λ k a b p q. absurd p };
+}

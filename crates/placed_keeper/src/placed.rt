@@ -1,0 +1,61 @@
+//! A keeper that is used where a place is named.
+
+ghost use Rattle.std.specs.Prelude.{◌≡◌, false, IsTrue, IfOk, OnOk, OnErr};
+ghost use Rattle.oe_keeper.specs.Kept.{Kept};
+ghost use Rattle.oe_keeper.specs.Keeping.{Stays, StaysSilent, HasAll, HasCause, IfFailed};
+ghost use Rattle.placed_keeper.specs.Placed.{TellsWhere, IsLoadedWhere};
+
+use oe_keeper::{KeepErr, Keeper, RowChange, Tables};
+use std::alloc::Global;
+
+/// Keeps what the keeper in it keeps, once a place was named; without a place it keeps nothing.
+#[derive(Debug, Drop)]
+pub struct PlacedKeeper<K: Keeper> {
+    keeper: K,
+    is_used: bool,
+}
+
+impl<K: Keeper> PlacedKeeper<K> {
+    /// A keeper for which no place was named yet. It takes no memory.
+    pub fn new(keeper: K) -> PlacedKeeper<K>
+        ensures inside { result.keeper ≡ keeper }
+        ensures unused { result.is_used ≡ false }
+    {
+        PlacedKeeper {
+            keeper,
+            is_used: false,
+        }
+    }
+}
+
+impl<K: Keeper> Keeper for PlacedKeeper<K> {
+    ghost Tells = { λ k. TellsWhere K.Tells k.is_used k.keeper };
+
+    ghost faults = { λ k. K.faults k.keeper };
+
+    ghost IsLoaded = { λ k. IsLoadedWhere K.IsLoaded k.is_used k.keeper };
+
+    ghost IsSteady = { λ k. K.IsSteady k.keeper };
+
+    fn load(&mut self, alloc: Global, place: Option<&str>) -> Result<Tables, KeepErr> {
+        if !self.is_used && place.is_none() {
+            return Ok(Tables::empty(alloc));
+        }
+        let tables = self.keeper.load(alloc, place)?;
+        self.is_used = true;
+        Ok(tables)
+    }
+
+    fn apply(&mut self, alloc: Global, changes: &[RowChange]) -> Result<(), KeepErr> {
+        if !self.is_used {
+            return Ok(());
+        }
+        self.keeper.apply(alloc, changes)
+    }
+
+    fn keeps(&self) -> bool {
+        self.is_used && self.keeper.keeps()
+    }
+
+    ghost one = { λ k a b p q. K.one k.keeper a b p.1 q.1 };
+}
