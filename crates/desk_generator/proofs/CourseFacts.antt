@@ -6,7 +6,7 @@ use Rattle.desk_rules.specs.Machine.{Answer as Decided, after}
 use Rattle.filing_desk.specs.declared.answer.Answer.{Answer}
 use Rattle.filing_desk.specs.declared.answer.Answer.TheVariants as answers
 use Rattle.filing_desk.specs.Clerks.{Clerking, Advances, HasCause}
-use Rattle.filing_desk.proofs.Clerks.{never_rose}
+use Rattle.filing_desk.proofs.NoFaults.{never_rose}
 use Rattle.desk_generator.specs.Desks.{Course, each}
 
 -- ---- a loop of steps

@@ -1,8 +1,7 @@
 -- What an amendment of the register leads to.
-use Rattle.std.proofs.Common.{◌≡◌, ◌≢◌, sym, ap, ◌∙◌, subst, List, ℕ, Option, Some}
+use Rattle.std.proofs.Common.{◌≡◌, sym, ap, ◌∙◌, List, ℕ}
 use Rattle.std.specs.Option.{option_map}
 use Rattle.std.specs.Arc.{arc_value}
-use Rattle.airfields.specs.Airfields.{IsHeld}
 use Rattle.airfields.specs.declared.airfield.Airfield.{Airfield}
 use Rattle.airport_register.specs.Amendments.{airfield_at, replaced}
 use Rattle.airport_register.specs.Changes.{IsChange}

@@ -1,5 +1,5 @@
 -- The desk by itself never tells that the keeper failed.
-use Rattle.std.proofs.Common.{◌≡◌, ◌≢◌, ap, ◌∙◌, ◌+◌, ℕ, Bool, true, false, not, is_none, is_some, ◌&&◌, ◌||◌, nat_lt, nat_le, int_lt, List, [], ◌∷◌, ◌++◌, length, Option, Some, None, Result, Ok, Err, slice_get}
+use Rattle.std.proofs.Common.{◌≡◌, ◌≢◌, ap, ◌∙◌, ◌+◌, ℕ, Bool, true, false, not, is_none, is_some, ◌&&◌, nat_lt, nat_le, int_lt, List, [], ◌∷◌, ◌++◌, length, Option, Some, None, Result, Err}
 use Rattle.jiff_core.specs.declared.civil.date.Date.{Date}
 use Rattle.jiff_core.specs.Date.{epoch_day}
 use Rattle.airfield_findings.specs.Verdicts.{is_obstruction}
@@ -21,7 +21,7 @@ use Rattle.case_acts.specs.declared.effect.Effect.{Effect}
 use Rattle.case_acts.specs.declared.extension.Extension.{Extension}
 use Rattle.case_acts.specs.Standing.{is_awaiting, is_standing, is_in_force, is_planned}
 use Rattle.case_acts.specs.Rules.{when, of_record, in_status, on_determination, form_rules, finding_rules, determination_rules, deadline_rules, review_rules, pending_rules, last_day_rules, has_evidence, evidence_rules, moving_rules, license_rules}
-use Rattle.case_acts.specs.Rulings.{by_first, ruling, form_ruling, determination_ruling, petition_ruling, disposal_ruling, extension_ruling, fcc_ruling, abandon_ruling}
+use Rattle.case_acts.specs.Rulings.{ruling}
 use Rattle.case_acts.specs.Effects.{petitioned, disposed, extended, licensed, abandoned, determined, filed, form_came}
 use Rattle.desk_rules.specs.declared.entry.TheConstants.{MOST_CASES}
 use Rattle.desk_rules.specs.States.{State, case_at}
@@ -87,13 +87,13 @@ others_finding finding kept =
 
 others_review : (today : Date) (r : Record) → Others (review_rules today r)
 others_review today r =
-    others_more _ _ (others_when (is_none r.deadline) refusals.NotReviewable (λ e. cc (e)))
-    (others_more _ _ (others_deadline r.deadline today) (others_when r.pending refusals.PetitionPending (λ e. cc (e))))
+    others_more _ _ (others_more _ _ (others_when (is_none r.deadline) refusals.NotReviewable (λ e. cc (e))) (others_deadline r.deadline today))
+    (others_when r.pending refusals.PetitionPending (λ e. cc (e)))
 
 others_moving : (x : Extension) (today : Date) (application : Option Date) (r : Record) → Others (moving_rules x today application r)
 others_moving x today application r =
-    others_more _ _ (others_last (last_date r) today)
-    (others_more _ _ (others_when x.started refusals.WorkStarted (λ e. cc (e))) (others_evidence application r (has_evidence r today x.filed x.warranted)))
+    others_more _ _ (others_more _ _ (others_last (last_date r) today) (others_when x.started refusals.WorkStarted (λ e. cc (e))))
+    (others_evidence application r (has_evidence r today x.filed x.warranted))
 
 -- ---- acts
 
@@ -131,20 +131,20 @@ acted_never s basis (acts.Form number) e =
     never_on_case s number _ (λ today c k. never_ruled (form_rules c) (Some (form_came number today c)) (others_when _ refusals.NoFormDue (λ x. cc (x))) k) e
 acted_never s basis (acts.Determine number finding) e =
     never_on_case s number _ (λ today c k. never_on_list basis _
-        (λ kept m. never_ruled (determination_rules finding kept today c) (determined number finding s.closed kept today c)
-            (others_more _ _ (others_status is_awaiting today c) (others_finding finding kept)) m) k) e
+    (λ kept m. never_ruled (determination_rules finding kept today c) (determined number finding s.closed kept today c)
+    (others_more _ _ (others_status is_awaiting today c) (others_finding finding kept)) m) k) e
 acted_never s basis (acts.Petition number party) e =
     never_on_case s number _ (λ today c k. never_ruled _ (petitioned number c) (others_act is_standing (review_rules today) today c (others_review today)) k) e
 acted_never s basis (acts.Dispose number affirm) e =
     never_on_case s number _ (λ today c k. never_ruled _ (disposed number affirm today c)
-        (others_act is_standing pending_rules today c (λ r. others_when (not r.pending) refusals.NothingPending (λ x. cc (x)))) k) e
+    (others_act is_standing pending_rules today c (λ r. others_when (not r.pending) refusals.NothingPending (λ x. cc (x)))) k) e
 acted_never s basis (acts.Extend number months started filing warranted) e =
     let x : Extension = record { months = months; started = started; filed = filing; warranted = warranted } in
     never_on_case s number _ (λ today c k. never_ruled _ (extended number x c)
-        (others_act is_in_force (moving_rules x today c.submission.fcc) today c (others_moving x today c.submission.fcc)) k) e
+    (others_act is_in_force (moving_rules x today c.submission.fcc) today c (others_moving x today c.submission.fcc)) k) e
 acted_never s basis (acts.Fcc number completion) e =
     never_on_case s number _ (λ today c k. never_ruled _ (licensed number completion today c)
-        (others_act is_in_force (λ r. license_rules c) today c (λ r. others_when (is_none c.submission.fcc) refusals.FccEvidence (λ x. cc (x)))) k) e
+    (others_act is_in_force (λ r. license_rules c) today c (λ r. others_when (is_none c.submission.fcc) refusals.FccEvidence (λ x. cc (x)))) k) e
 acted_never s basis (acts.Abandon number) e =
     never_on_case s number _ (λ today c k. never_ruled _ (Some (abandoned number c)) (others_status is_planned today c) k) e
 

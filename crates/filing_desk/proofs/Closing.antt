@@ -1,5 +1,5 @@
 -- The cases are closed one by one, from the last to the first.
-use Rattle.std.proofs.Common.{◌≡◌, refl, sym, ap, ◌∙◌, subst, arith, ℕ, zero, suc, ◌-◌, ◌==◌, ◌<◌, ◌≤◌, nat_eq, nat_lt, Bool, true, false, not, ◌&&◌, ◌||◌, cond, List, length, Option, Some, None}
+use Rattle.std.proofs.Common.{◌≡◌, refl, sym, ap, ◌∙◌, subst, arith, ℕ, ◌-◌, ◌≤◌, nat_eq, nat_lt, Bool, true, false, not, ◌&&◌, ◌||◌, cond, List, length, Option, None}
 use Rattle.std.proofs.lemmas.Grind.{common_steps}
 use Rattle.review_marks.specs.Books.{row_at, closed}
 use Rattle.review_marks.specs.declared.row.Row.{Row}

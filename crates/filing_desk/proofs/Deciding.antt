@@ -1,5 +1,5 @@
 -- What was done is what is decided.
-use Rattle.std.proofs.Common.{◌≡◌, ◌≢◌, refl, sym, ap, ◌∙◌, subst, ℕ, Bool, true, false, cond, List, [], ◌∷◌, ◌++◌, Option, Some, None, Result, Ok, Err}
+use Rattle.std.proofs.Common.{◌≡◌, ◌≢◌, refl, sym, ap, ◌∙◌, subst, ℕ, true, false, cond, List, [], ◌∷◌, ◌++◌, Some, None, Result, Ok, Err}
 use Rattle.wire_requests.specs.Changes.{Asked}
 use Rattle.case_values.specs.contracts.act.ActPartialEq.TheImpl as act
 use Rattle.case_records.specs.declared.refusal.Refusal.{Refusal}

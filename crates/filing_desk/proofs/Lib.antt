@@ -6,6 +6,7 @@ pub mod MarksAfter
 pub mod Closing
 pub mod AmendFacts
 pub mod Rooms
-pub mod Handing
+pub mod RowFacts
+pub mod Unasked
 pub mod Causes
-pub mod Clerks
+pub mod NoFaults

@@ -1,5 +1,5 @@
 -- The marks after each step.
-use Rattle.std.proofs.Common.{◌≡◌, ◌≢◌, refl, sym, ap, ◌∙◌, subst, arith, ℕ, zero, suc, ◌+◌, ◌-◌, ◌==◌, ◌<◌, ◌≤◌, nat_eq, nat_lt, nat_le, Bool, true, false, not, ◌||◌, cond, if◌then◌else◌, List, [], ◌∷◌, ◌++◌, length, Option, Some, None, IfSome, slice_get, slice_set, int_lt, ◌≤ℤ◌, ℤ}
+use Rattle.std.proofs.Common.{◌≡◌, refl, sym, ap, ◌∙◌, arith, ℕ, zero, suc, ◌+◌, ◌-◌, ◌==◌, ◌<◌, ◌≤◌, nat_eq, nat_lt, Bool, true, false, not, cond, if◌then◌else◌, List, [], ◌∷◌, ◌++◌, length, Option, Some, None, IfSome, slice_get, slice_set, int_lt, ◌≤ℤ◌, ℤ}
 use Rattle.std.proofs.lemmas.Grind.{common_steps}
 use Rattle.std.specs.Option.{option_map, option_map_or}
 use Rattle.jiff_core.specs.declared.civil.date.Date.{Date}
@@ -21,16 +21,15 @@ use Rattle.case_records.specs.declared.case.KeptCase.{KeptCase}
 use Rattle.case_records.specs.declared.case.KeptList.{KeptList}
 use Rattle.case_acts.specs.Standing.{is_standing}
 use Rattle.case_acts.specs.declared.effect.Step.TheVariants as steps
-use Rattle.review_marks.specs.Books.{row_at, joined, marked_as, marked_cases, is_marked_in, is_marked_row, numbers_up_to, differs, closed, committed}
+use Rattle.review_marks.specs.Books.{row_at, joined, marked_as, marked_cases, is_marked_in, is_marked_row, numbers_up_to, differs, closed}
 use Rattle.review_marks.specs.Shares.{AirfieldChange, concerns}
 use Rattle.review_marks.specs.Turns.{Leads, turned}
 use Rattle.review_marks.specs.declared.row.Row.{Row}
 use Rattle.review_marks.proofs.Unconcerned.{same_lists, unconcerned}
 use Rattle.review_marks.proofs.Turning.{apart, by_places, eq_suc, same_number, suc_zero, zero_suc}
-use Rattle.desk_rules.specs.States.{State, case_at, changed_at, with_case, with_entry, stepped}
+use Rattle.desk_rules.specs.States.{State, case_at, changed_at, with_case, stepped}
 use Rattle.desk_rules.proofs.CaseFacts.{case_changed, case_past}
-use Rattle.desk_rules.specs.Views.{status_on}
-use Rattle.desk_rules.specs.Marks.{Goes, is_marked, marks, stands_on, stands_in, compared, watched, row_of}
+use Rattle.desk_rules.specs.Marks.{Goes, is_marked, marks, stands_on, stands_in, compared, watched}
 use Rattle.filing_desk.specs.Desks.{with_register}
 use Rattle.filing_desk.specs.Marked.{AreMarks, HasDay}
 

@@ -1,14 +1,11 @@
 -- Where an act files a case, the desk has room for it.
-use Rattle.std.proofs.Common.{◌≡◌, ◌+◌, refl, subst, sym, arith, ℕ, ◌<◌, ◌≤◌, nat_le, Bool, true, false, List, length, Option, Some, None, Result, Ok, Err, slice_get}
+use Rattle.std.proofs.Common.{◌≡◌, ◌+◌, refl, subst, sym, arith, ℕ, ◌<◌, nat_le, Bool, true, false, List, length, Option, Some, None, Result, Ok, slice_get}
 use Rattle.std.specs.Option.{option_map}
 use Rattle.std.proofs.lemmas.Grind.{common_steps}
-use Rattle.jiff_core.specs.declared.civil.date.Date.{Date}
 use Rattle.determination_dates.specs.declared.determination.Record.{Record}
-use Rattle.determination_dates.specs.declared.timely.Timeliness.{Timeliness}
-use Rattle.determination_dates.specs.Computed.{timeliness_of, issued_record}
+use Rattle.determination_dates.specs.Computed.{issued_record}
 use Rattle.case_values.specs.declared.act.Act.{Act}
 use Rattle.case_values.specs.declared.act.Act.TheVariants as acts
-use Rattle.case_values.specs.declared.submission.Submission.{Submission}
 use Rattle.case_records.specs.declared.case.KeptCase.{KeptCase}
 use Rattle.case_records.specs.declared.case.KeptList.{KeptList}
 use Rattle.case_records.specs.declared.refusal.Refusal.{Refusal}
@@ -18,7 +15,6 @@ use Rattle.case_acts.specs.declared.effect.Step.{Step}
 use Rattle.case_acts.specs.declared.effect.Step.TheVariants as steps
 use Rattle.case_acts.specs.declared.extension.Extension.{Extension}
 use Rattle.case_acts.specs.Rules.{when}
-use Rattle.case_acts.specs.Rulings.{by_first}
 use Rattle.case_acts.specs.Effects.{petitioned, disposed, extended, licensed, abandoned, determined, filed, form_came}
 use Rattle.case_acts.specs.Decisions.{decision_by, is_reviewable}
 use Rattle.desk_rules.specs.declared.entry.TheConstants.{MOST_CASES}
@@ -66,8 +62,8 @@ acted_room s basis (acts.Form number) e h =
 acted_room s basis (acts.Determine number finding) e h =
     on_case_shown s number _ e (HasRoom s.cases e.step)
     (λ today c day at k. on_list_shown basis _ e (HasRoom s.cases e.step)
-        (λ kept m. room_mapped Record s.cases (issued_record today (decision_by finding) (is_reviewable (decision_by finding) c.submission.filing kept.list) s.closed) _ e (λ r. tt)
-            (came _ (determined number finding s.closed kept today c) e m).some) k) h
+    (λ kept m. room_mapped Record s.cases (issued_record today (decision_by finding) (is_reviewable (decision_by finding) c.submission.filing kept.list) s.closed) _ e (λ r. tt)
+    (came _ (determined number finding s.closed kept today c) e m).some) k) h
 acted_room s basis (acts.Petition number party) e h =
     on_case_shown s number _ e (HasRoom s.cases e.step) (λ today c day at k. room_put s.cases number e (petition_puts number c e (came _ (petitioned number c) e k).some)) h
 acted_room s basis (acts.Dispose number affirm) e h =

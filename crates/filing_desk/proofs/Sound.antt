@@ -1,14 +1,13 @@
 -- A case that was found is sound.
-use Rattle.std.proofs.Common.{◌≡◌, refl, sym, ap, subst, ◌∙◌, arith, ℕ, zero, suc, ◌<◌, [], ◌∷◌, length, slice_set, slice_index_or, ◌-◌, ◌==◌, cond, Bool, false, List, ◌++◌, ◌≤◌, Option, Some, None, IfSome, option_copied, slice_get, Bor}
+use Rattle.std.proofs.Common.{◌≡◌, refl, sym, ap, subst, ◌∙◌, arith, ℕ, zero, suc, ◌<◌, [], ◌∷◌, length, slice_set, slice_index_or, ◌-◌, ◌==◌, false, List, ◌++◌, ◌≤◌, Option, Some, None, IfSome, option_copied, slice_get, Bor}
 use Rattle.std.proofs.lemmas.Grind.{common_steps}
 use Rattle.case_records.specs.declared.case.KeptCase.{KeptCase}
-use Rattle.case_records.specs.declared.case.KeptList.{KeptList}
 use Rattle.jiff_core.specs.declared.civil.date.Date.{Date}
 use Rattle.std.proofs.lemmas.Option.{slice_get-get_or}
-use Rattle.determination_dates.specs.declared.life.Life.{Life}
 use Rattle.determination_dates.specs.Days.{IsLimited}
 use Rattle.determination_dates.specs.Effects.{IsKept}
 use Rattle.case_acts.specs.Cases.{IsSound}
+use Rattle.desk_rules.specs.declared.entry.TheConstants.{MOST_CASES}
 use Rattle.desk_rules.specs.States.{case_at, changed_at, with_case}
 use Rattle.filing_desk.specs.Desks.{AreSound}
 
@@ -72,3 +71,13 @@ past (x ∷ xs) (suc i) h = past xs i (omega (arith, h))
 
 pub unchanged_past : (cases : List KeptCase) (n : ℕ) (f : KeptCase → KeptCase) → (n ≡ 0 → ⊥) → length cases ≤ n - 1 → cases ≡ with_case n f cases
 unchanged_past cases n f h beyond = ap (changed_at n f cases) (numbered cases n None h (sym (past cases (n - 1) beyond)))
+
+-- ---- a change leaves the number of cases
+
+same_number : (cases : List KeptCase) (i : ℕ) (c : KeptCase) → length (slice_set cases i c) ≡ length cases
+same_number [] i c = refl
+same_number (x ∷ xs) zero c = refl
+same_number (x ∷ xs) (suc i) c = ap suc (same_number xs i c)
+
+pub most_set : (cases : List KeptCase) (i : ℕ) (c : KeptCase) → length cases ≤ MOST_CASES → length (slice_set cases i c) ≤ MOST_CASES
+most_set cases i c h = subst (λ n. n ≤ MOST_CASES) (sym (same_number cases i c)) h

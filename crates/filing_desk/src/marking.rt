@@ -47,7 +47,7 @@ fn close_fallen(desk: &Desk, marks: &mut MarkBook)
 
 impl Office {
     /// Amends the register, where its rules allow that, and marks the determinations whose lists are other ones then.
-    #[tactic(auto, using(review_marks::proofs::Abouts::shown, crate::proofs::Handing::unasked))]
+    #[tactic(auto, using(review_marks::proofs::Abouts::shown, crate::proofs::Unasked::unasked))]
     fn amend<K: Keeper>(
         &mut self,
         alloc: Global,
@@ -248,7 +248,9 @@ impl Office {
             Step::DaySet(day) => self.set_day(alloc, keeper, accepted, day),
             Step::FormPut { number, day } => self.put_form(alloc, keeper, accepted, number, day),
             Step::LifePut { number, life } => self.put_life(alloc, keeper, accepted, number, life),
-            Step::Issued { number, life, list } => self.issue(alloc, keeper, accepted, number, life, list),
+            Step::Issued { number, life, list } => self.issue(
+                alloc, keeper, accepted, number, life, list,
+            ),
         }
     }
 }

@@ -33,17 +33,15 @@ impl<K: Keeper> Clerk<K> {
             keeper,
         }
     }
+}
 
+impl<K: Keeper + Drop> Clerk<K> {
     /// A clerk of a desk that holds nothing, over a keeper that has no rows yet at this place.
     ///
     /// # Errors
     ///
     /// `KeeperFault` only where the keeper failed, `NotEmpty` where it has rows, `NoMemory` where memory was refused.
-    pub fn fresh(
-        alloc: Global,
-        keeper: K,
-        place: Option<&str>,
-    ) -> Result<Clerk<K>, FreshRefusal>
+    pub fn fresh(alloc: Global, keeper: K, place: Option<&str>) -> Result<Clerk<K>, FreshRefusal>
         ensures { IfOk result (λ c. (c.state ≡ empty) × (c.accepted ≡ [])) }
     {
         let mut keeper = keeper;

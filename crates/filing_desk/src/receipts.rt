@@ -106,7 +106,7 @@ impl Receipts {
     /// # Errors
     ///
     /// `NoMemory` where memory was refused, `KeeperFault` where the keeper failed; the entries are as they were.
-    #[tactic(auto, using(crate::proofs::Indexing::indexed_on, crate::proofs::Indexing::indexed_off, crate::proofs::Handing::unasked))]
+    #[tactic(auto, using(crate::proofs::Indexing::indexed_on, crate::proofs::Indexing::indexed_off, crate::proofs::Unasked::unasked))]
     pub fn keep<K: Keeper>(
         &mut self,
         alloc: Global,
@@ -148,7 +148,7 @@ impl Receipts {
     /// # Errors
     ///
     /// `NoMemory` where memory was refused, `KeeperFault` where the keeper failed; the entries and the closed days are as they were.
-    #[tactic(auto, using(crate::proofs::Handing::unasked, crate::proofs::Handing::closed_already))]
+    #[tactic(auto, using(crate::proofs::Unasked::unasked, crate::proofs::Unasked::closed_already))]
     pub fn keep_closing<K: Keeper>(
         &mut self,
         alloc: Global,

@@ -31,7 +31,7 @@ fn copy_of(alloc: Global, list: &Option<KeptList>) -> Result<Option<KeptList>, N
 
 impl Desk {
     /// Whether the desk holds nothing.
-    #[tactic(auto, using(crate::proofs::Handing::none_of))]
+    #[tactic(auto, using(crate::proofs::Unasked::none_of))]
     fn is_bare(&self) -> bool
         ensures { result ≡ is_bare self.now }
     {

@@ -47,7 +47,7 @@ impl Desk {
     /// # Errors
     ///
     /// The first rule of the register that the amendment breaks, or `NoMemory` where memory was refused.
-    #[tactic(auto, using(crate::proofs::Handing::no_fault_of_register))]
+    #[tactic(auto, using(crate::proofs::Causes::no_fault_of_register))]
     pub(crate) fn amended(&self, alloc: Global, a: &Amendment) -> Result<(Sky, Changed), Refusal>
         ensures allowed { IfOk result (λ _. register_rule self.now.register (steps.Amended a.now) ≡ None) }
         ensures after { IfOk result (λ r. r.0 ≡ after_amendment self.now.register a.now) }
@@ -107,7 +107,7 @@ impl Desk {
     }
 
     /// Opens a case behind the others.
-    #[tactic(auto, using(crate::proofs::Sound::sound_more, crate::proofs::Handing::unasked))]
+    #[tactic(auto, using(crate::proofs::Sound::sound_more, crate::proofs::Unasked::unasked))]
     pub(crate) fn open<K: Keeper>(
         &mut self,
         alloc: Global,

@@ -8,7 +8,7 @@ use Rattle.case_records.specs.declared.refusal.Refusal.TheVariants as refusals
 use Rattle.desk_rules.specs.Machine.{after}
 use Rattle.filing_desk.specs.Answers.{told, decision}
 use Rattle.filing_desk.specs.Clerks.{Clerking, Advances, HasCause}
-use Rattle.filing_desk.proofs.Clerks.{never_rose}
+use Rattle.filing_desk.proofs.NoFaults.{never_rose}
 use Rattle.filing_desk.specs.declared.answer.Answer.{Answer}
 use Rattle.filing_desk.specs.declared.answer.Answer.TheVariants as answers
 use Rattle.oe_main.specs.Desk.{Tells, Decided, NoRoom, change_reply}

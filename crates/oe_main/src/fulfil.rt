@@ -79,7 +79,11 @@ fn append_review(alloc: Global, clerk: &Clerk<NoKeeper>, text: &mut String) -> R
 }
 
 /// Appends the report of the marked cases.
-fn append_review_report(alloc: Global, clerk: &Clerk<NoKeeper>, text: &mut String) -> Result<(), NoMemory>
+fn append_review_report(
+    alloc: Global,
+    clerk: &Clerk<NoKeeper>,
+    text: &mut String,
+) -> Result<(), NoMemory>
     ensures ok { OnOk result (Tells clerk.now.state (requests.Query (queries.Report reports.Review)) (string_bytes text.old) (string_bytes text.new) clerk.now.state) }
     ensures part { OnErr result (Extends (string_bytes text.old) (string_bytes text.new)) }
 {
@@ -90,7 +94,11 @@ fn append_review_report(alloc: Global, clerk: &Clerk<NoKeeper>, text: &mut Strin
 }
 
 /// Appends the report of the determinations that expire.
-fn append_expiry_report(alloc: Global, clerk: &Clerk<NoKeeper>, text: &mut String) -> Result<(), NoMemory>
+fn append_expiry_report(
+    alloc: Global,
+    clerk: &Clerk<NoKeeper>,
+    text: &mut String,
+) -> Result<(), NoMemory>
     ensures ok { OnOk result (Tells clerk.now.state (requests.Query (queries.Report reports.Expiry)) (string_bytes text.old) (string_bytes text.new) clerk.now.state) }
     ensures part { OnErr result (Extends (string_bytes text.old) (string_bytes text.new)) }
 {
@@ -101,7 +109,11 @@ fn append_expiry_report(alloc: Global, clerk: &Clerk<NoKeeper>, text: &mut Strin
 }
 
 /// Appends the report of the airfields.
-fn append_airfield_report(alloc: Global, clerk: &Clerk<NoKeeper>, text: &mut String) -> Result<(), NoMemory>
+fn append_airfield_report(
+    alloc: Global,
+    clerk: &Clerk<NoKeeper>,
+    text: &mut String,
+) -> Result<(), NoMemory>
     ensures ok { OnOk result (Tells clerk.now.state (requests.Query (queries.Report reports.Airfields)) (string_bytes text.old) (string_bytes text.new) clerk.now.state) }
     ensures part { OnErr result (Extends (string_bytes text.old) (string_bytes text.new)) }
 {

@@ -1,5 +1,5 @@
-use Rattle.filing_desk.proofs.Deciding.{goes_on, advances}
+use Rattle.filing_desk.proofs.Deciding.{goes_on}
 use Rattle.filing_desk.proofs.clerk.Clerk.apply.Goals as goal
 
 pub invariant_of-self : goal.invariant_of-self
-invariant_of-self g c = (goes_on _ _ _ _ _ _ c.self.invariant.0 c.apply.ensures.answer, (c.apply.ensures.serves.told c.self.invariant.1.0, c.apply.ensures.serves.loaded))
+invariant_of-self g c = (goes_on _ _ (g.K.Keeper.faults c.self.inside.keeper) (g.K.Keeper.faults c.apply.new.keeper) _ _ c.self.invariant.0 c.apply.ensures.answer, c.apply.ensures.serves.told c.self.invariant.1, c.apply.ensures.serves.loaded)

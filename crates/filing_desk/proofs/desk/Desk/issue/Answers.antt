@@ -1,14 +1,14 @@
 use Rattle.std.proofs.Common.{◌≡◌, refl, subst, arith, ◌<◌, ◌-◌, length, Some}
 use Rattle.case_acts.specs.declared.effect.Step.TheVariants as steps
 use Rattle.desk_rules.specs.States.{State, stepped}
-use Rattle.filing_desk.proofs.Sound.{life_sound, changed_case}
+use Rattle.filing_desk.proofs.Sound.{life_sound, changed_case, most_set}
 use Rattle.filing_desk.proofs.desk.Desk.issue.Goals as goal
 
 pub invariant_of-self : goal.invariant_of-self
 invariant_of-self c =
     let short : c.args.number - 1 < length c.self.inside.cases.items = omega (arith, c.if-place-len.false, c.len.ensures) in
     let after = record c.index_mut-case.result.now { life = c.args.life; list = Some c.args.list } in
-    (life_sound c.self.inside.cases.items (c.args.number - 1) c.index_mut-case.result.now after short c.index_mut-case.ensures.value c.self.invariant.0 refl c.requires.kept, c.self.invariant.1)
+    (life_sound c.self.inside.cases.items (c.args.number - 1) c.index_mut-case.result.now after short c.index_mut-case.ensures.value c.self.invariant.0 refl c.requires.kept, c.self.invariant.1, most_set c.self.inside.cases.items (c.args.number - 1) _ c.self.invariant.2)
 
 pub returns : goal.returns
 returns c =

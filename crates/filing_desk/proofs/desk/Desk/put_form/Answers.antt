@@ -1,13 +1,13 @@
 use Rattle.std.proofs.Common.{◌≡◌, subst, arith, ◌<◌, ◌-◌, length, Some}
 use Rattle.case_acts.specs.declared.effect.Step.TheVariants as steps
 use Rattle.desk_rules.specs.States.{State, stepped}
-use Rattle.filing_desk.proofs.Sound.{form_sound, changed_case}
+use Rattle.filing_desk.proofs.Sound.{form_sound, changed_case, most_set}
 use Rattle.filing_desk.proofs.desk.Desk.put_form.Goals as goal
 
 pub invariant_of-self : goal.invariant_of-self
 invariant_of-self c =
     let short : c.args.number - 1 < length c.self.inside.cases.items = omega (arith, c.if-place-len.false, c.len.ensures) in
-    (form_sound c.self.inside.cases.items (c.args.number - 1) c.index_mut.result.now (Some c.args.day) short c.index_mut.ensures.value c.self.invariant.0, c.self.invariant.1)
+    (form_sound c.self.inside.cases.items (c.args.number - 1) c.index_mut.result.now (Some c.args.day) short c.index_mut.ensures.value c.self.invariant.0, c.self.invariant.1, most_set c.self.inside.cases.items (c.args.number - 1) _ c.self.invariant.2)
 
 pub returns : goal.returns
 returns c =

@@ -1,15 +1,7 @@
-use Rattle.std.proofs.Common.{◌≡◌, ◌∷◌, ◌++◌, [], None, sym, ap, ◌∙◌, subst, List, ℕ, Option}
-use Rattle.std.specs.Option.{option_map}
-use Rattle.airport_register.specs.Amendments.{amended_id, first_broken, after_amendment}
-use Rattle.case_records.specs.Refusals.{refused_amendment}
-use Rattle.case_acts.specs.declared.effect.Step.TheVariants as steps
+use Rattle.std.proofs.Common.{◌≡◌, sym, ap, ◌∙◌, subst, List, Option}
 use Rattle.review_marks.specs.Books.{committed, row_at}
-use Rattle.review_marks.specs.Shares.{change_of}
 use Rattle.review_marks.specs.declared.row.Row.{Row}
-use Rattle.desk_rules.specs.States.{State, stepped, with_entry}
-use Rattle.desk_rules.specs.Machine.{register_rule}
-use Rattle.filing_desk.specs.Desks.{with_register}
-use Rattle.filing_desk.proofs.AmendFacts.{held_change, leads_to}
+use Rattle.desk_rules.specs.States.{State, with_entry}
 use Rattle.filing_desk.proofs.MarksAfter.{AreKept, kept_amended}
 use Rattle.filing_desk.proofs.office.Office.amend.Goals as goal
 

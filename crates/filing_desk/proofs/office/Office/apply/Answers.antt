@@ -3,17 +3,28 @@ use Rattle.wire_requests.specs.Changes.{Asked}
 use Rattle.desk_rules.specs.States.{State, entry_of, last_number}
 use Rattle.desk_rules.specs.Marks.{Goes}
 use Rattle.desk_rules.proofs.Going.{acted_goes}
+use Rattle.desk_rows.specs.Changes.{HasRoom}
+use Rattle.filing_desk.proofs.Causes.{no_fault_of_act}
+use Rattle.filing_desk.proofs.Rooms.{acted_room}
+use Rattle.filing_desk.proofs.Unasked.{unserved}
 use Rattle.filing_desk.proofs.Deciding.{known_as}
 use Rattle.filing_desk.proofs.office.Office.apply.Goals as goal
 
-pub returns-in-Some : goal.returns-in-Some
-returns-in-Some g c =
+pub returns-in-Some-clause-answer : goal.returns-in-Some-clause-answer
+returns-in-Some-clause-answer g c =
     let s = c.args.self.now in
     let q = c.args.c.now in
     let e = c.in-Some.entry.now in
     let in_state = subst (λ (t : State). entry_of c.c.inside.caller c.c.inside.key t.entries ≡ Some e) c.self.view_is (sym c.in-Some.ensures) in
     let there = subst (λ (p : Asked). entry_of p.caller p.key s.entries ≡ Some e) c.c.view_is in_state in
-    known_as s q e c.repeated.result there (c.repeated.ensures s)
+    known_as s q e c.repeated.result there (c.repeated.ensures.answer s)
 
 pub accept-requires-clause-goes : goal.accept-requires-clause-goes
 accept-requires-clause-goes g c = subst (λ (s : State). Goes s c.in-Ok.effect.step) c.self.view_is (acted_goes c.self.inside.desk (last_number c.self.inside.desk) c.c.inside.act c.in-Ok.effect c.in-Ok.ensures.value)
+
+pub accept-requires-clause-room : goal.accept-requires-clause-room
+accept-requires-clause-room g c = subst (λ (s : State). HasRoom s.cases c.in-Ok.effect.step) c.self.view_is (acted_room c.self.inside.desk _ c.c.inside.act c.in-Ok.effect c.in-Ok.ensures.value)
+
+pub returns-in-Err-clause-serves : goal.returns-in-Err-clause-serves
+returns-in-Err-clause-serves g c =
+    unserved g.K.Keeper.Tells g.K.Keeper.IsLoaded g.K.Keeper.faults c.args.keeper.now c.args.self.now c.in-Err.why c.requires (no_fault_of_act c.self.inside.desk _ c.c.inside.act c.in-Err.why c.in-Err.ensures.value)

@@ -1,6 +1,6 @@
-use Rattle.std.proofs.Common.{◌≡◌, sym, ap, ◌∙◌, subst}
+use Rattle.std.proofs.Common.{sym, subst}
 use Rattle.case_acts.specs.declared.effect.Step.TheVariants as steps
-use Rattle.desk_rules.specs.States.{State, stepped, with_entry}
+use Rattle.desk_rules.specs.States.{State}
 use Rattle.desk_rules.specs.Marks.{Goes}
 use Rattle.filing_desk.proofs.MarksAfter.{AreKept, kept_opened}
 use Rattle.filing_desk.proofs.office.Office.open.Goals as goal

@@ -1,4 +1,4 @@
-use Rattle.std.proofs.Common.{◌≡◌, refl, sym, ap, ◌∙◌, subst, Some}
+use Rattle.std.proofs.Common.{◌≡◌, sym, ap, ◌∙◌, subst, Some}
 use Rattle.case_acts.specs.declared.effect.Step.TheVariants as steps
 use Rattle.desk_rules.specs.States.{State, stepped, with_entry}
 use Rattle.filing_desk.proofs.MarksAfter.{AreKept, form_watched, kept_formed}

@@ -1,12 +1,12 @@
 -- What is handed to the keeper.
-use Rattle.std.proofs.Common.{◌≡◌, ◌≢◌, refl, sym, ap, ◌∙◌, subst, arith, ℕ, ◌≤◌, Bool, true, false, ◌||◌, nat_eq, List, [], ◌∷◌, length, ℤ, Result, Err}
+use Rattle.std.proofs.Common.{◌≡◌, ◌≢◌, refl, sym, ap, ◌∙◌, subst, arith, ℕ, suc, Bool, true, false, ◌||◌, nat_eq, List, [], ◌∷◌, length, ℤ, Result, Ok, Err}
 use Rattle.std.proofs.Math.Logic.{∥∥₁_elim, ∥∥₁_map, ∥∥₁_prop}
 use Rattle.std.proofs.lemmas.Grind.{common_steps}
+use Rattle.std.specs.FinMap as maps
 use Rattle.std.specs.List.{AllByRecursion}
 use Rattle.std.specs.List.Sorted.{IsStrictlySortedBy}
 use Rattle.std.specs.Cmp.{int_cmp_total}
 use Rattle.std.specs.Ordering.{int_cmp, int_eq, is_eq, match_ordering}
-use Rattle.std.specs.declared.cmp.Ordering.{Ordering}
 use Rattle.std.specs.declared.cmp.Ordering.TheVariants.{Less, Equal, Greater}
 use Rattle.jiff_core.specs.declared.civil.date.Date.{Date}
 use Rattle.jiff_core.specs.Date.{epoch_day}
@@ -16,14 +16,23 @@ use Rattle.oe_keeper.specs.Keeping.{Stays, StaysSilent, HasAll}
 use Rattle.oe_keeper.specs.declared.change.RowChange.{RowChange}
 use Rattle.case_records.specs.declared.refusal.Refusal.{Refusal}
 use Rattle.case_records.specs.declared.refusal.Refusal.TheVariants as refusals
-use Rattle.desk_rules.specs.States.{State}
+use Rattle.case_records.specs.declared.outcome.Outcome.{Outcome}
+use Rattle.case_acts.specs.declared.effect.Step.{Step}
+use Rattle.desk_rules.specs.States.{State, empty, stepped, with_entry}
+use Rattle.desk_rules.specs.declared.entry.Entry.{Entry}
 use Rattle.desk_rows.specs.Rows.{AreRows}
+use Rattle.desk_rows.specs.Changes.{changes, Fits}
+use Rattle.desk_rows.proofs.Bare.{bare_rows}
+use Rattle.desk_rows.proofs.Keeping.{rows_kept}
 use Rattle.filing_desk.specs.Handed.{Told, Carry, Handed, Serves}
 use Rattle.filing_desk.specs.declared.answer.Answer.TheVariants as answers
 
+abbrev ok : {T : Type 0} → T → Result T Refusal
+ok x = Ok x
+
 module _ {K : Type 0} (Tells : K → Kept → Type 0) (IsLoaded : K → Type 0) (faults : K → ℕ) where
   -- the keeper was not asked
-  pub unasked : {T : Type 0} (k : K) (changes : List RowChange) (why : Refusal) → ∥ IsLoaded k ∥₁ → why ≢ refusals.KeeperFault → Handed {K} {T} Tells IsLoaded faults k k changes (Err why)
+  pub unasked : {T : Type 0} (k : K) (changes : List RowChange) (why : Refusal) → ∥ IsLoaded k ∥₁ → why ≢ refusals.KeeperFault → Handed {K = K} {T = T} Tells IsLoaded faults k k changes (Err why)
   unasked k changes why loaded other = record { done = tt; undone = λ s h. h; loaded = loaded; later = omega arith; cause = λ e. absurd (other e) }
 
   pub unserved : (k : K) (s : State) (why : Refusal) → ∥ IsLoaded k ∥₁ → why ≢ refusals.KeeperFault → Serves Tells IsLoaded faults k k s s (answers.Refused why)
@@ -42,9 +51,12 @@ module _ {K : Type 0} (Tells : K → Kept → Type 0) (old new : K) where
   told_still silent stays s told now is =
       ∥∥₁_elim (silent now is) ∥∥₁_prop (λ b. ∥∥₁_map (told b.0 b.1) (λ are. subst (λ (rows : Kept). AreRows s rows) (sym (stays b.0 now b.1 is)) are))
 
+some_number : (n : ℕ) → nat_eq (suc n) 0 ≡ false
+some_number n = grind (arith, common_steps)
+
 pub none_of : {A : Type 0} (xs : List A) → nat_eq (length xs) 0 ≡ is_none_of xs
 none_of [] = refl
-none_of (x ∷ xs) = refl
+none_of (x ∷ xs) = some_number (length xs)
 
 -- ---- a day that is closed already
 
@@ -72,3 +84,30 @@ closed_already d (c ∷ cs) rising is =
       | Equal ↦ λ e. refl
       | Greater ↦ λ e. ap (λ (l : List Date). c ∷ l) (closed_already d cs rising.1 (or_right (int_eq (epoch_day d) (epoch_day c)) (is_closed cs (epoch_day d)) is (ap is_eq e)))
     ] refl
+
+-- ---- a desk that holds nothing
+
+module _ {K : Type 0} (Tells : K → Kept → Type 0) (k : K) where
+  pub told_fresh : (tables : Kept) → ((now : Kept) → Tells k now → now ≡ tables) → maps.len tables ≡ 0 → Told Tells k empty
+  unfolding Told
+  told_fresh tables rows none now is = ∣ subst (λ (r : Kept). AreRows empty r) (sym (rows now is ∙ maps.empty_of_len tables none)) bare_rows ∣₁
+
+  pub told_by_none : (s : State) → ((rows : Kept) → Tells k rows → ⊥) → Told Tells k s
+  unfolding Told
+  told_by_none s none rows is = absurd (none rows is)
+
+  -- ---- an accepted request
+
+  pub carried : (s t : State) (e : Entry) (step : Step) (list : List RowChange) → ((rows : Kept) → Tells k rows → list ≡ changes s e step) → t ≡ with_entry e (stepped step s) → Fits s e step
+      → Carry Tells k s list t
+  unfolding Carry
+  carried s t e step list made is fits rows told are =
+      subst (λ (u : State). AreRows u (all_changed rows list)) (sym is)
+      (subst (λ (l : List RowChange). AreRows (with_entry e (stepped step s)) (all_changed rows l)) (sym (made rows told)) (rows_kept s e step rows fits are))
+
+module _ {K : Type 0} (Tells : K → Kept → Type 0) (IsLoaded : K → Type 0) (faults : K → ℕ) (old new : K) (s t : State) (list : List RowChange) where
+  pub served : {T : Type 0} (x : T) (number : ℕ) (outcome : Outcome) → Carry Tells old s list t → Handed Tells IsLoaded faults old new list (ok {T = T} x) → Serves Tells IsLoaded faults old new s t (answers.Accepted number outcome)
+  served x number outcome carry h = record { told = h.done s t carry; loaded = h.loaded; later = h.later; cause = tt }
+
+  pub not_served : {T : Type 0} (why : Refusal) → t ≡ s → Handed {T = T} Tells IsLoaded faults old new list (Err why) → Serves Tells IsLoaded faults old new s t (answers.Refused why)
+  not_served why same h = record { told = λ told. subst (λ (u : State). Told Tells new u) (sym same) (h.undone s told); loaded = h.loaded; later = h.later; cause = h.cause }

@@ -1,0 +1,11 @@
+use Rattle.std.proofs.Common.{Some, Option, sym, ap}
+use Rattle.case_records.specs.declared.case.KeptCase.{KeptCase}
+use Rattle.case_records.specs.declared.case.KeptList.{KeptList}
+use Rattle.filing_desk.proofs.RowFacts.{changed_found}
+use Rattle.filing_desk.proofs.desk.Desk.change_form.Goals as goal
+
+pub returns : goal.returns
+returns c =
+    let there = c.in-Some.case.now in
+    changed_found c.put_filing.result c.args.list.now c.put_filing.new.self c.args.number (λ (d : KeptCase). record d { form = Some c.args.day }) _ there (record there { form = Some c.args.day; list = c.in_ok-copy_of.field-0 }) (sym c.in-Some.ensures.value)
+    (ap (λ (l : Option KeptList). record there { form = Some c.args.day; list = l }) c.in_ok-copy_of.ensures) c.put_filing.ensures

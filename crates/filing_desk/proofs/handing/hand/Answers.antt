@@ -1,0 +1,38 @@
+use Rattle.std.proofs.Common.{subst, Err}
+use Rattle.oe_keeper.specs.Keeping.{IfFailed, Rose}
+use Rattle.oe_keeper.specs.declared.keeper.KeepErr.{KeepErr}
+use Rattle.filing_desk.proofs.Unasked.{told_on, told_still}
+use Rattle.filing_desk.proofs.handing.hand.Goals as goal
+
+pub returns-in-Ok-clause-handed : goal.returns-in-Ok-clause-handed
+returns-in-Ok-clause-handed g c =
+    let h = c.in-Ok.ensures in
+    record {
+      done = told_on g.K.Keeper.Tells c.args.keeper.now c.apply.new.self c.args.changes.now h.silent h.all;
+      undone = tt;
+      loaded = h.loaded;
+      later = h.cause.later;
+      cause = tt;
+    }
+
+pub returns-in-Err-Failed-clause-handed : goal.returns-in-Err-Failed-clause-handed
+returns-in-Err-Failed-clause-handed g c =
+    let h = c.in-Err-Failed.ensures in
+    record {
+      done = tt;
+      undone = told_still g.K.Keeper.Tells c.args.keeper.now c.apply.new.self h.silent h.none;
+      loaded = h.loaded;
+      later = h.cause.later;
+      cause = λ e. subst (λ (why : KeepErr). IfFailed {T = Unit {0}} (Err why) (Rose (g.K.Keeper.faults c.args.keeper.now) (g.K.Keeper.faults c.apply.new.self))) c.in-Err-Failed.field-0-is h.cause.failed;
+    }
+
+pub returns-in-Err-NoMemory-clause-handed : goal.returns-in-Err-NoMemory-clause-handed
+returns-in-Err-NoMemory-clause-handed g c =
+    let h = c.in-Err-NoMemory.ensures in
+    record {
+      done = tt;
+      undone = told_still g.K.Keeper.Tells c.args.keeper.now c.apply.new.self h.silent h.none;
+      loaded = h.loaded;
+      later = h.cause.later;
+      cause = λ e. absurd (cc (e));
+    }
