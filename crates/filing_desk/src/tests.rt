@@ -20,16 +20,11 @@ fn change_of(alloc: Global, line: &str) -> Option<Change> {
     }
 }
 
-// The number of the entry that the request is accepted as, or its refusal.
-fn answered(
-    alloc: Global,
-    clerk: &mut Clerk<MemoryKeeper>,
-    line: &str,
-) -> Option<Result<u64, Refusal>> {
-    let change = change_of(alloc, line)?;
-    match clerk.apply(alloc, &change) {
-        Answer::Accepted { entry, .. } => Some(Ok(entry)),
-        Answer::Refused(why) => Some(Err(why)),
+// The number of the entry that a request was accepted as, or its refusal.
+fn told(answer: &Answer) -> Result<u64, Refusal> {
+    match answer {
+        Answer::Accepted { entry, .. } => Ok(*entry),
+        Answer::Refused(why) => Err(*why),
     }
 }
 
@@ -55,7 +50,8 @@ fn what_the_keeper_did_not_keep_is_refused(rt: HostRuntime) -> Result<(), Fail> 
         ("abandon,u,3,1", Err(Refusal::KeeperFault)),
         ("abandon,u,3,1", Ok(3)),
     ] {
-        assert_eq!(rt; answered(alloc, &mut clerk, line), Some(answer));
+        let change = change_of(alloc, line).expect(&rt, "it is a change");
+        assert_eq!(rt; told(&clerk.apply(alloc, &change)), answer);
     }
     let mut keeper = clerk.into_keeper();
     let tables = keeper.load(alloc, None)?;
