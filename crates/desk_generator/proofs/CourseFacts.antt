@@ -26,7 +26,7 @@ each_last step n k c = let e : n - n ≡ 0 = omega arith in ap (λ m. each step 
 
 -- the desk is as the rules of the desk say, unless memory was wanting, where its keeper never fails
 pub went_on : (d : Decided) (k l : Clerking) (a : Answer) → Advances d k l a → HasCause k l a → l.faults ≡ 0 → a ≢ answers.Refused refusals.NoMemory → l.state ≡ after k.state d
-went_on d k l (answers.Accepted number outcome) h cause none n = h.1.0
+went_on d k l (answers.Accepted number outcome) h cause none n = h.1
 went_on d k l (answers.Refused why) h cause none n =
     let no = h.0 (λ e. n (ap answers.Refused e)) (λ e. never_rose k.faults l.faults (cause.failed e) none) in
-    h.1.0 ∙ sym (ap (after k.state) no)
+    h.1 ∙ sym (ap (after k.state) no)

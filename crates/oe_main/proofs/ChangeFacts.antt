@@ -48,14 +48,14 @@ memory_or_not refusals.NoFormDue = inr (λ e. cc (e))
 
 refused : (k l : Clerking) (q : Asked) (why : Refusal) (old new : List ℕ) → (why ≡ refusals.NoMemory) ⊎ (why ≢ refusals.NoMemory) → why ≢ refusals.KeeperFault
     → Advances (decision k.state q) k l (answers.Refused why) → new ≡ old ++ reply_text (change_reply (answers.Refused why)) → Tells k.state (requests.Change q) old new l.state
-refused k l q why old new (inl e) kept h t = NoRoom (t ∙ ap (λ (w : Refusal). old ++ reply_text (change_reply (answers.Refused w))) e) h.1.0
+refused k l q why old new (inl e) kept h t = NoRoom (t ∙ ap (λ (w : Refusal). old ++ reply_text (change_reply (answers.Refused w))) e) h.1
 refused k l q why old new (inr other) kept h t =
     Decided (change_reply (told (decision k.state q))) refl (t ∙ ap (λ d. old ++ reply_text (change_reply (told d))) (sym (h.0 other kept)))
-    (h.1.0 ∙ ap (after k.state) (sym (h.0 other kept)))
+    (h.1 ∙ ap (after k.state) (sym (h.0 other kept)))
 
 pub changed : (k l : Clerking) (q : Asked) (a : Answer) (old new : List ℕ) → Advances (decision k.state q) k l a → HasCause k l a → l.faults ≡ 0 → new ≡ old ++ reply_text (change_reply a)
     → Tells k.state (requests.Change q) old new l.state
 changed k l q (answers.Accepted number outcome) old new h cause none t =
-    Decided (change_reply (told (decision k.state q))) refl (t ∙ ap (λ r. old ++ reply_text (change_reply r)) (sym h.0)) h.1.0
+    Decided (change_reply (told (decision k.state q))) refl (t ∙ ap (λ r. old ++ reply_text (change_reply r)) (sym h.0)) h.1
 changed k l q (answers.Refused why) old new h cause none t =
     refused k l q why old new (memory_or_not why) (λ e. never_rose k.faults l.faults (cause.failed e) none) h t
