@@ -8,4 +8,4 @@ use Rattle.oe_main.proofs.fulfil.make_change.Goals as goal
 
 pub returns-clause-ok : goal.returns-clause-ok
 returns-clause-ok c =
-    on_ok c.append_reply.result (λ t. changed c.args.clerk.now c.apply.new.self c.args.change.now c.apply.result _ _ c.apply.ensures.answer c.apply.ensures.cause (sym c.keeper.ensures.faults) (t ∙ ap (λ (x : Reply). string_bytes c.args.text.now ++ reply_text x) c.reply_of.ensures)) c.append_reply.ensures.ok
+    on_ok c.append_reply.result (λ t. changed c.args.clerk.now c.apply-answer.new.self c.args.change.now c.apply-answer.result _ _ c.apply-answer.ensures.answer c.apply-answer.ensures.cause (sym c.keeper.ensures.faults) (t ∙ ap (λ (x : Reply). string_bytes c.args.text.now ++ reply_text x) c.reply_of.ensures)) c.append_reply.ensures.ok
