@@ -17,8 +17,3 @@ pub use airfields::{
 pub use amendment::{AmendRefusal, Amendment, Changed};
 pub use laws::other_airfields_stay;
 pub use register::{MOST_AIRFIELDS, Register};
-
-#[cfg(test)]
-mod limit_tests;
-#[cfg(test)]
-mod tests;

@@ -17,6 +17,3 @@ pub use drawing::DrawnAirport;
 pub use draws::Draws;
 pub use generator::{COUNT_LIMIT, MOST_AIRPORTS, generated};
 pub use tally::Tally;
-
-#[cfg(test)]
-mod tests;

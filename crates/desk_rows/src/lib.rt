@@ -9,6 +9,3 @@ mod laws;
 
 pub use change_list::ChangeList;
 pub use laws::{keeps_rows, no_rows, one_rows};
-
-#[cfg(test)]
-mod tests;

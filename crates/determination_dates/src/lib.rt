@@ -34,6 +34,3 @@ pub use notice::{FORM_DAYS, NOTICE_DAYS, fcc_late, timeliness};
 pub use standing::status;
 pub use text::{date_bytes, read_date};
 pub use timely::Timeliness;
-
-#[cfg(test)]
-mod tests;

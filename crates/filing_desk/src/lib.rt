@@ -23,6 +23,3 @@ mod view;
 pub use answer::Answer;
 pub use clerk::Clerk;
 pub use opening::FreshRefusal;
-
-#[cfg(test)]
-mod tests;

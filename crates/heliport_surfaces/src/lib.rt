@@ -21,8 +21,3 @@ pub use laws::{
 };
 pub use pad::Pad;
 pub use parts::{Beside, PadEnd, PadExcesses};
-
-#[cfg(test)]
-mod area_tests;
-#[cfg(test)]
-mod tests;

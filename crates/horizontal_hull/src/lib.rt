@@ -9,8 +9,6 @@ mod capsule;
 mod edge;
 mod guess;
 mod hull;
-#[cfg(test)]
-mod hull_tests;
 mod laws;
 mod rise;
 mod sizes;

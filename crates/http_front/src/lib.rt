@@ -8,6 +8,3 @@ mod status;
 pub use front::Routed;
 pub use laws::reply_status;
 pub use status::{CONFLICT, MALFORMED_RECORD, NOT_ALLOWED, NOT_FOUND, NOT_KEPT, OK};
-
-#[cfg(test)]
-mod tests;

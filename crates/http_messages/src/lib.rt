@@ -19,6 +19,3 @@ pub use response::{SendErr, write_response};
 pub use status::{
     BODY_TOO_LARGE, HEAD_TOO_LARGE, LENGTH_WANTED, MALFORMED, NO_MEMORY, NO_TRANSFER_ENCODING,
 };
-
-#[cfg(test)]
-mod tests;

@@ -6,6 +6,3 @@ mod replying;
 
 pub use link::session;
 pub use replying::{Replying, Response};
-
-#[cfg(test)]
-mod tests;

@@ -25,10 +25,3 @@ pub use laws::{
 pub use measures::{SECOND_SLOPE_DROP, TRANSITION_REACH, TRANSITION_SLOPE};
 pub use runway_lines::End;
 pub use strip::Strip;
-
-#[cfg(test)]
-mod area_tests;
-#[cfg(test)]
-mod tests;
-#[cfg(test)]
-mod transition_tests;

@@ -16,6 +16,3 @@ mod site;
 pub use append::append_filing_row;
 pub use filing::{FilingRow, append_filing_key, read_filing_row};
 pub use laws::one_filing_row;
-
-#[cfg(test)]
-mod tests;

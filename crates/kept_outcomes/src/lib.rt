@@ -16,6 +16,3 @@ mod read;
 pub use laws::one_outcome;
 pub use number::read_number;
 pub use read::read_outcome;
-
-#[cfg(test)]
-mod tests;

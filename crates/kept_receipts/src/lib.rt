@@ -9,6 +9,3 @@ mod receipt;
 
 pub use laws::one_receipt_row;
 pub use receipt::{ReceiptRow, append_receipt_key, append_receipt_row, read_receipt_row};
-
-#[cfg(test)]
-mod tests;

@@ -19,6 +19,3 @@ pub use groups::point;
 pub use laws::{one_airfield_row, one_desk_row, one_runway_row};
 pub use parts::Parts;
 pub use runway::{RunwayRow, append_runway_key, append_runway_row, read_runway_row};
-
-#[cfg(test)]
-mod tests;

@@ -14,6 +14,3 @@ pub use reopened::{Opened, load_opened};
 pub use schema::has_shape;
 pub use stop::Stop;
 pub use told::{change_told, load_again};
-
-#[cfg(test)]
-mod tests;

@@ -12,6 +12,3 @@ pub use runway_notice::{
     RANGE_B1, RANGE_B2, RATIO_B1, RATIO_B2, SLOPE_REACH, Slope, Sub, excess_notice, notice_slope_is,
 };
 pub use without_notice::{LOW_ANTENNA, exempt};
-
-#[cfg(test)]
-mod tests;

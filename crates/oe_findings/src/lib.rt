@@ -11,6 +11,3 @@ mod surroundings;
 
 pub use airfield_findings::{Finding, Findings, Rule, SurfaceKey, Verdict};
 pub use sky::Sky;
-
-#[cfg(test)]
-mod tests;

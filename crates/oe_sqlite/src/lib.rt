@@ -7,6 +7,3 @@ mod place;
 
 pub use keeper::{SqliteKeeper, StoreKeeper};
 pub use opens::{HostFiles, Opens};
-
-#[cfg(test)]
-mod tests;

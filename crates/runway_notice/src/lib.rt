@@ -21,6 +21,3 @@ pub use laws::notice_slope_is;
 pub use lone_runway::LoneRunway;
 pub use notice::{SLOPE_REACH, excess_notice};
 pub use slope::{RANGE_B1, RANGE_B2, RATIO_B1, RATIO_B2, Slope, Sub};
-
-#[cfg(test)]
-mod tests;

@@ -15,8 +15,6 @@ mod level;
 mod part;
 mod placed;
 mod square;
-#[cfg(test)]
-mod tests;
 mod tree;
 mod visit;
 mod visitor;

@@ -6,6 +6,3 @@
 mod write;
 
 pub use write::write_request;
-
-#[cfg(test)]
-mod tests;

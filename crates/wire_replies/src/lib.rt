@@ -26,8 +26,3 @@ pub use outcomes::append_outcome;
 pub use replies::{append_airfield, append_found, append_reply, write_reply};
 pub use reply::Reply;
 pub use wire_values::Plain;
-
-#[cfg(test)]
-mod case_tests;
-#[cfg(test)]
-mod tests;

@@ -22,10 +22,3 @@ pub use laws::{canonical_line, first_bad_field, one_reading};
 pub use read::{RecordReader, read_record};
 pub use request::{Change, Query, ReadRefusal, Request};
 pub use wire_values::ReportKind;
-
-#[cfg(test)]
-mod case_tests;
-#[cfg(test)]
-mod question_tests;
-#[cfg(test)]
-mod tests;

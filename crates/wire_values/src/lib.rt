@@ -25,6 +25,3 @@ pub use numbers::{WholeNumber, number_within};
 pub use plain::Plain;
 pub use report::ReportKind;
 pub use word::{WORD_LIMIT, Word};
-
-#[cfg(test)]
-mod tests;

@@ -1,0 +1,21 @@
+//! Worked values of dates, of the rows that a desk keeps, of the clerk over a keeper, and of the generator.
+#![tactic(auto)]
+
+#[cfg(test)]
+mod clerk_tests;
+#[cfg(test)]
+mod date_tests;
+#[cfg(test)]
+mod desk_row_tests;
+#[cfg(test)]
+mod filing_row_tests;
+#[cfg(test)]
+mod generator_tests;
+#[cfg(test)]
+mod kept_row_tests;
+#[cfg(test)]
+mod outcome_tests;
+#[cfg(test)]
+mod receipt_row_tests;
+#[cfg(test)]
+mod written_change_tests;

@@ -1,0 +1,9 @@
+//! Requests and answers over links in memory.
+#![tactic(auto)]
+
+#[cfg(test)]
+mod front_tests;
+#[cfg(test)]
+mod message_tests;
+#[cfg(test)]
+mod session_tests;

@@ -1,0 +1,148 @@
+//! Sessions over links in memory, with reads and writes that fail.
+
+ghost use Rattle.std.specs.Prelude.{◌≡◌, ◌≤◌, ◌<◌, ◌+◌, ◌-◌, ◌^◌, ◌++◌, [], Some, None, min};
+ghost use Rattle.oe_http.specs.Fakes.{bytes_held, bytes_left};
+ghost use Rattle.http_session.specs.Endings.{EndsSo};
+
+use grid_exact::{Bytes, NoMemory};
+use http::Method;
+use http_session::{Replying, Response, session};
+use oe_http::{FakeLink, FakeSink, FakeSource};
+use oe_session::Ended;
+use std::alloc::Global;
+use std::marker::Model;
+use std::test::Fail;
+
+/// Replies to a request by its target and its body, and counts the requests. For a body that is no text it has no memory.
+#[derive(Drop)]
+struct Echo {
+    requests: u64,
+}
+
+impl Model for Echo {
+    ghost use Rattle.std.specs.Prelude.{ℕ};
+
+    ghost Value = { ℕ };
+
+    ghost view = { λ e. e.requests };
+}
+
+impl Replying for Echo {
+    ghost use Rattle.std.specs.Prelude.{◌≡◌, ◌+◌, ◌-◌, ◌^◌, ◌++◌, None, min};
+
+    ghost step = { λ s asked reply t. (t ≡ min (s + 1) (2 ^ 64 - 1)) × (reply.status ≡ 200) × (reply.allow ≡ None) × (reply.body ≡ asked.target ++ asked.body) };
+
+    fn reply(
+        &mut self,
+        _alloc: Global,
+        _method: &Method,
+        target: &[u8],
+        body: &[u8],
+        text: &mut String,
+    ) -> Result<Response, NoMemory> {
+        self.requests = self.requests.saturating_add(1);
+        let Ok(place) = str::from_utf8(target) else {
+            return Err(NoMemory);
+        };
+        let Ok(words) = str::from_utf8(body) else {
+            return Err(NoMemory);
+        };
+        text.push_str(place)?;
+        text.push_str(words)?;
+        Ok(Response {
+            status: 200,
+            allow: None,
+        })
+    }
+}
+
+/// A session at a concrete link, which tells all of its bytes.
+fn echo_all(alloc: Global, desk: &mut Echo, link: &mut FakeLink) -> Ended
+    ensures { EndsSo ⟦<Echo as Replying>⟧.step result desk.old desk.new (Some (bytes_left link.old.source)) (Some (bytes_held link.old.sink)) (Some (bytes_held link.new.sink)) }
+{
+    session(alloc, desk, link)
+}
+
+const A: &[u8] = b"GET /a HTTP/1.1\r\n\r\n";
+
+const A_TOLD: &str = "HTTP/1.1 200 OK\r\nContent-Type: text/plain\r\nContent-Length: 2\r\n\r\n/a";
+
+#[test]
+fn requests_are_replied_to_in_order_until_the_session_ends(rt: HostRuntime) -> Result<(), Fail> {
+    let alloc = rt.alloc();
+    // what comes behind the first request, how much in one read, the read and the write that fail (none: 0), how the session ends,
+    // and what is written behind the first response
+    let table = [
+        (b"".as_slice(), 1, 0, 0, Ended::Closed, ""),
+        (
+            b"\r\nPOST /b HTTP/1.1\r\ncontent-length: 3\r\n\r\nabc".as_slice(),
+            4096,
+            0,
+            0,
+            Ended::Closed,
+            "HTTP/1.1 200 OK\r\nContent-Type: text/plain\r\nContent-Length: 5\r\n\r\n/babc",
+        ),
+        (
+            b"GET /b HTTP/1.1\r\nConnection: CLOSE\r\n\r\nGET /c HTTP/1.1\r\n\r\n".as_slice(),
+            1,
+            0,
+            0,
+            Ended::Closed,
+            "HTTP/1.1 200 OK\r\nContent-Type: text/plain\r\nContent-Length: 2\r\nConnection: close\r\n\r\n/b",
+        ),
+        (
+            b"POST /b HTTP/1.1\r\ncontent-length: 3\r\n\r\nab".as_slice(),
+            7,
+            0,
+            0,
+            Ended::Truncated,
+            "",
+        ),
+        (
+            b"POST /b HTTP/1.1\r\n\r\nGET /c HTTP/1.1\r\n\r\n".as_slice(),
+            7,
+            0,
+            0,
+            Ended::Refused(411),
+            "HTTP/1.1 411 Length Required\r\nContent-Type: text/plain\r\nContent-Length: 0\r\nConnection: close\r\n\r\n",
+        ),
+        (
+            b"GET /b HTTP/1.1\r\n\r\n".as_slice(),
+            19,
+            2,
+            0,
+            Ended::ReadFault,
+            "",
+        ),
+        (
+            b"GET /b HTTP/1.1\r\n\r\n".as_slice(),
+            19,
+            0,
+            2,
+            Ended::WriteFault,
+            "",
+        ),
+        // want of memory is told, and the session ends
+        (
+            b"POST /b HTTP/1.1\r\ncontent-length: 1\r\n\r\n\xffGET /c HTTP/1.1\r\n\r\n".as_slice(),
+            4096,
+            0,
+            0,
+            Ended::NoMemory,
+            "HTTP/1.1 507 Insufficient Storage\r\nContent-Type: text/plain\r\nContent-Length: 0\r\nConnection: close\r\n\r\n",
+        ),
+    ];
+    for (more, most, read, write, ended, told) in table {
+        let mut bytes = A.to_vec(alloc)?;
+        bytes.extend_from_slice(more)?;
+        let source = FakeSource::new(Bytes::from_vec(bytes), most.max(1), vec![in alloc; read]?);
+        let mut link = FakeLink::new(source, FakeSink::new(alloc, 1000, vec![in alloc; write]?)?);
+        assert_eq!(rt;
+            echo_all(alloc, &mut Echo { requests: 0 }, &mut link),
+            ended
+        );
+        let wanted = format!(in alloc; "{A_TOLD}{told}")?;
+        assert_eq!(rt; link.sink().bytes(), wanted.as_bytes());
+    }
+    Ok(())
+}

@@ -1,0 +1,278 @@
+//! Trees of a few areas: each call, and visits beside a list that is asked item by item.
+
+ghost use Rattle.std.specs.Prelude.{◌≡◌, ◌<◌, ◌≤ℤ◌, pos, IsTrue, false, map};
+ghost use Rattle.surface_tree.specs.Levels.{IsPlaced};
+
+use grid_exact::{Area, Point, Steps};
+use std::alloc::Global;
+use std::marker::Brand;
+use std::sync::Arc;
+use std::sync::ledger::{Blank, Ledger};
+use std::test::Fail;
+use surface_tree::{PLANE_LIMIT, Placed, Tree, Visitor};
+
+/// An area with a number.
+#[derive(Drop)]
+struct Plot {
+    number: u32,
+    area: Area,
+}
+
+impl Placed for Plot {
+    type Key = u32;
+
+    ghost area_of = { λ p. p.area };
+
+    ghost key_of = { λ p. p.number };
+
+    fn area(&self) -> Area {
+        self.area
+    }
+
+    fn key(&self) -> u32 {
+        self.number
+    }
+}
+
+/// The numbers of the plots that were seen, all of them where memory was not refused.
+#[derive(Drop)]
+struct Numbers {
+    seen: Vec<u32>,
+    refused: bool,
+}
+
+impl Visitor<Plot> for Numbers {
+    ghost seen = { λ _ v plots. v.refused ≡ false → v.seen.items ≡ map (λ p. p.number) plots };
+
+    fn item(&mut self, plot: &Plot) {
+        if self.seen.push(plot.number).is_err() {
+            self.refused = true;
+        }
+    }
+}
+
+/// An area is not in the plane.
+#[derive(Clone, Copy, Debug)]
+struct NotPlaced;
+
+fn is_placed(area: &Area) -> bool
+    ensures { IsTrue result → IsPlaced area.now }
+{
+    if area.x0 > area.x1
+        || area.y0 > area.y1
+        || area.x0 < -PLANE_LIMIT
+        || area.y0 < -PLANE_LIMIT
+        || area.x1 >= PLANE_LIMIT
+        || area.y1 >= PLANE_LIMIT
+    {
+        return false;
+    }
+    true
+}
+
+/// The tree with the area under the number.
+fn with(alloc: Global, tree: &Tree<Plot>, number: u32, area: &Area) -> Result<Tree<Plot>, Fail> {
+    if !is_placed(area) {
+        Err(NotPlaced)?;
+    }
+    let plot = Plot {
+        number,
+        area: *area,
+    };
+    Ok(tree.with(alloc, Arc::new(alloc, plot)?)?)
+}
+
+fn visited<L: Ledger>(
+    alloc: Global,
+    tree: &Tree<Plot>,
+    point: &Point,
+    blank: Blank,
+) -> Result<Vec<u32>, Fail>
+    requires name { blank.name ≡ L.name }
+    requires parts { blank.parts ≡ L.parts }
+    requires some { 0 < L.parts }
+{
+    let mut steps = Steps::<L>::new(blank);
+    let mut numbers = Numbers {
+        seen: Vec::new(alloc),
+        refused: false,
+    };
+    tree.visit(point, &mut numbers, &mut steps);
+    numbers.seen.sort()?;
+    Ok(numbers.seen)
+}
+
+/// The numbers of the areas that have the point, in rising order.
+fn seen(alloc: Global, tree: &Tree<Plot>, point: &Point) -> Result<Vec<u32>, Fail> {
+    visited::<Brand>(alloc, tree, point, Blank::new(1))
+}
+
+/// Areas of many sizes, on the sides of squares, in the corners of the plane and over all of it.
+const AREAS: [Area; 12] = [
+    Area {
+        x0: 0,
+        y0: 0,
+        x1: 0,
+        y1: 0,
+    },
+    Area {
+        x0: -1,
+        y0: -1,
+        x1: 0,
+        y1: 0,
+    },
+    Area {
+        x0: -4_096,
+        y0: 0,
+        x1: 0,
+        y1: 4_096,
+    },
+    Area {
+        x0: -4_097,
+        y0: -1,
+        x1: 0,
+        y1: 4_096,
+    },
+    Area {
+        x0: -100_000,
+        y0: -100_000,
+        x1: 100_000,
+        y1: 100_000,
+    },
+    Area {
+        x0: -363_963,
+        y0: -363_963,
+        x1: 363_963,
+        y1: 363_963,
+    },
+    Area {
+        x0: 200_000,
+        y0: -500_000,
+        x1: 1_800_000,
+        y1: 500_000,
+    },
+    Area {
+        x0: -3_000_000,
+        y0: -3_000_000,
+        x1: 3_000_000,
+        y1: 3_000_000,
+    },
+    Area {
+        x0: -33_554_432,
+        y0: -33_554_432,
+        x1: 33_554_431,
+        y1: 33_554_431,
+    },
+    Area {
+        x0: -20_000_000,
+        y0: 19_999_999,
+        x1: -19_999_999,
+        y1: 20_000_000,
+    },
+    Area {
+        x0: 19_000_000,
+        y0: 19_000_000,
+        x1: 33_554_431,
+        y1: 20_000_000,
+    },
+    Area {
+        x0: 262_144,
+        y0: -262_144,
+        x1: 524_288,
+        y1: -1,
+    },
+];
+
+const POINTS: [(i64, i64); 18] = [
+    (0, 0),
+    (-1, 0),
+    (0, -1),
+    (1, 1),
+    (-4_096, 4_096),
+    (-4_097, 4_096),
+    (-4_098, 0),
+    (100_000, -100_000),
+    (100_001, 0),
+    (363_963, -1),
+    (363_964, 0),
+    (524_288, -262_144),
+    (1_800_000, -500_000),
+    (1_800_001, 0),
+    (-3_000_000, 3_000_000),
+    (-3_000_001, 0),
+    (-20_000_000, 20_000_000),
+    (20_000_000, 20_000_000),
+];
+
+#[test]
+fn visits_beside_a_list(rt: HostRuntime) -> Result<(), Fail> {
+    let alloc = rt.alloc();
+    let mut tree = Tree::<Plot>::empty(alloc);
+    for (number, area) in AREAS.iter().enumerate() {
+        tree = with(alloc, &tree, number as u32, area)?;
+    }
+    for (x, y) in POINTS {
+        let point = Point::new(x, y)?;
+        let mut numbers = Vec::new(alloc);
+        for (number, area) in AREAS.iter().enumerate() {
+            if area.has(&point) {
+                numbers.push(number as u32)?;
+            }
+        }
+        let hits = seen(alloc, &tree, &point)?;
+        assert_eq!(rt; hits, numbers, "at {x} and {y}");
+    }
+    Ok(())
+}
+
+/// An area 1,000 tenths of a foot wide and high.
+fn small(west: i64, south: i64) -> Area
+    requires west { west ≤ℤ pos 20000000 }
+    requires south { south ≤ℤ pos 20000000 }
+{
+    Area {
+        x0: west,
+        y0: south,
+        x1: west + 1_000,
+        y1: south + 1_000,
+    }
+}
+
+/// Two areas side by side, under 7 and 3.
+fn two_plots(alloc: Global) -> Result<Tree<Plot>, Fail> {
+    let one = with(alloc, &Tree::empty(alloc), 7, &small(500, 500))?;
+    with(alloc, &one, 3, &small(0, 0))
+}
+
+/// The numbers of the areas that have a point of both areas of `two_plots`.
+fn near(alloc: Global, tree: &Tree<Plot>) -> Result<Vec<u32>, Fail> {
+    seen(alloc, tree, &Point::new(700, 700)?)
+}
+
+#[test]
+fn another_area(rt: HostRuntime) -> Result<(), Fail> {
+    let two = two_plots(rt.alloc())?;
+    let moved = with(rt.alloc(), &two, 7, &small(-9_000_000, 9_000_000))?;
+    assert_eq!(rt; near(rt.alloc(), &two)?.as_slice(), [3, 7].as_slice());
+    assert_eq!(rt; near(rt.alloc(), &moved)?.as_slice(), [3].as_slice());
+    let far = Point::new(-8_999_500, 9_000_500)?;
+    assert_eq!(rt; seen(rt.alloc(), &two, &far)?.len(), 0);
+    assert_eq!(rt; seen(rt.alloc(), &moved, &far)?.as_slice(), [7].as_slice());
+    Ok(())
+}
+
+#[test]
+fn taken_out(rt: HostRuntime) -> Result<(), Fail> {
+    let two = two_plots(rt.alloc())?;
+    let plot = Plot {
+        number: 3,
+        area: small(500, 500),
+    };
+    let left = two.without(rt.alloc(), &plot)?;
+    assert_eq!(rt; near(rt.alloc(), &left)?.as_slice(), [7].as_slice());
+    assert_eq!(rt;
+        near(rt.alloc(), &two.share()?)?.as_slice(),
+        [3, 7].as_slice()
+    );
+    Ok(())
+}
