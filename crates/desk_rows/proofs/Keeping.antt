@@ -40,7 +40,7 @@ moved IsName key row old new same are = record { there = λ n h. same (key n) �
 -- ---- one row is put
 
 module _ (f : Bool) (s : State) (kept : Kept) (are : AreTables f s kept) (key row : List ℕ) where
-  desk_put : (g : Bool) (day : Option Date) (closed : List Date) → AreDays g day closed (found_in (maps.insert kept (2, key) row) tables.Desk)
+  pub desk_put : (g : Bool) (day : Option Date) (closed : List Date) → AreDays g day closed (found_in (maps.insert kept (2, key) row) tables.Desk)
       → AreTables g (record s { day = day; closed = closed }) (maps.insert kept (2, key) row)
   desk_put g day closed days = record {
     airfields = moved _ _ _ _ _ (λ q. put_beside kept tables.Desk key row 0 q (λ e. absurd (cc (e)))) are.airfields;
@@ -51,7 +51,7 @@ module _ (f : Bool) (s : State) (kept : Kept) (are : AreTables f s kept) (key ro
     only = λ n q l. put_beside kept tables.Desk key row n q (λ e. absurd (omega (arith, l, e))) ∙ are.only n q l;
   }
 
-  case_put : (cases : List KeptCase) → AreFilings cases (found_in (maps.insert kept (3, key) row) tables.Filing) → AreTables f (record s { cases = cases }) (maps.insert kept (3, key) row)
+  pub case_put : (cases : List KeptCase) → AreFilings cases (found_in (maps.insert kept (3, key) row) tables.Filing) → AreTables f (record s { cases = cases }) (maps.insert kept (3, key) row)
   case_put cases filings = record {
     airfields = moved _ _ _ _ _ (λ q. put_beside kept tables.Filing key row 0 q (λ e. absurd (cc (e)))) are.airfields;
     runways = moved _ _ _ _ _ (λ q. put_beside kept tables.Filing key row 1 q (λ e. absurd (cc (e)))) are.runways;
@@ -61,7 +61,7 @@ module _ (f : Bool) (s : State) (kept : Kept) (are : AreTables f s kept) (key ro
     only = λ n q l. put_beside kept tables.Filing key row n q (λ e. absurd (omega (arith, l, e))) ∙ are.only n q l;
   }
 
-  entry_put : (entries : List Entry) → AreReceipts entries (found_in (maps.insert kept (4, key) row) tables.Receipt) → AreTables f (record s { entries = entries }) (maps.insert kept (4, key) row)
+  pub entry_put : (entries : List Entry) → AreReceipts entries (found_in (maps.insert kept (4, key) row) tables.Receipt) → AreTables f (record s { entries = entries }) (maps.insert kept (4, key) row)
   entry_put entries receipts = record {
     airfields = moved _ _ _ _ _ (λ q. put_beside kept tables.Receipt key row 0 q (λ e. absurd (cc (e)))) are.airfields;
     runways = moved _ _ _ _ _ (λ q. put_beside kept tables.Receipt key row 1 q (λ e. absurd (cc (e)))) are.runways;
@@ -84,7 +84,7 @@ case_stepped f s kept number g (Some c) are most at =
     case_put f s kept are (case_key number) (filing_row (g c)) (with_case number g s.cases)
     (filing_changed number g s.cases c _ _ are.filings most at (put_in kept tables.Filing (case_key number) (filing_row (g c))))
 
-step_kept : (f : Bool) (s : State) (e : Entry) (step : Step) (kept : Kept) → Fits s e step → AreTables f s kept → AreTables f (stepped step s) (all_changed kept (step_changes s step))
+pub step_kept : (f : Bool) (s : State) (e : Entry) (step : Step) (kept : Kept) → Fits s e step → AreTables f s kept → AreTables f (stepped step s) (all_changed kept (step_changes s step))
 step_kept f s e (steps.Amended a) kept fits are =
     let now : AreAmended (after_amendment s.register a) kept (all_changed kept (amendment_changes s.register a)) =
     amended_rows s.register kept a are.airfields are.runways fits.named (unrefused (first_broken s.register a) fits.allowed) in

@@ -1,5 +1,5 @@
 -- A state has one set of rows.
-use Rattle.std.proofs.Common.{◌≡◌, ◌≢◌, refl, sym, ap, ◌∙◌, subst, arith, ℕ, zero, suc, List, Option, Some, None, Bool, true, false}
+use Rattle.std.proofs.Common.{◌≡◌, ◌≢◌, refl, sym, ap, ◌∙◌, subst, arith, ℕ, zero, suc, List, Option, Some, None, Bool, true, false, not}
 use Rattle.std.specs.FinMap as maps
 use Rattle.std.specs.Str.{bytes_eq}
 use Rattle.std.proofs.lemmas.Slice.Eq.{bytes_eq-Decides}
@@ -8,7 +8,7 @@ use Rattle.oe_keeper.specs.declared.change.Table.TheVariants as tables
 use Rattle.oe_keeper.proofs.Keys.{key_cmp-same}
 use Rattle.desk_rules.specs.States.{State}
 use Rattle.desk_rows.specs.Tables.{Found, AreNamed, found_in}
-use Rattle.desk_rows.specs.Rows.{AreRows}
+use Rattle.desk_rows.specs.Rows.{AreRows, AreTables, is_bare}
 
 -- whether two texts that are found or not are the same
 abbrev are_same : Option (List ℕ) → Option (List ℕ) → Bool
@@ -39,13 +39,16 @@ module _ {N : Type 0} (IsName : N → Type 0) (key : N → List ℕ) (row : N �
   one_table : AreNamed IsName key row f → AreNamed IsName key row g → (text : List ℕ) → f text ≡ g text
   one_table h k text = one_by text (are_same (f text) (g text)) refl h k
 
-one_at : (s : State) (a b : Kept) → AreRows s a → AreRows s b → (t : ℕ) (text : List ℕ) → maps.get a (t, text) ≡ maps.get b (t, text)
-one_at s a b h k zero text = one_table _ _ _ (found_in a tables.Airfield) (found_in b tables.Airfield) h.airfields k.airfields text
-one_at s a b h k (suc zero) text = one_table _ _ _ (found_in a tables.Runway) (found_in b tables.Runway) h.runways k.runways text
-one_at s a b h k (suc (suc zero)) text = one_table _ _ _ (found_in a tables.Desk) (found_in b tables.Desk) h.days k.days text
-one_at s a b h k (suc (suc (suc zero))) text = one_table _ _ _ (found_in a tables.Filing) (found_in b tables.Filing) h.filings k.filings text
-one_at s a b h k (suc (suc (suc (suc zero)))) text = one_table _ _ _ (found_in a tables.Receipt) (found_in b tables.Receipt) h.receipts k.receipts text
-one_at s a b h k (suc (suc (suc (suc (suc t))))) text = h.only _ text (omega arith) ∙ sym (k.only _ text (omega arith))
+one_at : (f : Bool) (s : State) (a b : Kept) → AreTables f s a → AreTables f s b → (t : ℕ) (text : List ℕ) → maps.get a (t, text) ≡ maps.get b (t, text)
+one_at f s a b h k zero text = one_table _ _ _ (found_in a tables.Airfield) (found_in b tables.Airfield) h.airfields k.airfields text
+one_at f s a b h k (suc zero) text = one_table _ _ _ (found_in a tables.Runway) (found_in b tables.Runway) h.runways k.runways text
+one_at f s a b h k (suc (suc zero)) text = one_table _ _ _ (found_in a tables.Desk) (found_in b tables.Desk) h.days k.days text
+one_at f s a b h k (suc (suc (suc zero))) text = one_table _ _ _ (found_in a tables.Filing) (found_in b tables.Filing) h.filings k.filings text
+one_at f s a b h k (suc (suc (suc (suc zero)))) text = one_table _ _ _ (found_in a tables.Receipt) (found_in b tables.Receipt) h.receipts k.receipts text
+one_at f s a b h k (suc (suc (suc (suc (suc t))))) text = h.only _ text (omega arith) ∙ sym (k.only _ text (omega arith))
+
+pub one_tables : (f : Bool) (s : State) (a b : Kept) → AreTables f s a → AreTables f s b → a ≡ b
+one_tables f s a b h k = maps.same_map key_cmp_total key_cmp-same a b (λ q. one_at f s a b h k q.0 q.1)
 
 pub one_rows : (s : State) (a b : Kept) → AreRows s a → AreRows s b → a ≡ b
-one_rows s a b h k = maps.same_map key_cmp_total key_cmp-same a b (λ q. one_at s a b h k q.0 q.1)
+one_rows s a b h k = one_tables (not (is_bare s)) s a b h k
