@@ -1,6 +1,6 @@
 //! What keeps the tables.
 
-ghost use Rattle.std.specs.Prelude.{◌≡◌, false, ℕ, IfOk, OnOk, OnErr};
+ghost use Rattle.std.specs.Prelude.{◌≡◌, false, ℕ, List, Option, IfOk, OnOk, OnErr, option_copied};
 ghost use Rattle.oe_keeper.specs.Kept.{Kept};
 ghost use Rattle.oe_keeper.specs.Keeping.{Stays, StaysSilent, HasAll, HasCause, IfFailed};
 
@@ -38,6 +38,9 @@ pub trait Keeper {
     /// How often it has failed. It never falls.
     ghost faults: { Self → ℕ };
 
+    /// A load may find these rows at this place.
+    ghost Finds: { Self → Option (List ℕ) → Kept → Type 0 };
+
     /// It may be handed changes, since its last `load` answered Ok.
     ghost IsLoaded: { Self → Type 0 };
 
@@ -52,6 +55,7 @@ pub trait Keeper {
     ///
     /// `Failed` only where its count of faults rose, `NoMemory` where memory was refused.
     fn load(&mut self, alloc: Global, place: Option<&str>) -> Result<Tables, KeepErr>
+        ensures found { IfOk result (λ rows. Finds self.old (option_copied place.entry) rows) }
         ensures rows { IfOk result (λ rows. (now : Kept) → Tells self.new now → now ≡ rows) }
         ensures stays { Stays Tells self.old self.new }
         ensures silent { OnErr result (StaysSilent Tells self.old self.new) }

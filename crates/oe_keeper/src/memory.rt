@@ -77,11 +77,14 @@ impl Keeper for MemoryKeeper {
 
     ghost faults = { λ k. k.faults };
 
+    ghost Finds = { λ k _ rows. rows ≡ k.tables };
+
     ghost IsLoaded = { λ k. Unit {0} };
 
     ghost IsSteady = { IsUnfailing };
 
     fn load(&mut self, alloc: Global, _place: Option<&str>) -> Result<Tables, KeepErr>
+        ensures found { IfOk result (λ rows. rows ≡ self.old.tables) }
         ensures rows { IfOk result (λ rows. (now : Kept) → HasRows self.new now → now ≡ rows) }
         ensures stays { Stays HasRows self.old self.new }
         ensures silent { OnErr result (StaysSilent HasRows self.old self.new) }

@@ -124,11 +124,14 @@ impl<O: Opens> Keeper for StoreKeeper<O> {
 
     ghost faults = { λ k. k.faults };
 
+    ghost Finds = { λ k place rows. Unit {0} };
+
     ghost IsLoaded = { λ k. Unit {0} };
 
     ghost IsSteady = { λ k. ⊥ };
 
     fn load(&mut self, alloc: Global, place: Option<&str>) -> Result<Tables, KeepErr>
+        ensures found { IfOk result (λ rows. Unit {0}) }
         ensures rows { IfOk result (λ rows. (now : Kept) → TellsWith self.new.is_told self.new.place now → now ≡ rows) }
         ensures stays { Stays (λ k. TellsWith k.is_told k.place) self.old self.new }
         ensures silent { OnErr result (StaysSilent (λ k. TellsWith k.is_told k.place) self.old self.new) }

@@ -1,6 +1,7 @@
 //! The keeper of nothing.
 
 ghost use Rattle.std.specs.Prelude.{◌≡◌, false, IfOk, OnOk, OnErr};
+ghost use Rattle.std.specs.FinMap as maps;
 ghost use Rattle.oe_keeper.specs.Kept.{Kept};
 ghost use Rattle.oe_keeper.specs.Keeping.{Stays, StaysSilent, HasAll, HasCause, IfFailed};
 
@@ -15,6 +16,8 @@ impl Keeper for NoKeeper {
     ghost Tells = { λ k rows. ⊥ };
 
     ghost faults = { λ k. 0 };
+
+    ghost Finds = { λ k _ rows. rows ≡ maps.empty };
 
     ghost IsLoaded = { λ k. Unit {0} };
 

@@ -3,7 +3,7 @@
 ghost use Rattle.std.specs.Prelude.{◌≡◌, false, IsTrue, IfOk, OnOk, OnErr};
 ghost use Rattle.oe_keeper.specs.Kept.{Kept};
 ghost use Rattle.oe_keeper.specs.Keeping.{Stays, StaysSilent, HasAll, HasCause, IfFailed};
-ghost use Rattle.placed_keeper.specs.Placed.{TellsWhere, IsLoadedWhere};
+ghost use Rattle.placed_keeper.specs.Placed.{FindsWhere, TellsWhere, IsLoadedWhere};
 
 use oe_keeper::{KeepErr, Keeper, RowChange, Tables};
 use std::alloc::Global;
@@ -32,6 +32,8 @@ impl<K: Keeper> Keeper for PlacedKeeper<K> {
     ghost Tells = { λ k. TellsWhere K.Tells k.is_used k.keeper };
 
     ghost faults = { λ k. K.faults k.keeper };
+
+    ghost Finds = { λ k. FindsWhere K.Finds k.is_used k.keeper };
 
     ghost IsLoaded = { λ k. IsLoadedWhere K.IsLoaded k.is_used k.keeper };
 
