@@ -14,6 +14,8 @@ mod generator_tests;
 #[cfg(test)]
 mod kept_row_tests;
 #[cfg(test)]
+mod opening_tests;
+#[cfg(test)]
 mod outcome_tests;
 #[cfg(test)]
 mod receipt_row_tests;

@@ -1,0 +1,5 @@
+pub mod Values
+pub mod Parts
+pub mod Opening
+pub mod Counts
+pub mod Desks
