@@ -1,19 +1,22 @@
 -- What was done is what is decided.
-use Rattle.std.proofs.Common.{◌≡◌, ◌≢◌, refl, sym, ap, ◌∙◌, subst, ℕ, true, false, cond, List, [], ◌∷◌, ◌++◌, Some, None, Result, Ok, Err}
+use Rattle.std.proofs.Common.{◌≡◌, ◌≢◌, refl, sym, ap, ◌∙◌, subst, arith, ℕ, ◌+◌, ◌≤◌, true, false, cond, List, [], ◌∷◌, ◌++◌, drop, length, Some, None, Result, Ok, Err}
+use Rattle.std.proofs.Math.Logic.{∥∥₁_map}
+use Rattle.std.proofs.Math.Seq.{drop-length}
+use Rattle.std.proofs.lemmas.List.{drop-append-le, length-append}
 use Rattle.wire_requests.specs.Changes.{Asked}
 use Rattle.case_values.specs.contracts.act.ActPartialEq.TheImpl as act
 use Rattle.case_records.specs.declared.refusal.Refusal.{Refusal}
 use Rattle.case_records.specs.declared.refusal.Refusal.TheVariants as refusals
 use Rattle.case_acts.specs.declared.effect.Effect.{Effect}
 use Rattle.desk_rules.specs.declared.entry.Entry.{Entry}
-use Rattle.desk_rules.specs.States.{State, empty, entry_of, last_number}
+use Rattle.desk_rules.specs.States.{State, entry_of, last_number}
 use Rattle.desk_rules.specs.Evaluations.{basis_of}
 use Rattle.desk_rules.specs.Machine.{Answer as Decided, Kept, No, Done, acted, registered, decide_new, decide_by, repeated, after, made, replay}
 use Rattle.desk_rules.proofs.Replaying.{replayed_always, same_entries, append_nothing}
 use Rattle.filing_desk.specs.declared.answer.Answer.{Answer}
 use Rattle.filing_desk.specs.declared.answer.Answer.TheVariants as answers
 use Rattle.filing_desk.specs.Answers.{Answers, decision}
-use Rattle.filing_desk.specs.Clerks.{Clerking, IsReplay, Advances}
+use Rattle.filing_desk.specs.Clerks.{Clerking, IsReplay, HasOpening, Advances}
 
 -- another request under a key, and the same one again
 pub reused : (s : State) (e : Entry) (q : Asked) → act.ghosts.eq e.change.act q.act ≡ false → Answers (repeated e q) s s (answers.Refused (refusals.KeyReused e.number))
@@ -49,16 +52,32 @@ entries_after s (Kept e) = sym (append_nothing s.entries)
 entries_after s (No why) = sym (append_nothing s.entries)
 entries_after s (Done e step) = ap (λ (es : List Entry). es ++ e ∷ []) (same_entries step s)
 
-abbrev seen : State → ℕ → Clerking
-seen s faults = record { state = s; accepted = s.entries; faults = faults }
+-- the clerk of a state, which has gone on from its entry of a number
+abbrev pub seen : State → ℕ → ℕ → Clerking
+seen s base faults = record { state = s; accepted = drop base s.entries; faults = faults }
 
-pub goes_on : (s t : State) (m n : ℕ) (q : Asked) (r : Answer) → IsReplay empty (seen s m) → Answers (decision s q) s t r → IsReplay empty (seen t n)
-goes_on s t m n q (answers.Accepted number outcome) is h =
-    let next : after s (decision s q) ≡ replay empty (after s (decision s q)).entries =
-    replayed_always empty s s.entries (last_number s) q None is ∙ ap (replay empty) (sym (entries_after s (decision s q))) in
-    subst (λ u. IsReplay empty (seen u n)) (sym h.1) next
-goes_on s t m n q (answers.Refused why) is h = subst (λ u. IsReplay empty (seen u n)) (sym h.1) is
+pub went_on : (opening : State) (q : Asked) (k l : Clerking) (r : Answer) → IsReplay opening k → Advances (decision k.state q) k l r → IsReplay opening l
+went_on opening q k l (answers.Accepted number outcome) is h = h.1 ∙ replayed_always opening k.state k.accepted (last_number k.state) q None is ∙ ap (replay opening) (sym h.2)
+went_on opening q k l (answers.Refused why) is h = h.1 ∙ is ∙ ap (replay opening) (sym h.2)
 
-pub advances : (s t : State) (m n : ℕ) (d : Decided) (r : Answer) → Answers d s t r → Advances d (seen s m) (seen t n) r
-advances s t m n d (answers.Accepted number outcome) h = (h.0, h.1, ap (λ (u : State). u.entries) h.1 ∙ entries_after s d)
-advances s t m n d (answers.Refused why) h = (h.0, h.1, ap (λ (u : State). u.entries) h.1)
+pub advances : (s t : State) (base m n : ℕ) (d : Decided) (r : Answer) → base ≤ last_number s → Answers d s t r → Advances d (seen s base m) (seen t base n) r
+advances s t base m n d (answers.Accepted number outcome) within h =
+    (h.0, h.1, ap (λ (u : State). drop base u.entries) h.1 ∙ ap (drop base) (entries_after s d) ∙ drop-append-le base s.entries (made d) within)
+advances s t base m n d (answers.Refused why) within h = (h.0, h.1, ap (λ (u : State). drop base u.entries) h.1)
+
+pub within_on : (s t : State) (base : ℕ) (d : Decided) (r : Answer) → base ≤ last_number s → Answers d s t r → base ≤ last_number t
+within_on s t base d (answers.Accepted number outcome) within h =
+    let more : last_number t ≡ length s.entries + length (made d) = ap last_number h.1 ∙ ap length (entries_after s d) ∙ length-append s.entries (made d) in
+    omega (arith, more, within)
+within_on s t base d (answers.Refused why) within h = let same : last_number t ≡ last_number s = ap last_number h.1 in omega (arith, same, within)
+
+-- the state at the opening stays
+pub opening_on : (s t : State) (base m n : ℕ) (q : Asked) (r : Answer) → base ≤ last_number s → HasOpening base (seen s base m) → Answers (decision s q) s t r → HasOpening base (seen t base n)
+opening_on s t base m n q r within has h = ∥∥₁_map has (λ o. (o.0, o.1, went_on o.0 q (seen s base m) (seen t base n) r o.2 (advances s t base m n (decision s q) r within h)))
+
+-- where nothing was accepted yet, it is the state itself
+none_accepted : (s : State) (base : ℕ) → base ≡ last_number s → drop base s.entries ≡ []
+none_accepted s base e = ap (λ (n : ℕ). drop n s.entries) e ∙ drop-length s.entries
+
+pub opened_now : (s : State) (base faults : ℕ) → base ≡ last_number s → (base ≤ last_number s) × HasOpening base (seen s base faults) × ((seen s base faults).accepted ≡ [])
+opened_now s base faults e = let none = none_accepted s base e in (omega (arith, e), ∣ (s, sym e, sym (ap (replay s) none)) ∣₁, none)

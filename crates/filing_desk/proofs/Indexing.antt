@@ -1,7 +1,9 @@
 -- The places of entries, after one more.
-use Rattle.std.proofs.Common.{◌≡◌, refl, sym, ap, ◌∙◌, subst, arith, ℕ, zero, suc, ◌+◌, ◌<◌, nat_eq, Bool, true, false, ◌&&◌, cond, List, [], ◌∷◌, ◌++◌, length, Option, Some, None, IfSome, slice_get}
+use Rattle.std.proofs.Common.{◌≡◌, refl, sym, ap, ◌∙◌, subst, arith, ℕ, zero, suc, ◌+◌, ◌<◌, nat_eq, Bool, true, false, ◌&&◌, cond, List, [], ◌∷◌, ◌++◌, length, Option, Some, None, IfSome, slice_get, take}
 use Rattle.std.proofs.lemmas.Grind.{common_steps}
 use Rattle.std.proofs.lemmas.Bool.{and_parts}
+use Rattle.std.proofs.lemmas.List.{length-take-le}
+use Rattle.airfield_findings.proofs.ListFacts.{at_place, not_past, taken_more}
 use Rattle.std.specs.Cmp.Lexicographic.{pointwise}
 use Rattle.std.specs.BTreeMap.{BTreeMap, get, is_at, Updates}
 use Rattle.std.specs.Map.{lookup}
@@ -148,3 +150,47 @@ indexed_off m n k es e index new put taken = record { found = λ q. index.found 
     same q =
         back_at (is_at (keys.ghosts.cmp (key_of e)) q) (get keys.ghosts.cmp k q) (get keys.ghosts.cmp m q) (λ is. free q (sym (tested e q) ∙ is))
         (taken.0 q ∙ ap (cond (is_at (keys.ghosts.cmp (key_of e)) q) None) (put.0 q) ∙ over (is_at (keys.ghosts.cmp (key_of e)) q) (get keys.ghosts.cmp m q))
+
+-- ---- the entries of a list, one after another
+
+taken_length : (es : List Entry) (i : ℕ) (e : Entry) → slice_get es i ≡ Some e → length (take i es) ≡ i
+taken_length es i e at = length-take-le i es (omega (arith, (at_place es i e at).0))
+
+-- one under a key that no entry before it has
+pub indexed_next : (m n : BTreeMap ReceiptKey ℕ) (es : List Entry) (i : ℕ) (e : Entry) → slice_get es i ≡ Some e → IsIndex m (take i es) → get keys.ghosts.cmp m (key_of e) ≡ None
+    → Updates keys.ghosts.cmp m n (key_of e) (Some i) → IsIndex n (take (i + 1) es)
+indexed_next m n es i e at index none updates =
+    let before = take i es in
+    let new : entry_of e.change.caller e.change.key before ≡ None = index.found (key_of e) ∙ ap (λ p. with_some p (slice_get before)) none in
+    let put : Updates keys.ghosts.cmp m n (key_of e) (Some (length before)) = subst (λ (k : ℕ). Updates keys.ghosts.cmp m n (key_of e) (Some k)) (sym (taken_length es i e at)) updates in
+    subst (λ (l : List Entry). IsIndex n l) (sym (taken_more es i e at)) (indexed_on m n before e index new put)
+
+first_stays : (b : Bool) (e : Entry) (o : Option Entry) → (b ≡ true → o ≡ None → ⊥) → more b e o ≡ o
+first_stays true e None h = absurd (h refl refl)
+first_stays false e None h = refl
+first_stays b e (Some d) h = refl
+
+-- and one under a key that an entry before it has, which is found still
+pub indexed_again : (m : BTreeMap ReceiptKey ℕ) (es : List Entry) (i j : ℕ) (e : Entry) → slice_get es i ≡ Some e → IsIndex m (take i es) → get keys.ghosts.cmp m (key_of e) ≡ Some j → IsIndex m (take (i + 1) es)
+indexed_again m es i j e at index is = subst (λ (l : List Entry). IsIndex m l) (sym (taken_more es i e at)) (record { found = found; below = λ q. bound before e (get keys.ghosts.cmp m q) (index.below q) })
+  where
+    before : List Entry
+    before = take i es
+
+    short : j < length before
+    short = subst (λ (p : Option ℕ). IfSome p (λ k. k < length before)) is (index.below (key_of e))
+
+    there : entry_of e.change.caller e.change.key before ≡ None → ⊥
+    there none = not_past before j short (sym (index.found (key_of e) ∙ ap (λ p. with_some p (slice_get before)) is) ∙ none)
+
+    of_key : (q : ReceiptKey) → is_of e q ≡ true → entry_of q.caller q.key before ≡ None → ⊥
+    of_key q same none =
+        let w = and_parts (pointwise nat_eq e.change.caller q.caller) (pointwise nat_eq e.change.key q.key) same in
+        let caller = same_word _ _ w.0 in
+        let key = same_word _ _ w.1 in
+        there (subst (λ (c : List ℕ). entry_of c e.change.key before ≡ None) (sym caller) (subst (λ (k : List ℕ). entry_of q.caller k before ≡ None) (sym key) none))
+
+    found : (q : ReceiptKey) → entry_of q.caller q.key (before ++ e ∷ []) ≡ with_some (get keys.ghosts.cmp m q) (slice_get (before ++ e ∷ []))
+    found q =
+        found_more q before e ∙ first_stays (is_of e q) e (entry_of q.caller q.key before) (of_key q) ∙ index.found q
+        ∙ sym (kept before e (get keys.ghosts.cmp m q) (index.below q))

@@ -3,10 +3,12 @@ pub mod Sound
 pub mod Limits
 pub mod Deciding
 pub mod MarksAfter
+pub mod MarksAnew
 pub mod Closing
 pub mod AmendFacts
 pub mod Rooms
 pub mod RowFacts
 pub mod Unasked
+pub mod Opened
 pub mod Causes
 pub mod NoFaults

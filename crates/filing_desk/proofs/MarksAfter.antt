@@ -76,7 +76,7 @@ more_at [] c (suc i) P here last = here
 more_at (d ∷ cases) c zero P here last = here
 more_at (d ∷ cases) c (suc i) P here last = more_at cases c i P here last
 
-unlisted : (s : State) (c : KeptCase) (list : Option KeptList) (b : Bool) → list ≡ None → cond b (option_map (compared s c) list) None ≡ None
+pub unlisted : (s : State) (c : KeptCase) (list : Option KeptList) (b : Bool) → list ≡ None → cond b (option_map (compared s c) list) None ≡ None
 unlisted s c None true h = refl
 unlisted s c (Some kept) true h = absurd (cc (h))
 unlisted s c list false h = refl
@@ -161,7 +161,7 @@ put_by rows r k n false h fits e =
     ∙ ap (λ (x : Bool). cond x (Some r) (joined (slice_get rows (n - 1)))) (by_places k n h e)
 
 -- and after one was put
-put_row : (rows : List (Option Row)) (r : Row) (k n : ℕ) → 1 ≤ k → k ≤ length rows → row_at (slice_set rows (k - 1) (Some r)) n ≡ cond (nat_eq k n) (Some r) (row_at rows n)
+pub put_row : (rows : List (Option Row)) (r : Row) (k n : ℕ) → 1 ≤ k → k ≤ length rows → row_at (slice_set rows (k - 1) (Some r)) n ≡ cond (nat_eq k n) (Some r) (row_at rows n)
 put_row rows r k n low high = put_by rows r k n (n == 0) (grind (arith, common_steps, low)) (omega (arith, low, high)) refl
 
 -- what is watched of the case that has another life
@@ -195,7 +195,7 @@ marks_alive s k life rows goes are stands n =
     (λ c e at. (let there = at_same s.cases k n c e at in (goes c there, stands_then s k (λ d. record d { life = life }) c true there stands)))
     ∙ ap (λ o. with_some o (watched s)) (sym (case_changed k (λ c. record c { life = life }) s.cases n))
 
-not_watched : (s : State) (c : KeptCase) (b : Bool) → stands_on s.day c ≡ b → b ≡ false → watched s c ≡ None
+pub not_watched : (s : State) (c : KeptCase) (b : Bool) → stands_on s.day c ≡ b → b ≡ false → watched s c ≡ None
 not_watched s c true is h = absurd (cc (h))
 not_watched s c false is h = ap (λ (x : Bool). cond x (option_map (compared s c) c.list) None) is
 

@@ -1,8 +1,7 @@
 -- What is handed to the keeper.
-use Rattle.std.proofs.Common.{◌≡◌, ◌≢◌, refl, sym, ap, ◌∙◌, subst, arith, ℕ, suc, Bool, true, false, ◌||◌, nat_eq, List, [], ◌∷◌, length, ℤ, Result, Ok, Err}
+use Rattle.std.proofs.Common.{◌≡◌, ◌≢◌, refl, sym, ap, subst, arith, ℕ, suc, Bool, true, false, ◌||◌, nat_eq, List, [], ◌∷◌, length, ℤ, Result, Ok, Err}
 use Rattle.std.proofs.Math.Logic.{∥∥₁_elim, ∥∥₁_map, ∥∥₁_prop}
 use Rattle.std.proofs.lemmas.Grind.{common_steps}
-use Rattle.std.specs.FinMap as maps
 use Rattle.std.specs.List.{AllByRecursion}
 use Rattle.std.specs.List.Sorted.{IsStrictlySortedBy}
 use Rattle.std.specs.Cmp.{int_cmp_total}
@@ -18,11 +17,10 @@ use Rattle.case_records.specs.declared.refusal.Refusal.{Refusal}
 use Rattle.case_records.specs.declared.refusal.Refusal.TheVariants as refusals
 use Rattle.case_records.specs.declared.outcome.Outcome.{Outcome}
 use Rattle.case_acts.specs.declared.effect.Step.{Step}
-use Rattle.desk_rules.specs.States.{State, empty, stepped, with_entry}
+use Rattle.desk_rules.specs.States.{State, stepped, with_entry}
 use Rattle.desk_rules.specs.declared.entry.Entry.{Entry}
 use Rattle.desk_rows.specs.Rows.{AreRows}
 use Rattle.desk_rows.specs.Changes.{changes, Fits}
-use Rattle.desk_rows.proofs.Bare.{bare_rows}
 use Rattle.desk_rows.proofs.Keeping.{rows_kept}
 use Rattle.filing_desk.specs.Handed.{Told, Carry, Handed, Serves}
 use Rattle.filing_desk.specs.declared.answer.Answer.TheVariants as answers
@@ -85,12 +83,13 @@ closed_already d (c ∷ cs) rising is =
       | Greater ↦ λ e. ap (λ (l : List Date). c ∷ l) (closed_already d cs rising.1 (or_right (int_eq (epoch_day d) (epoch_day c)) (is_closed cs (epoch_day d)) is (ap is_eq e)))
     ] refl
 
--- ---- a desk that holds nothing
+-- ---- a keeper that was loaded, and one that tells nothing
 
 module _ {K : Type 0} (Tells : K → Kept → Type 0) (k : K) where
-  pub told_fresh : (tables : Kept) → ((now : Kept) → Tells k now → now ≡ tables) → maps.len tables ≡ 0 → Told Tells k empty
+  -- the rows that a call answered are all that it tells
+  pub told_loaded : (tables : Kept) (s : State) → ((now : Kept) → Tells k now → now ≡ tables) → AreRows s tables → Told Tells k s
   unfolding Told
-  told_fresh tables rows none now is = ∣ subst (λ (r : Kept). AreRows empty r) (sym (rows now is ∙ maps.empty_of_len tables none)) bare_rows ∣₁
+  told_loaded tables s rows are now is = ∣ subst (λ (r : Kept). AreRows s r) (sym (rows now is)) are ∣₁
 
   pub told_by_none : (s : State) → ((rows : Kept) → Tells k rows → ⊥) → Told Tells k s
   unfolding Told

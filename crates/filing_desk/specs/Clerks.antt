@@ -2,7 +2,7 @@
 use Rattle.std.specs.Prelude.{◌≡◌, ◌≢◌, ℕ, ◌≤◌, List, ◌++◌}
 use Rattle.case_records.specs.declared.refusal.Refusal.TheVariants as refusals
 use Rattle.desk_rules.specs.declared.entry.Entry.{Entry}
-use Rattle.desk_rules.specs.States.{State}
+use Rattle.desk_rules.specs.States.{State, last_number}
 use Rattle.desk_rules.specs.Machine.{Answer as Decided, No, after, made, replay}
 use Rattle.filing_desk.specs.declared.answer.Answer.{Answer}
 use Rattle.filing_desk.specs.declared.answer.Answer.TheVariants as answers
@@ -18,6 +18,10 @@ pub record Clerking : Type 0 where
 -- the state is the replay of the accepted requests from the opening state
 abbrev pub IsReplay : State → Clerking → Type 0
 IsReplay opening k = k.state ≡ replay opening k.accepted
+
+-- and there is such an opening state, whose last entry has this number
+abbrev pub HasOpening : ℕ → Clerking → Type 0
+HasOpening base k = ∥ ((opening : State) × (last_number opening ≡ base) × IsReplay opening k) ∥₁
 
 -- a request is accepted as it is decided, and the clerk goes on from k to l; it is refused as it is decided, or where memory was refused or
 -- the keeper failed, and nothing is changed

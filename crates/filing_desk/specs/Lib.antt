@@ -4,3 +4,4 @@ pub mod Answers
 pub mod Clerks
 pub mod Marked
 pub mod Handed
+pub mod Loads

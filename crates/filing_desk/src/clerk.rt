@@ -1,6 +1,6 @@
 //! The clerk of the desk.
 
-ghost use Rattle.std.specs.Prelude.{◌≡◌, List, IfOk, length, option_map};
+ghost use Rattle.std.specs.Prelude.{◌≡◌, ◌≤◌, List, IfOk, drop, length, option_map};
 ghost use Rattle.desk_rules.specs.Reports.{IsExpiryOrder, expiring, review_rows};
 ghost use Rattle.oe_reports.specs.Tables.{expiry_table, review_table};
 ghost use Rattle.oe_reports.specs.declared.rows.ExpiryRow.{ExpiryRow};
@@ -8,7 +8,7 @@ ghost use Rattle.desk_rules.specs.States.{case_at, last_number};
 ghost use Rattle.desk_rules.specs.Evaluations.{site_of};
 ghost use Rattle.desk_rules.specs.Marks.{case_view, marks};
 ghost use Rattle.filing_desk.specs.Answers.{decision};
-ghost use Rattle.filing_desk.specs.Clerks.{Advances, HasCause};
+ghost use Rattle.filing_desk.specs.Clerks.{Advances, HasCause, HasOpening};
 ghost use Rattle.filing_desk.specs.Handed.{Told};
 
 use crate::answer::Answer;
@@ -24,23 +24,26 @@ use wire_requests::Change;
 
 /// The clerk decides changing requests one after the other, and has a keeper keep what it accepted. It is seen as its state, the requests that
 /// it accepted since the opening and the number of the keeper's faults; the state is always the replay of these requests from the state at the
-/// opening, which holds nothing.
+/// opening.
 #[derive(Drop)]
 pub struct Clerk<K: Keeper> {
     pub(crate) office: Office,
     pub(crate) keeper: K,
+    /// The number of the last entry at the opening.
+    pub(crate) base: u64,
 }
 
 impl<K: Keeper> Model for Clerk<K> {
-    ghost use Rattle.desk_rules.specs.States.{empty};
-    ghost use Rattle.filing_desk.specs.Clerks.{Clerking, IsReplay};
+    ghost use Rattle.std.specs.Prelude.{◌≤◌, drop};
+    ghost use Rattle.desk_rules.specs.States.{last_number};
+    ghost use Rattle.filing_desk.specs.Clerks.{Clerking, HasOpening};
     ghost use Rattle.filing_desk.specs.Handed.{Told};
 
     ghost Value = { Clerking };
 
-    ghost view = { λ c. record { state = c.office; accepted = c.office.entries; faults = K.faults c.keeper } };
+    ghost view = { λ c. record { state = c.office; accepted = drop c.base c.office.entries; faults = K.faults c.keeper } };
 
-    ghost invariant = { λ c. IsReplay empty (record { state = c.office; accepted = c.office.entries; faults = K.faults c.keeper }) × Told K.Tells c.keeper c.office × ∥ K.IsLoaded c.keeper ∥₁ };
+    ghost invariant = { λ c. (c.base ≤ last_number c.office) × HasOpening c.base (record { state = c.office; accepted = drop c.base c.office.entries; faults = K.faults c.keeper }) × Told K.Tells c.keeper c.office × ∥ K.IsLoaded c.keeper ∥₁ };
 }
 
 impl<K: Keeper> Clerk<K> {
@@ -51,7 +54,7 @@ impl<K: Keeper> Clerk<K> {
     ///
     /// The first rule that the request breaks, in the order of the rules, or `KeeperFault` where the keeper failed, or `NoMemory` where memory
     /// was refused; nothing is changed then, in the desk or in what is kept.
-    #[tactic(auto, using(crate::proofs::Deciding::goes_on, crate::proofs::Deciding::advances))]
+    #[tactic(auto, using(crate::proofs::Deciding::advances))]
     pub fn apply(&mut self, alloc: Global, c: &Change) -> Answer
         ensures answer { Advances (decision self.old.state c.now) self.old self.new result }
         ensures cause { HasCause self.old self.new result }
@@ -137,7 +140,17 @@ impl<K: Keeper> Clerk<K> {
     pub fn accepted(&self) -> u64
         ensures { result ≡ last_number self.now.state }
     {
-        self.office.desk.receipts.len() as u64
+        self.office.accepted()
+    }
+
+    /// The number of the last entry at the opening: the entries behind it were accepted since, and the state is the replay of their requests
+    /// from a state that has those up to it.
+    pub fn base(&self) -> u64
+        ensures within { result ≤ last_number self.now.state }
+        ensures accepted { self.now.accepted ≡ drop result self.now.state.entries }
+        ensures opening { HasOpening result self.now }
+    {
+        self.base
     }
 
     /// The airfields as they stand, with the surfaces over them.

@@ -65,6 +65,13 @@ impl Desk {
         self.cases.get(place)
     }
 
+    /// How many cases there are.
+    pub(crate) fn count(&self) -> usize
+        ensures { result ≡ length self.now.cases }
+    {
+        self.cases.len()
+    }
+
     /// Shows to a proof that the dates of the cases are within their limit, and that their number is.
     pub(crate) fn soundness(&self)
         ensures cases { AreSound self.now.cases }

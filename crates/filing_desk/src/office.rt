@@ -3,7 +3,7 @@
 ghost use Rattle.std.specs.Prelude.{◌≡◌, List, IfOk, length};
 ghost use Rattle.desk_rules.specs.Marks.{case_view, marks};
 ghost use Rattle.desk_rules.specs.Reports.{IsExpiryOrder, expiring, review_rows};
-ghost use Rattle.desk_rules.specs.States.{empty};
+ghost use Rattle.desk_rules.specs.States.{empty, last_number};
 ghost use Rattle.oe_reports.specs.Tables.{expiry_table, review_table};
 ghost use Rattle.oe_reports.specs.declared.rows.ExpiryRow.{ExpiryRow};
 
@@ -43,6 +43,13 @@ impl Office {
             desk: Desk::empty(alloc),
             marks: MarkBook::empty(alloc),
         }
+    }
+
+    /// The number of the last entry, 0 where there is none.
+    pub(crate) fn accepted(&self) -> u64
+        ensures { result ≡ last_number self.now }
+    {
+        self.desk.receipts.len() as u64
     }
 
     /// What is told of the case of this number.

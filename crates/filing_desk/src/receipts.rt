@@ -1,11 +1,12 @@
 //! The accepted requests.
 
-ghost use Rattle.std.specs.Prelude.{◌≡◌, ◌∷◌, ◌++◌, [], Some, None, IfErr, OnOk, OnErr, option_copied, length};
+ghost use Rattle.std.specs.Prelude.{◌≡◌, ◌<◌, ◌+◌, ◌∷◌, ◌++◌, [], Some, None, IfOk, IfErr, OnOk, OnErr, option_copied, length, take};
 ghost use Rattle.std.specs.BTreeMap.{Updates, IsUnchanged};
 ghost use Rattle.determination_dates.specs.Days.{IsLimited};
 ghost use Rattle.determination_dates.specs.Closed.{with_day};
 ghost use Rattle.desk_rules.specs.States.{entry_of};
 ghost use Rattle.filing_desk.specs.Handed.{Handed, IsUnkept};
+ghost use Rattle.filing_desk.specs.Receipts.{IsIndex};
 ghost use Rattle.filing_desk.specs.contracts.receipt_key.ReceiptKeyOrd.TheImpl as keys;
 
 use crate::handing::{Accepted, hand};
@@ -72,6 +73,23 @@ fn forget(places: &mut BTreeMap<ReceiptKey, usize>, key: ReceiptKey)
     let _ = places.remove(&key);
 }
 
+/// Puts the place of an entry under its caller and key, where none before it is there.
+fn remember_first(
+    places: &mut BTreeMap<ReceiptKey, usize>,
+    entries: &[Entry],
+    place: usize,
+) -> Result<(), NoMemory>
+    requires there { place < length entries.now }
+    requires before { IsIndex places.old (take place entries.now) }
+    ensures { OnOk result (IsIndex places.new (take (place + 1) entries.now)) }
+{
+    let key = key_of(&entries[place]);
+    match places.get(&key) {
+        Some(_) => Ok(()),
+        None => remember(places, key, place),
+    }
+}
+
 impl Receipts {
     /// No requests. It takes no memory.
     #[tactic(auto, using(crate::proofs::Indexing::indexed_none))]
@@ -82,6 +100,22 @@ impl Receipts {
             entries: Vec::new(alloc),
             places: BTreeMap::new(alloc),
         }
+    }
+
+    /// These requests, in their order.
+    ///
+    /// # Errors
+    ///
+    /// `NoMemory` where memory was refused.
+    #[tactic(auto, using(crate::proofs::Indexing::indexed_none))]
+    pub fn of(alloc: Global, entries: Vec<Entry>) -> Result<Receipts, NoMemory>
+        ensures { IfOk result (λ r. r ≡ entries.items) }
+    {
+        let mut places = BTreeMap::new(alloc);
+        for place in 0..entries.len() {
+            remember_first(&mut places, &entries, place)?;
+        }
+        Ok(Receipts { entries, places })
     }
 
     /// How many there are.
