@@ -1,11 +1,14 @@
 -- What was written of a line.
-use Rattle.std.proofs.Common.{ℕ, List, [], ◌++◌, ◌≡◌, ◌∙◌, Option, Some, None, refl, sym, ap, append-nil, subst}
+use Rattle.std.proofs.Common.{ℕ, List, [], ◌++◌, ◌≡◌, ◌∙◌, Option, Some, None, refl, sym, ap, append-nil, subst, ◌≢◌, inl, inr}
 use Rattle.std.specs.Io.KnownBytes.{Appends}
 use Rattle.oe_http.specs.Written.{Sent}
-use Rattle.oe_main.specs.Generating.{GenerateWrites, generated_line}
+use Rattle.oe_main.specs.Generating.{GenerateWrites, IsGenerateEnd, generated_line}
+use Rattle.oe_keeper.specs.declared.change.Table.{Table}
+use Rattle.oe_main.specs.Runs.{IsUntouched}
+use Rattle.oe_main.specs.declared.status.Status.{Status}
 use Rattle.oe_main.specs.declared.status.Status.TheVariants as statuses
 
-appends_nothing : (x : Option (List ℕ)) → Appends x x []
+pub appends_nothing : (x : Option (List ℕ)) → Appends x x []
 appends_nothing None = tt
 appends_nothing (Some xs) = sym (append-nil xs)
 
@@ -32,3 +35,25 @@ none_made seed count x = record {
   begun = (generated_line seed count, record { front = []; appends = appends_nothing x; split = refl });
   memory = λ s. appends_nothing x;
 }
+
+-- ---- how the command ends it does not end otherwise
+
+pub made_no_usage : (s : Status) → IsGenerateEnd s → s ≢ statuses.Usage
+made_no_usage s (inl d) h = cc
+made_no_usage s (inr (inl f)) h = cc
+made_no_usage s (inr (inr m)) h = cc
+
+pub made_no_fault : (s : Status) → IsGenerateEnd s → s ≢ statuses.KeeperFault
+made_no_fault s (inl d) h = cc
+made_no_fault s (inr (inl f)) h = cc
+made_no_fault s (inr (inr m)) h = cc
+
+pub made_no_bad_row : (s : Status) → IsGenerateEnd s → (t : Table) (k : List ℕ) → s ≢ statuses.BadRow t k
+made_no_bad_row s (inl d) t k h = cc
+made_no_bad_row s (inr (inl f)) t k h = cc
+made_no_bad_row s (inr (inr m)) t k h = cc
+
+pub made_touched : (s : Status) → IsGenerateEnd s → IsUntouched s → ⊥
+made_touched s (inl d) u = subst IsUntouched d u
+made_touched s (inr (inl f)) u = subst IsUntouched f u
+made_touched s (inr (inr m)) u = subst IsUntouched m u

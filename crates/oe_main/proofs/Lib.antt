@@ -1,6 +1,5 @@
 pub mod CommandFacts
 pub mod GenerateFacts
-pub mod StepFacts
 pub mod RunFacts
-pub mod ChangeFacts
-pub mod QueryFacts
+pub mod OpenFacts
+pub mod UnkeptFacts

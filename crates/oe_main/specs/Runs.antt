@@ -2,28 +2,68 @@
 use Rattle.std.specs.Prelude.{ℕ, List, ◌≡◌, ◌⊎◌, Option}
 use Rattle.oe_http.specs.Causes.{Rose}
 use Rattle.oe_http.specs.declared.lines.TheConstants.{INPUT_LIMIT}
-use Rattle.oe_session.specs.Session.{Answered, AnsweredFront, AnsweredRead, ReadToEnd, TookAtLeast}
-use Rattle.desk_rules.specs.States.{State, empty}
+use Rattle.oe_keeper.specs.Kept.{Kept, place}
+use Rattle.oe_session.specs.Machine.{Step}
+use Rattle.oe_session.specs.Session.{Answered, AnsweredFront, AnsweredRead, Begun, ReadToEnd, TookAtLeast}
+use Rattle.desk_opening.specs.Opening.{Opens, IsFirstBad}
+use Rattle.desk_lines.specs.Desk.{Serving, StepOver}
 use Rattle.oe_main.specs.declared.status.Status.{Status}
 use Rattle.oe_main.specs.declared.status.Status.TheVariants as statuses
-use Rattle.oe_main.specs.Desk.{Step}
 
--- the replies to all lines of an input were written, from the desk that holds nothing on, where both streams tell
-abbrev pub AllAnswered : Option (List ℕ) → Option (List ℕ) → Option (List ℕ) → Type 0
-AllAnswered input held_old held_new = (after : State) × Answered Step empty after input held_old held_new
-
--- the replies to all lines that were read whole were written
-abbrev pub ReadAnswered : Option (List ℕ) → Option (List ℕ) → Option (List ℕ) → Option (List ℕ) → Type 0
-ReadAnswered input left held_old held_new = (after : State) × AnsweredRead Step empty after input left held_old held_new
-
--- what a desk has read and written, by the status
-pub record RunWrites (status : Status) (input left held_old held_new : Option (List ℕ)) : Type 0 where
+-- what a desk has read and written since it was opened, by the status
+pub record SessionRun {St : Type 0} (step : Step St) (opened : St) (status : Status) (input left held_old held_new : Option (List ℕ)) : Type 0 where
+  -- at `Done` the output is what it held before and the reply to each line of the input, in order
+  pub done : status ≡ statuses.Done → (after : St) × Answered step opened after input held_old held_new
+  -- under every status it is what it held before and a beginning of these replies
+  pub begun : Begun step opened input held_old held_new
   -- at the end of the input nothing of it is left
   pub read_to_end : status ≡ statuses.Done → ReadToEnd input left
   -- at a fault of the input, or past its limit, each line that was read whole has its reply
-  pub whole : (status ≡ statuses.ReadFault) ⊎ (status ≡ statuses.InputLong) → ReadAnswered input left held_old held_new
+  pub whole : (status ≡ statuses.ReadFault) ⊎ (status ≡ statuses.InputLong) → (after : St) × AnsweredRead step opened after input left held_old held_new
   -- where memory is wanting, no part of a reply was written
-  pub memory : status ≡ statuses.NoMemory → AnsweredFront Step empty input held_old held_new
+  pub memory : status ≡ statuses.NoMemory → AnsweredFront step opened input held_old held_new
+
+-- the ways in which a session ends a run
+abbrev pub IsSessionEnd : Status → Type 0
+IsSessionEnd statuses.Done = Unit {0}
+IsSessionEnd statuses.Usage = ⊥
+IsSessionEnd statuses.ReadFault = Unit {0}
+IsSessionEnd statuses.WriteFault = Unit {0}
+IsSessionEnd statuses.KeeperFault = ⊥
+IsSessionEnd (statuses.BadRow table key) = ⊥
+IsSessionEnd statuses.NoMemory = Unit {0}
+IsSessionEnd statuses.InputLong = Unit {0}
+
+-- a desk was opened in the state that the rows tell which a load of the keeper may find at the path, and answered from there on
+pub record Served {K : Type 0} (Finds : K → Option (List ℕ) → Kept → Type 0) (count : K → ℕ) (keeper : K) (path : Option (List ℕ)) (status : Status) (input left held_old held_new : Option (List ℕ)) : Type 0 where
+  pub opened : Serving
+  pub rows : Kept
+  pub found : Finds keeper path rows
+  pub opens : Opens rows opened.state
+  pub session : SessionRun (StepOver count) opened status input left held_old held_new
+  pub ended : IsSessionEnd status
+
+-- why no desk was opened: the keeper may fail; or a row is the first bad one of those that a load of the keeper may find; or memory was refused
+abbrev pub IsUnopened : {K : Type 0} → (K → Option (List ℕ) → Kept → Type 0) → (K → Type 0) → K → Option (List ℕ) → Status → Type 0
+IsUnopened {K} Finds IsSteady keeper path statuses.Done = ⊥
+IsUnopened {K} Finds IsSteady keeper path statuses.Usage = ⊥
+IsUnopened {K} Finds IsSteady keeper path statuses.ReadFault = ⊥
+IsUnopened {K} Finds IsSteady keeper path statuses.WriteFault = ⊥
+IsUnopened {K} Finds IsSteady keeper path statuses.KeeperFault = IsSteady keeper → ⊥
+IsUnopened {K} Finds IsSteady keeper path (statuses.BadRow table key) = (rows : Kept) × Finds keeper path rows × IsFirstBad rows (place table, key)
+IsUnopened {K} Finds IsSteady keeper path statuses.NoMemory = Unit {0}
+IsUnopened {K} Finds IsSteady keeper path statuses.InputLong = ⊥
+
+-- the ways to end at which no stream was touched
+abbrev pub IsUntouched : Status → Type 0
+IsUntouched statuses.Done = ⊥
+IsUntouched statuses.Usage = Unit {0}
+IsUntouched statuses.ReadFault = ⊥
+IsUntouched statuses.WriteFault = ⊥
+IsUntouched statuses.KeeperFault = Unit {0}
+IsUntouched (statuses.BadRow table key) = Unit {0}
+IsUntouched statuses.NoMemory = ⊥
+IsUntouched statuses.InputLong = ⊥
 
 -- why a run ended so: a fault of a stream is told only where its count rose, and a long input only after its limit
 pub record RunCauses (status : Status) (input left : Option (List ℕ)) (read_old read_new write_old write_new : ℕ) : Type 0 where

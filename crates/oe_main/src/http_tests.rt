@@ -2,13 +2,14 @@
 
 ghost use Rattle.std.specs.Prelude.{◌≡◌, ◌<◌, ◌≤◌};
 
-use crate::Desk;
+use desk_lines::Desk;
 use grid_exact::Bytes;
 use http_front::Routed;
 use http_routes::Routes;
 use http_session::session;
 use oe_http::{FakeLink, FakeSink, FakeSource};
 use oe_session::Ended;
+use placed_keeper::NoKeeper;
 use std::alloc::Global;
 use std::marker::Brand;
 use std::process::Abort;
@@ -248,7 +249,7 @@ fn serve<L: Ledger>(rt: &impl Abort, alloc: Global, blank: Blank, most: usize) -
             b"HTTP/1.1 200 OK\r\nContent-Type: text/plain\r\nContent-Length: 10\r\n\r\nfound,2,0\nHTTP/1.1 405 Method Not Allowed\r\nContent-Type: text/plain\r\nContent-Length: 0\r\nAllow: GET\r\nConnection: close\r\n\r\n".as_slice(),
         ),
     ];
-    let mut desk = Routed::new(Routes::new(alloc)?, Desk::<L>::new(alloc, blank));
+    let mut desk = Routed::new(Routes::new(alloc)?, Desk::<NoKeeper, L>::new(alloc, blank));
     for (before, fill, count, after, ended, told) in table {
         let mut link = link(alloc, before, fill, count, after, most)?;
         assert_eq!(rt; session(alloc, &mut desk, &mut link), ended);

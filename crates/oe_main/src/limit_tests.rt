@@ -4,6 +4,7 @@ use crate::tests::words;
 use crate::{Status, run};
 use grid_exact::Bytes;
 use oe_http::{FakeSink, FakeSource};
+use placed_keeper::NoKeeper;
 use std::alloc::Global;
 use std::process::Abort;
 use std::test::Fail;
@@ -16,8 +17,14 @@ fn answered(rt: &impl Abort, alloc: Global, records: &str, replies: &str) -> Res
     let bytes = Bytes::from_slice(alloc, records.as_bytes())?;
     let mut input = FakeSource::new(bytes, 65_536, Vec::new(alloc));
     let mut output = FakeSink::new(alloc, ROOM, Vec::new(alloc))?;
-    let status = run(alloc, &words(alloc, &["desk"])?, &mut input, &mut output);
-    assert_eq!(rt; status, Status::Done);
+    let status = run(
+        alloc,
+        &words(alloc, &["desk"])?,
+        NoKeeper,
+        &mut input,
+        &mut output,
+    );
+    assert!(rt; matches!(&status, Status::Done));
     assert_eq!(rt; output.bytes(), replies.as_bytes());
     Ok(())
 }

@@ -3,15 +3,16 @@
 //! `run` does all that the program does; `main` makes the streams of the system and hands them in.
 #![tactic(auto)]
 
-mod desk;
-mod fulfil;
 mod generate;
+mod laws;
 mod run;
 mod status;
 mod words;
 
-pub use desk::Desk;
+pub use laws::run_unkept;
 use oe_http::{ReadSource, WriteSink};
+use oe_sqlite::SqliteKeeper;
+use placed_keeper::PlacedKeeper;
 pub use run::run;
 pub use status::Status;
 use std::env;
@@ -25,6 +26,8 @@ mod case_tests;
 mod generate_tests;
 #[cfg(test)]
 mod http_tests;
+#[cfg(test)]
+mod kept_tests;
 #[cfg(test)]
 mod limit_tests;
 #[cfg(test)]
@@ -54,12 +57,13 @@ fn arguments(rt: &HostRuntime) -> Result<Words, Status> {
     Ok(words)
 }
 
-/// Runs the desk over the standard streams.
+/// Runs the desk over the standard streams, and over a file where one is named.
 fn run_on_streams(rt: &HostRuntime) -> Status {
     match arguments(rt) {
         Ok(words) => run(
             rt.alloc(),
             &words,
+            PlacedKeeper::new(SqliteKeeper::new(rt)),
             &mut ReadSource::new(rt.stdin()),
             &mut WriteSink::new(rt.stdout()),
         ),
@@ -69,8 +73,8 @@ fn run_on_streams(rt: &HostRuntime) -> Status {
 
 fn main(rt: HostRuntime) -> ExitCode {
     let status = run_on_streams(&rt);
-    if status != Status::Done {
-        let _ = rt.eprintln(status.line());
+    if !matches!(&status, Status::Done) {
+        let _ = rt.eprintln(&status);
     }
     ExitCode::from(status.number())
 }

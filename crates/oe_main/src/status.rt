@@ -1,12 +1,16 @@
 //! How a run ends.
 
 ghost use Rattle.std.specs.Prelude.{◌≡◌};
-ghost use Rattle.oe_main.specs.Statuses.{line_of, number_of, status_of};
+ghost use Rattle.oe_main.specs.Statuses.{number_of, refused_by, status_of, table_name};
 
+use filing_desk::OpenRefusal;
+use grid_exact::Text;
+use oe_keeper::Table;
 use oe_session::Ended;
+use std::fmt;
 
 /// How a run ended.
-#[derive(Clone, Copy, Debug, PartialEq, Eq)]
+#[derive(Debug, Drop)]
 pub enum Status {
     /// The input was read to its end, and every reply was written.
     Done,
@@ -16,6 +20,10 @@ pub enum Status {
     ReadFault,
     /// The output failed.
     WriteFault,
+    /// The keeper failed, and no desk was opened.
+    KeeperFault,
+    /// This row of what is kept is the first, in order of table and key, that is not one of a desk, or that is wanting.
+    BadRow { table: Table, key: Text },
     /// Memory was refused.
     NoMemory,
     /// 2^40 bytes of the input were read.
@@ -24,31 +32,68 @@ pub enum Status {
 
 impl Status {
     /// The number that the program ends with.
-    pub fn number(self) -> u8
-        ensures { result ≡ number_of self }
+    pub fn number(&self) -> u8
+        ensures { result ≡ number_of self.now }
     {
         match self {
             Status::Done => 0,
             Status::Usage => 2,
             Status::ReadFault => 3,
             Status::WriteFault => 4,
+            Status::KeeperFault => 5,
+            Status::BadRow { .. } => 6,
             Status::NoMemory => 7,
             Status::InputLong => 8,
         }
     }
+}
 
-    /// The line on standard error; none after `Done`.
-    pub fn line(self) -> &'static str
-        ensures { result.now ≡ line_of self }
-    {
+/// The name of a table.
+fn name(table: Table) -> &'static str
+    ensures { result.now ≡ table_name table }
+{
+    match table {
+        Table::Airfield => "airfield",
+        Table::Runway => "runway",
+        Table::Desk => "desk",
+        Table::Filing => "filing",
+        Table::Receipt => "receipt",
+    }
+}
+
+/// The line on standard error; nothing after `Done`.
+impl fmt::Display for Status {
+    ghost use Rattle.std.specs.Prelude.{Some};
+    ghost use Rattle.oe_main.specs.Statuses.{line_of};
+
+    ghost output = { λ s. Some (line_of s) };
+
+    fn fmt<W: fmt::Write>(&self, f: &mut fmt::Formatter<W>) -> fmt::Result {
         match self {
-            Status::Done => "",
-            Status::Usage => "oe: usage",
-            Status::ReadFault => "oe: read fault",
-            Status::WriteFault => "oe: write fault",
-            Status::NoMemory => "oe: no memory",
-            Status::InputLong => "oe: input too long",
+            Status::Done => Ok(()),
+            Status::Usage => f.write_str("oe: usage"),
+            Status::ReadFault => f.write_str("oe: read fault"),
+            Status::WriteFault => f.write_str("oe: write fault"),
+            Status::KeeperFault => f.write_str("oe: keeper fault"),
+            Status::BadRow { table, key } => {
+                let table = name(*table);
+                let key = key.as_str();
+                write!(f, "oe: bad row {table} {key}")
+            }
+            Status::NoMemory => f.write_str("oe: no memory"),
+            Status::InputLong => f.write_str("oe: input too long"),
         }
+    }
+}
+
+/// How a run ends whose desk was not opened.
+pub(crate) fn refused_status(refusal: OpenRefusal) -> Status
+    ensures { result ≡ refused_by refusal }
+{
+    match refusal {
+        OpenRefusal::KeeperFault => Status::KeeperFault,
+        OpenRefusal::BadRow { table, key } => Status::BadRow { table, key },
+        OpenRefusal::NoMemory => Status::NoMemory,
     }
 }
 

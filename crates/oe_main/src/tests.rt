@@ -1,6 +1,7 @@
 use crate::{Status, Words, run};
 use grid_exact::Bytes;
 use oe_http::{FakeSink, FakeSource};
+use placed_keeper::NoKeeper;
 use std::alloc::Global;
 use std::process::Abort;
 use std::test::Fail;
@@ -25,7 +26,13 @@ pub(crate) fn desk(alloc: Global, text: &str, most: usize) -> Result<(Status, Fa
     let bytes = Bytes::from_slice(alloc, text.as_bytes())?;
     let mut input = FakeSource::new(bytes, most, Vec::new(alloc));
     let mut output = FakeSink::new(alloc, 4000, Vec::new(alloc))?;
-    let status = run(alloc, &words(alloc, &["desk"])?, &mut input, &mut output);
+    let status = run(
+        alloc,
+        &words(alloc, &["desk"])?,
+        NoKeeper,
+        &mut input,
+        &mut output,
+    );
     Ok((status, output))
 }
 
@@ -42,7 +49,7 @@ pub(crate) fn answers(
         let text = format!(in alloc; "{before}{records}")?;
         let wanted = format!(in alloc; "{replied}{replies}")?;
         let (status, output) = desk(alloc, text.as_str(), most)?;
-        assert_eq!(rt; status, Status::Done);
+        assert!(rt; matches!(&status, Status::Done));
         assert_eq!(rt; output.bytes(), wanted.as_bytes());
     }
     Ok(())
@@ -331,8 +338,14 @@ fn a_second_read_that_fails_ends_the_run(rt: HostRuntime) -> Result<(), Fail> {
     let bytes = Bytes::from_slice(alloc, text.as_bytes())?;
     let mut input = FakeSource::new(bytes, 40, vec![in alloc; 2]?);
     let mut output = FakeSink::new(alloc, 4000, Vec::new(alloc))?;
-    let status = run(alloc, &words(alloc, &["desk"])?, &mut input, &mut output);
-    assert_eq!(rt; status, Status::ReadFault);
+    let status = run(
+        alloc,
+        &words(alloc, &["desk"])?,
+        NoKeeper,
+        &mut input,
+        &mut output,
+    );
+    assert!(rt; matches!(&status, Status::ReadFault));
     assert_eq!(rt; output.bytes(), b"found,0,1,9a - - 1\n".as_slice());
     Ok(())
 }
@@ -343,8 +356,14 @@ fn a_first_write_that_fails_ends_the_run(rt: HostRuntime) -> Result<(), Fail> {
     let bytes = Bytes::from_slice(alloc, b"screen,0,0,1000,2001,object,0,-,-\n")?;
     let mut input = FakeSource::new(bytes, 40, Vec::new(alloc));
     let mut output = FakeSink::new(alloc, 4000, vec![in alloc; 1]?)?;
-    let status = run(alloc, &words(alloc, &["desk"])?, &mut input, &mut output);
-    assert_eq!(rt; status, Status::WriteFault);
+    let status = run(
+        alloc,
+        &words(alloc, &["desk"])?,
+        NoKeeper,
+        &mut input,
+        &mut output,
+    );
+    assert!(rt; matches!(&status, Status::WriteFault));
     assert_eq!(rt; output.bytes(), b"".as_slice());
     Ok(())
 }
@@ -354,19 +373,48 @@ fn status_of(alloc: Global, list: &[&str]) -> Result<Status, Fail> {
     let mut input = FakeSource::new(Bytes::from_slice(alloc, b"")?, 1, Vec::new(alloc));
     let mut output = FakeSink::new(alloc, 10, Vec::new(alloc))?;
     let words = words(alloc, list)?;
-    Ok(run(alloc, &words, &mut input, &mut output))
+    Ok(run(alloc, &words, NoKeeper, &mut input, &mut output))
 }
 
 #[test]
 fn other_words_are_no_command(rt: HostRuntime) -> Result<(), Fail> {
-    assert_eq!(rt; status_of(rt.alloc(), &["desk"])?, Status::Done);
-    assert_eq!(rt; status_of(rt.alloc(), &[])?, Status::Usage);
-    assert_eq!(rt; status_of(rt.alloc(), &["desks"])?, Status::Usage);
-    assert_eq!(rt; status_of(rt.alloc(), &["desk", "desk"])?, Status::Usage);
-    assert_eq!(rt; status_of(rt.alloc(), &["generate", "7"])?, Status::Usage);
-    assert_eq!(rt;
-        status_of(rt.alloc(), &["generate", "7", "1", "1"])?,
-        Status::Usage
+    assert!(rt; matches!(&status_of(rt.alloc(), &["desk"])?, Status::Done));
+    assert!(rt; matches!(&status_of(rt.alloc(), &[])?, Status::Usage));
+    assert!(rt; matches!(&status_of(rt.alloc(), &["desks"])?, Status::Usage));
+    assert!(rt;
+        matches!(
+            &status_of(rt.alloc(), &["generate", "7", "1", "1"])?,
+            Status::Usage
+        )
     );
+    for [first, second] in [
+        ["desk", "desk"],
+        ["generate", "7"],
+        ["desk", "--db"],
+        ["desk", "--db="],
+        ["desk", "--db=-x"],
+        ["desk", "--"],
+        ["desk", "--help"],
+        ["desk", "a"],
+        ["--db=a", "desk"],
+    ] {
+        assert!(rt; matches!(&status_of(rt.alloc(), &[first, second])?, Status::Usage));
+    }
+    for [second, third] in [
+        ["--db", "-x"],
+        ["--db", ""],
+        ["--db=a", "--db=a"],
+        ["--db", "--db=a"],
+        ["a", "--db"],
+    ] {
+        assert!(rt;
+            matches!(
+                &status_of(rt.alloc(), &["desk", second, third])?,
+                Status::Usage
+            )
+        );
+    }
+    let words = ["desk", "--db", "a", "--db", "b"];
+    assert!(rt; matches!(&status_of(rt.alloc(), &words)?, Status::Usage));
     Ok(())
 }

@@ -2,7 +2,7 @@
 
 ghost use Rattle.std.specs.Prelude.{◌≡◌, ◌≤◌, ◌<◌, ◌^◌, Some, List, ℕ, [], OnOk, OnErr, ◌∷◌, ◌++◌, ◌≢◌, true, false, codes, map, string_bytes, IfSome, IfNone};
 ghost use Rattle.std.specs.Fmt.{decimal};
-ghost use Rattle.oe_main.specs.Commands.{Says};
+ghost use Rattle.oe_main.specs.Commands.{IsCommand, IsFile, Says};
 
 use desk_generator::COUNT_LIMIT;
 use grid_exact::NoMemory;
@@ -15,9 +15,12 @@ pub const SEED_LIMIT: u64 = 0x7FFF_FFFF_FFFF_FFFF;
 
 /// What the words ask for.
 #[derive(Clone, Copy, Debug, PartialEq, Eq)]
-pub enum Command {
-    /// `desk`: the desk answers the input.
-    Desk,
+pub enum Command<'a> {
+    /// `desk`: the desk answers the input. With `--db FILE` or `--db=FILE` its tables are kept in that file.
+    Desk {
+        /// Where the tables are kept, if they are. It is not empty and does not begin with a dash.
+        file: Option<&'a str>,
+    },
     /// `generate SEED COUNT`: a desk is made by draws, and what it holds is told.
     Generate {
         /// Where the draws begin, at most `SEED_LIMIT`.
@@ -66,45 +69,81 @@ impl Words {
     }
 
     /// What the words ask for; `None` exactly where they are no command.
-    pub fn asks_for(&self) -> Option<Command>
+    pub fn asks_for(&self) -> Option<Command<'_>>
         ensures some { IfSome result (λ c. Says self.now c) }
-        ensures none { IfNone result ((c : Command) → Says self.now c → ⊥) }
+        ensures none { IfNone result (IsCommand self.now → ⊥) }
     {
         command_of(self.items.as_slice())
     }
 }
 
 /// The command that some words are.
-fn command_of(words: &[String]) -> Option<Command>
+fn command_of(words: &[String]) -> Option<Command<'_>>
     ensures some { IfSome result (λ c. Says (map (λ s. string_bytes s) words.now) c) }
-    ensures none { IfNone result ((c : Command) → Says (map (λ s. string_bytes s) words.now) c → ⊥) }
+    ensures none { IfNone result (IsCommand (map (λ s. string_bytes s) words.now) → ⊥) }
 {
     match words {
         [word] => desk_command(word.as_str()),
-        [word, seed, count] => generate_command(word.as_str(), seed.as_str(), count.as_str()),
+        [word, option] => placed_command(word.as_str(), option.as_str()),
+        [word, second, third] => three_words(word.as_str(), second.as_str(), third.as_str()),
         _ => None,
     }
 }
 
 /// The command that this one word is.
-fn desk_command(word: &str) -> Option<Command>
+fn desk_command(word: &str) -> Option<Command<'_>>
     ensures some { IfSome result (λ c. Says (word.now ∷ []) c) }
-    ensures none { IfNone result ((c : Command) → Says (word.now ∷ []) c → ⊥) }
+    ensures none { IfNone result (IsCommand (word.now ∷ []) → ⊥) }
 {
     if word == "desk" {
-        return Some(Command::Desk);
+        return Some(Command::Desk { file: None });
     }
     None
 }
 
-/// The command that these three words are.
-fn generate_command(word: &str, seed: &str, count: &str) -> Option<Command>
-    ensures some { IfSome result (λ c. Says (word.now ∷ seed.now ∷ count.now ∷ []) c) }
-    ensures none { IfNone result ((c : Command) → Says (word.now ∷ seed.now ∷ count.now ∷ []) c → ⊥) }
+/// The name of a file that a word is: it is not empty and does not begin with a dash.
+fn file_name(word: &str) -> Option<&str>
+    ensures some { IfSome result (λ f. (f.now ≡ word.now) × IsFile word.now) }
+    ensures none { IfNone result (IsFile word.now → ⊥) }
 {
-    if word != "generate" {
+    if word.is_empty() || word.starts_with("-") {
         return None;
     }
+    Some(word)
+}
+
+/// The command that these two words are.
+fn placed_command<'a>(word: &str, option: &'a str) -> Option<Command<'a>>
+    ensures some { IfSome result (λ c. Says (word.now ∷ option.now ∷ []) c) }
+    ensures none { IfNone result (IsCommand (word.now ∷ option.now ∷ []) → ⊥) }
+{
+    if word != "desk" {
+        return None;
+    }
+    let file = file_name(option.strip_prefix("--db=")?)?;
+    Some(Command::Desk { file: Some(file) })
+}
+
+/// The command that these three words are.
+fn three_words<'a>(word: &str, second: &str, third: &'a str) -> Option<Command<'a>>
+    ensures some { IfSome result (λ c. Says (word.now ∷ second.now ∷ third.now ∷ []) c) }
+    ensures none { IfNone result (IsCommand (word.now ∷ second.now ∷ third.now ∷ []) → ⊥) }
+{
+    if word == "generate" {
+        return generate_command(second, third);
+    }
+    if word != "desk" || second != "--db" {
+        return None;
+    }
+    let file = file_name(third)?;
+    Some(Command::Desk { file: Some(file) })
+}
+
+/// The command `generate` with these two words.
+fn generate_command<'a>(seed: &str, count: &str) -> Option<Command<'a>>
+    ensures some { IfSome result (λ c. Says (codes "generate" ∷ seed.now ∷ count.now ∷ []) c) }
+    ensures none { IfNone result (IsCommand (codes "generate" ∷ seed.now ∷ count.now ∷ []) → ⊥) }
+{
     let seed = number_within(seed, 0, SEED_LIMIT)?;
     let count = number_within(count, 1, u64::from(COUNT_LIMIT))?;
     Some(Command::Generate {

@@ -1,0 +1,4 @@
+pub mod ChangeFacts
+pub mod QueryFacts
+pub mod StepFacts
+pub mod PlainFacts

@@ -1,0 +1,127 @@
+//! The desk: what answers the lines of a session.
+
+ghost use Rattle.std.specs.Prelude.{◌≡◌, ◌≤◌, ◌<◌, ◌++◌, length, List, ℕ, OnOk, OnErr, string_bytes};
+ghost use Rattle.grid_exact.specs.Texts.{Extends};
+ghost use Rattle.desk_rules.specs.States.{empty};
+ghost use Rattle.desk_lines.specs.Desk.{Answers, Serving, Step, serving};
+
+use crate::fulfil::fulfil;
+use filing_desk::Clerk;
+use grid_exact::{LINE_LIMIT, NoMemory, Steps};
+use oe_findings::Findings;
+use oe_keeper::Keeper;
+use oe_session::Answering;
+use oe_wire::{ReadRefusal, RecordReader, Refusal, Reply, append_reply};
+use placed_keeper::NoKeeper;
+use std::alloc::Global;
+use std::marker::Model;
+use std::sync::ledger::{Blank, Ledger};
+
+/// A desk, seen as all that it holds (the airfields, the day, the closed days, the cases and the accepted requests) and how often its keeper
+/// failed.
+#[derive(Drop)]
+pub struct Desk<K: Keeper, L: Ledger> {
+    alloc: Global,
+    clerk: Clerk<K>,
+    records: RecordReader,
+    list: Findings,
+    steps: Steps<L>,
+}
+
+impl<K: Keeper, L: Ledger> Model for Desk<K, L> {
+    ghost use Rattle.desk_lines.specs.Desk.{Serving, serving};
+
+    ghost Value = { Serving };
+
+    ghost view = { λ d. serving d.clerk };
+}
+
+/// Appends the reply to a line; an empty line has none.
+fn append_answer<K: Keeper, L: Ledger>(
+    alloc: Global,
+    clerk: &mut Clerk<K>,
+    records: &mut RecordReader,
+    list: &mut Findings,
+    steps: &mut Steps<L>,
+    line: &[u8],
+    text: &mut String,
+) -> Result<(), NoMemory>
+    ensures ok { OnOk result (Answers (serving clerk.old) line.now (string_bytes text.old) (string_bytes text.new) (serving clerk.new)) }
+    ensures part { OnErr result (Extends (string_bytes text.old) (string_bytes text.new)) }
+{
+    if line.is_empty() {
+        return Ok(());
+    }
+    match records.read(line) {
+        Ok(request) => fulfil(alloc, clerk, list, steps, &request, text),
+        Err(ReadRefusal::Malformed { field }) => {
+            append_reply(text, &Reply::Refused(Refusal::Malformed { field }))
+        }
+        Err(ReadRefusal::NoMemory) => append_reply(text, &Reply::Refused(Refusal::NoMemory)),
+    }
+}
+
+/// Appends the reply to a line that is too long.
+fn append_too_long(text: &mut String) -> Result<(), NoMemory>
+    ensures ok { OnOk result ((reply : List ℕ) × ((s : Serving) (line : List ℕ) → LINE_LIMIT < length line → Step s line reply s) × (string_bytes text.new ≡ string_bytes text.old ++ reply)) }
+    ensures part { OnErr result (Extends (string_bytes text.old) (string_bytes text.new)) }
+{
+    append_reply(text, &Reply::Refused(Refusal::Malformed { field: 0 }))
+}
+
+impl<K: Keeper, L: Ledger> Desk<K, L> {
+    /// A desk over this clerk, whose steps are counted in the ledger that `blank` opens. It takes no memory.
+    pub fn over(alloc: Global, clerk: Clerk<K>, blank: Blank) -> Desk<K, L>
+        requires name { blank.name ≡ L.name }
+        requires parts { blank.parts ≡ L.parts }
+        requires some { 0 < L.parts }
+        ensures { result ≡ record { state = clerk.state; faults = clerk.faults } }
+    {
+        Desk {
+            alloc,
+            clerk,
+            records: RecordReader::new(alloc),
+            list: Findings::new(alloc),
+            steps: Steps::new(blank),
+        }
+    }
+}
+
+impl<L: Ledger> Desk<NoKeeper, L> {
+    /// A desk that holds nothing and of which nothing is kept, whose steps are counted in the ledger that `blank` opens. It takes no memory.
+    pub fn new(alloc: Global, blank: Blank) -> Desk<NoKeeper, L>
+        requires name { blank.name ≡ L.name }
+        requires parts { blank.parts ≡ L.parts }
+        requires some { 0 < L.parts }
+        ensures { result ≡ record { state = empty; faults = 0 } }
+    {
+        Desk::over(alloc, Clerk::unkept(alloc), blank)
+    }
+}
+
+impl<K: Keeper, L: Ledger> Answering for Desk<K, L> {
+    ghost use Rattle.desk_lines.specs.Desk.{StepOver};
+
+    ghost step = { StepOver K.faults };
+
+    fn answer(&mut self, line: &[u8], text: &mut String) -> Result<(), NoMemory> {
+        let answered = append_answer(
+            self.alloc,
+            &mut self.clerk,
+            &mut self.records,
+            &mut self.list,
+            &mut self.steps,
+            line,
+            text,
+        );
+        // the count is the keeper's
+        self.clerk.keeper();
+        answered
+    }
+
+    fn answer_long(&mut self, text: &mut String) -> Result<(), NoMemory> {
+        // the count is the keeper's
+        self.clerk.keeper();
+        append_too_long(text)
+    }
+}
