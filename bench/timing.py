@@ -22,11 +22,11 @@ def once(program, path, words=("desk",)):
     return usage.ru_utime, usage.ru_stime
 
 
-def peak_memory(program, path):
+def peak_memory(program, path, words=("desk",)):
     """Peak resident memory in KiB, asked of the system while the program waits for the end of its input.
 
     What the kernel counts of an ended child includes the memory of this script before the child became the program."""
-    child = subprocess.Popen([program, "desk"], stdin=subprocess.PIPE, stdout=subprocess.DEVNULL)
+    child = subprocess.Popen([program, *words], stdin=subprocess.PIPE, stdout=subprocess.DEVNULL)
     with open(path, "rb") as given:
         while block := given.read(1 << 20):
             child.stdin.write(block)
