@@ -1,8 +1,6 @@
-//! Worked values of dates, of the rows that a desk keeps, of the clerk over a keeper, and of the generator.
+//! Worked values of dates, of the rows that a desk keeps, and of the generator.
 #![tactic(auto)]
 
-#[cfg(test)]
-mod clerk_tests;
 #[cfg(test)]
 mod date_tests;
 #[cfg(test)]
@@ -13,8 +11,6 @@ mod filing_row_tests;
 mod generator_tests;
 #[cfg(test)]
 mod kept_row_tests;
-#[cfg(test)]
-mod opening_tests;
 #[cfg(test)]
 mod outcome_tests;
 #[cfg(test)]

@@ -92,7 +92,7 @@ fn clerk_after(
     let mut clerk = Clerk::open(alloc, keeper_of(alloc, Tables::empty(alloc)), None)?;
     for line in lines {
         let change = change_of(alloc, line).expect(rt, "it is a change");
-        let next = clerk.accepted() + 1;
+        let next = clerk.accepted().saturating_add(1);
         assert_eq!(rt; told(&clerk.apply(alloc, &change)), Ok(next));
     }
     Ok(clerk)

@@ -50,10 +50,10 @@ fn tables_of(alloc: Global, rows: &[Row]) -> Result<Tables, Fail> {
 // Whether the rows do not open, and this row is named.
 fn is_bad(alloc: Global, rows: &[Row], table: Table, key: &str) -> Result<bool, Fail> {
     let tables = tables_of(alloc, rows)?;
-    Ok(match read_desk(alloc, tables) {
-        Ok(_) => false,
+    let read = read_desk(alloc, tables);
+    Ok(match &read {
         Err(Unread::Bad(bad)) => bad.table == table && bad.key.as_str() == key,
-        Err(Unread::NoMemory) => false,
+        _ => false,
     })
 }
 
