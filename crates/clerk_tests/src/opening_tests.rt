@@ -1,6 +1,6 @@
-//! Tables that open as a desk, and the first bad row of those that do not.
+//! Tables that open as a desk.
 
-use desk_opening::{Unread, read_desk};
+use desk_opening::read_desk;
 use grid_exact::Text;
 use oe_keeper::{RowChange, Table, Tables};
 use std::alloc::Global;
@@ -47,16 +47,6 @@ fn tables_of(alloc: Global, rows: &[Row]) -> Result<Tables, Fail> {
     Ok(tables)
 }
 
-// Whether the rows do not open, and this row is named.
-fn is_bad(alloc: Global, rows: &[Row], table: Table, key: &str) -> Result<bool, Fail> {
-    let tables = tables_of(alloc, rows)?;
-    let read = read_desk(alloc, tables);
-    Ok(match &read {
-        Err(Unread::Bad(bad)) => bad.table == table && bad.key.as_str() == key,
-        _ => false,
-    })
-}
-
 #[test]
 fn tables_of_a_desk_open(rt: HostRuntime) -> Result<(), Fail> {
     let alloc = rt.alloc();
@@ -73,24 +63,5 @@ fn tables_of_a_desk_open(rt: HostRuntime) -> Result<(), Fail> {
     assert_eq!(rt; desk.cases.len(), 1);
     assert_eq!(rt; desk.entries.len(), 2);
     assert_eq!(rt; desk.entries.first().map(|entry| entry.number), Some(1));
-    Ok(())
-}
-
-#[test]
-fn the_first_bad_row_is_named(rt: HostRuntime) -> Result<(), Fail> {
-    let alloc = rt.alloc();
-    let rule = (Table::Airfield, "AAA", "airport,public,0,0,300001");
-    assert!(rt; is_bad(alloc, &[rule, FORMAT], Table::Airfield, "AAA")?);
-    assert!(rt; is_bad(alloc, &[RUNWAY, FORMAT], Table::Runway, "AAA 09/27")?);
-    assert!(rt; is_bad(alloc, &[AIRPORT], Table::Desk, "format")?);
-    assert!(rt; is_bad(alloc, &[FORMAT], Table::Desk, "format")?);
-    let other = (Table::Desk, "format", "9");
-    assert!(rt; is_bad(alloc, &[AIRPORT, other], Table::Desk, "format")?);
-    assert!(rt; is_bad(alloc, &[FORMAT, CASE], Table::Desk, "now")?);
-    let second = (Table::Filing, "000002", CASE.2);
-    assert!(rt; is_bad(alloc, &[FORMAT, NOW, second], Table::Filing, "000002")?);
-    assert!(rt; is_bad(alloc, &[FORMAT, NOW, FILED], Table::Receipt, "u 2")?);
-    let twice = (Table::Receipt, "v 1", "1\nday,v,1,2026-01-15\nday");
-    assert!(rt; is_bad(alloc, &[FORMAT, NOW, DAY_SET, twice], Table::Receipt, "v 1")?);
     Ok(())
 }
