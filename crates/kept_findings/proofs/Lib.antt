@@ -1,0 +1,5 @@
+mod Excesses
+mod PadExcesses
+mod SlopeFacts
+mod EntryFacts
+mod Findings

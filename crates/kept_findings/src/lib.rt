@@ -1,0 +1,6 @@
+//! Each list of findings over a register can be kept in a row.
+#![tactic(auto)]
+
+mod laws;
+
+pub use laws::findings_are_told;

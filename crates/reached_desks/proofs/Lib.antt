@@ -1,0 +1,13 @@
+pub mod Shown
+pub mod DateLimits
+pub mod RecordLimits
+pub mod AmendmentNames
+pub mod PlainEffects
+pub mod CaseActs
+pub mod CaseStarts
+pub mod NewCases
+pub mod NewEntries
+pub mod Acted
+pub mod ClosedDays
+pub mod SteppedDesks
+pub mod DesksGoOn

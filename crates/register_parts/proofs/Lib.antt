@@ -1,0 +1,5 @@
+pub mod RisingKeys
+pub mod Tests
+pub mod GoingOn
+pub mod Coming
+pub mod Whole
