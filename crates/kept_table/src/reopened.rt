@@ -35,12 +35,17 @@ fn opened_again<S: Alter + Drop>(alloc: Global, conn: Connection<S>) -> Option<C
 fn load_shaped<S: Alter>(alloc: Global, conn: &mut Connection<S>) -> Result<(Tables, bool), Stop>
     requires { HasCleanDisk (state S.Store conn.old) → (state S.Store conn.old).now.schema ≡ kept_schema → IsShaped Table ((state S.Store conn.old).now.trees 0) }
     ensures told { HasCleanDisk (state S.Store conn.new) → IsTrue (state S.Store conn.new).is_open → IfOk result (λ r. IsTrue r.1 → Holds (state S.Store conn.new) r.0) }
+    ensures shaped { IfOk result (λ r. (state S.Store conn.new).now.schema ≡ kept_schema → IsTrue r.1) }
 {
     if !conn.is_autocommit() {
         return Err(Stop::NotReady);
     }
     let is_told = has_shape(conn.schema());
     let tables = load_rows(alloc, conn)?;
+    // a read changes no schema
+    if has_shape(conn.schema()) != is_told {
+        return Err(Stop::NotReady);
+    }
     Ok((tables, is_told))
 }
 
@@ -56,6 +61,7 @@ pub struct Opened<S: Alter> {
 }
 
 /// The rows of a store that was just opened, with its table made where it is not there. A store that was not empty is read and checked once more.
+/// It tells its rows from then on exactly where it is the one table and no more.
 ///
 /// # Errors
 ///
@@ -64,6 +70,7 @@ pub struct Opened<S: Alter> {
 pub fn load_opened<S: Alter + Drop>(alloc: Global, conn: Connection<S>) -> Result<Opened<S>, Stop>
     ensures told { IfOk result (λ r. HasCleanDisk (state S.Store r.conn) → IsTrue (state S.Store r.conn).is_open → IsTrue r.is_told → Holds (state S.Store r.conn) r.tables) }
     ensures blank { (state S.Store conn).now.schema ≡ no_schema → IfOk result (λ r. IsTrue r.is_told) }
+    ensures shaped { IfOk result (λ r. (state S.Store r.conn).now.schema ≡ kept_schema → IsTrue r.is_told) }
 {
     let mut conn = conn;
     if is_blank(conn.schema()) {

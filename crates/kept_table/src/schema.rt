@@ -1,10 +1,10 @@
 //! Whether a schema is the one table, with its index.
 
-ghost use Rattle.std.specs.Prelude.{◌≡◌, IsTrue, [], ◌∷◌, true, codes};
-ghost use Rattle.kept_table.specs.Shape.{kept, kept_index, kept_schema};
-ghost use Rattle.kept_table.specs.Checks.{check_nodes};
-ghost use Rattle.sqlite_schema.specs.declared.code.Op.TheVariants.{Literal, Binary, Column as Place};
-ghost use Rattle.sqlite_sql.specs.declared.ops.BinaryOp.TheVariants.{Compare, And};
+ghost use Rattle.std.specs.Prelude.{◌≡◌, ◌↔◌, IsTrue, [], ◌∷◌, true};
+ghost use Rattle.kept_table.specs.Shape.{kept, kept_check, kept_index, kept_schema};
+ghost use Rattle.sqlite_schema.specs.Code.{term_to};
+ghost use Rattle.sqlite_sql.specs.Term.{col, lit, op2};
+ghost use Rattle.sqlite_sql.specs.declared.ops.BinaryOp.TheVariants.{Compare};
 ghost use Rattle.sqlite_value.specs.declared.keys.Collation.TheVariants as collation;
 ghost use Rattle.sqlite_value.specs.declared.value.Value.TheVariants.{Int, Null};
 
@@ -15,89 +15,79 @@ use sqlite_value::keys::Collation;
 use sqlite_value::value::{Bytes, Value};
 
 fn is_text(bytes: &Bytes, text: &str) -> bool
-    ensures { IsTrue result → bytes.now ≡ text.now }
+    ensures { IsTrue result ↔ (bytes.now ≡ text.now) }
 {
     bytes.as_slice() == text.as_bytes()
 }
 
-fn is_place(op: &Op) -> bool
-    ensures { IsTrue result → op.now ≡ Place 1 1 }
+/// Whether the term at a place is the column of the table's place.
+fn is_table_column(nodes: &[Op], depth: usize, at: usize) -> bool
+    ensures { IsTrue result ↔ (term_to nodes.now depth at ≡ col 1 1) }
 {
-    match op {
-        Op::Column(slot, at) => *slot == 1 && *at == 1,
-        _ => false,
-    }
-}
-
-fn is_int(op: &Op, number: i64) -> bool
-    ensures { IsTrue result → op.now ≡ Literal (Int number) }
-{
-    match op {
-        Op::Literal(Value::Int(value)) => *value == number,
-        _ => false,
-    }
-}
-
-fn is_compare(op: &Op, by: CompareOp, first: usize, second: usize) -> bool
-    ensures { IsTrue result → op.now ≡ Binary (Compare by collation.Binary) first second }
-{
-    match op {
-        Op::Binary(BinaryOp::Compare(how, Collation::Binary), a, b) => {
-            *how == by && *a == first && *b == second
+    depth > 0
+        && match nodes.get(at) {
+            Some(Op::Column(slot, place)) => *slot == 1 && *place == 1,
+            _ => false,
         }
-        _ => false,
-    }
 }
 
-fn is_and(op: &Op) -> bool
-    ensures { IsTrue result → op.now ≡ Binary And 2 5 }
+/// Whether it is this number.
+fn is_number(nodes: &[Op], depth: usize, at: usize, number: i64) -> bool
+    ensures { IsTrue result ↔ (term_to nodes.now depth at ≡ lit (Int number)) }
 {
-    match op {
-        Op::Binary(BinaryOp::And, a, b) => *a == 2 && *b == 5,
-        _ => false,
-    }
-}
-
-fn are_nodes(nodes: &[Op]) -> bool
-    ensures { IsTrue result → nodes.now ≡ check_nodes }
-{
-    match nodes {
-        [a, b, c, d, e, f, g] => {
-            is_place(a)
-                && is_int(b, 0)
-                && is_compare(c, CompareOp::Ge, 0, 1)
-                && is_place(d)
-                && is_int(e, 4)
-                && is_compare(f, CompareOp::Le, 3, 4)
-                && is_and(g)
+    depth > 0
+        && match nodes.get(at) {
+            Some(Op::Literal(Value::Int(value))) => *value == number,
+            _ => false,
         }
-        _ => false,
-    }
 }
 
-fn is_six(places: &[usize]) -> bool
-    ensures { IsTrue result → places.now ≡ 6 ∷ [] }
+/// Whether it compares that column with this number.
+fn is_compared(nodes: &[Op], depth: usize, at: usize, by: CompareOp, number: i64) -> bool
+    ensures { IsTrue result ↔ (term_to nodes.now depth at ≡ op2 (Compare by collation.Binary) (col 1 1) (lit (Int number))) }
 {
-    match places {
-        [a] => *a == 6,
-        _ => false,
-    }
+    depth > 0
+        && match nodes.get(at) {
+            Some(Op::Binary(BinaryOp::Compare(how, Collation::Binary), a, b)) => {
+                *how == by
+                    && is_table_column(nodes, depth - 1, *a)
+                    && is_number(nodes, depth - 1, *b, number)
+            }
+            _ => false,
+        }
+}
+
+/// Whether it is the check of the table.
+fn is_check(nodes: &[Op], depth: usize, at: usize) -> bool
+    ensures { IsTrue result ↔ (term_to nodes.now depth at ≡ kept_check) }
+{
+    depth > 0
+        && match nodes.get(at) {
+            Some(Op::Binary(BinaryOp::And, a, b)) => {
+                is_compared(nodes, depth - 1, *a, CompareOp::Ge, 0)
+                    && is_compared(nodes, depth - 1, *b, CompareOp::Le, 4)
+            }
+            _ => false,
+        }
 }
 
 fn has_checks(terms: &Terms) -> bool
-    ensures { IsTrue result → terms.now ≡ kept.checks }
+    ensures { IsTrue result ↔ (terms.now ≡ kept.checks) }
 {
-    are_nodes(terms.nodes.as_slice()) && is_six(terms.roots.as_slice())
+    match terms.roots.as_slice() {
+        [at] => is_check(terms.nodes.as_slice(), terms.nodes.len(), *at),
+        _ => false,
+    }
 }
 
 fn has_no_terms(terms: &Terms) -> bool
-    ensures { IsTrue result → terms.now ≡ [] }
+    ensures { IsTrue result ↔ (terms.now ≡ []) }
 {
     terms.roots.len() == 0
 }
 
 fn are_one_two(places: &[usize]) -> bool
-    ensures { IsTrue result → places.now ≡ 1 ∷ 2 ∷ [] }
+    ensures { IsTrue result ↔ (places.now ≡ 1 ∷ 2 ∷ []) }
 {
     match places {
         [a, b] => *a == 1 && *b == 2,
@@ -106,7 +96,7 @@ fn are_one_two(places: &[usize]) -> bool
 }
 
 fn is_column(column: &Column, name: &str, kind: Kind) -> bool
-    ensures { IsTrue result → column.now ≡ record { name = name.now; kind = kind; is_strict = true; not_null = true; default = Null; collation = collation.Binary } }
+    ensures { IsTrue result ↔ (column.now ≡ record { name = name.now; kind = kind; is_strict = true; not_null = true; default = Null; collation = collation.Binary }) }
 {
     is_text(&column.name, name)
         && column.kind == kind
@@ -117,7 +107,7 @@ fn is_column(column: &Column, name: &str, kind: Kind) -> bool
 }
 
 fn are_columns(columns: &[Column]) -> bool
-    ensures { IsTrue result → columns.now ≡ kept.columns }
+    ensures { IsTrue result ↔ (columns.now ≡ kept.columns) }
 {
     match columns {
         [t, k, v] => {
@@ -130,10 +120,7 @@ fn are_columns(columns: &[Column]) -> bool
 }
 
 fn has_keys(table: &Table) -> bool
-    ensures key { IsTrue result → table.now.key ≡ kept.key }
-    ensures primary { IsTrue result → table.now.primary ≡ kept.primary }
-    ensures uniques { IsTrue result → table.now.uniques ≡ kept.uniques }
-    ensures orders { IsTrue result → table.now.orders ≡ kept.orders }
+    ensures { IsTrue result ↔ ((table.now.key ≡ kept.key) × (table.now.primary ≡ kept.primary) × (table.now.uniques ≡ kept.uniques) × (table.now.orders ≡ kept.orders)) }
 {
     let is_unique = match table.uniques.as_slice() {
         [places] => are_one_two(places.as_slice()),
@@ -147,9 +134,7 @@ fn has_keys(table: &Table) -> bool
 }
 
 fn has_no_more(table: &Table) -> bool
-    ensures references { IsTrue result → table.now.references ≡ [] }
-    ensures computed { IsTrue result → table.now.computed ≡ [] }
-    ensures stamps { IsTrue result → table.now.stamps ≡ kept.stamps }
+    ensures { IsTrue result ↔ ((table.now.references ≡ []) × (table.now.computed ≡ []) × (table.now.stamps ≡ kept.stamps)) }
 {
     table.references.len() == 0
         && table.computed.len() == 0
@@ -159,7 +144,7 @@ fn has_no_more(table: &Table) -> bool
 }
 
 fn is_kept(table: &Table) -> bool
-    ensures { IsTrue result → table.now ≡ kept }
+    ensures { IsTrue result ↔ (table.now ≡ kept) }
 {
     is_text(&table.name, "kept")
         && table.tree == 0
@@ -171,7 +156,7 @@ fn is_kept(table: &Table) -> bool
 }
 
 fn is_kept_index(index: &Index) -> bool
-    ensures { IsTrue result → index.now ≡ kept_index }
+    ensures { IsTrue result ↔ (index.now ≡ kept_index) }
 {
     is_text(&index.name, "sqlite_autoindex_kept_1")
         && index.tree == 1
@@ -183,7 +168,7 @@ fn is_kept_index(index: &Index) -> bool
 
 /// Whether the schema is the one table, as the resolver writes it, and its index.
 pub fn has_shape(schema: &Schema) -> bool
-    ensures { IsTrue result → schema.now ≡ kept_schema }
+    ensures { IsTrue result ↔ (schema.now ≡ kept_schema) }
 {
     let has_table = match schema.tables.as_slice() {
         [table] => is_kept(table),
