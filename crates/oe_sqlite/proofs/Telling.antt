@@ -6,8 +6,9 @@ use Rattle.std.specs.Coded.{Coded-set}
 use Rattle.oe_keeper.specs.Kept.{Kept, kept_code}
 use Rattle.oe_keeper.specs.Keeping.{StaysSilent}
 use Rattle.sqlite_disk.specs.declared.Disk.{Ghosts}
-use Rattle.oe_sqlite.specs.Places.{TellsAt, IsHeldAt, TellsWith}
+use Rattle.oe_sqlite.specs.Places.{TellsAt, IsHeldAt, IsCleanAt, TellsWith}
 use Rattle.oe_sqlite.specs.declared.place.Place.{Place}
+use Rattle.oe_sqlite.specs.declared.place.Place.TheVariants.{Nowhere, Memory, File}
 
 pub rows_told : {E D : Type 0} {g : Ghosts D} (r : Result Kept E) (told : Bool) (old new : Place D g) → ∥ (IsTrue told → IsHeldAt old) ∥₁ → (IsHeldAt old → IfOk r (λ rows. (now : Kept) → TellsAt new now → now ≡ rows))
     → IfOk r (λ rows. (now : Kept) → TellsWith told new now → now ≡ rows)
@@ -24,3 +25,12 @@ on_err (Err e) f p = f p
 pub always_err : {T E : Type 0} {Q : Type 0} (r : Result T E) → Q → OnErr r Q
 always_err (Ok x) q = tt
 always_err (Err e) q = q
+
+-- a place that shows its rows whenever it is clean tells them while it is
+shown_rows : {D : Type 0} {g : Ghosts D} (place : Place D g) → IsHeldAt place → IsCleanAt place → (rows : Kept) × TellsAt place rows
+shown_rows Nowhere held clean = absurd clean
+shown_rows (Memory conn) held clean = ((held clean.0 clean.1).0, (clean.0, clean.1, (held clean.0 clean.1).1))
+shown_rows (File conn) held clean = ((held clean.0 clean.1).0, (clean.0, clean.1, (held clean.0 clean.1).1))
+
+pub tells_rows : {D : Type 0} {g : Ghosts D} (told : Bool) (place : Place D g) → ∥ (IsTrue told → IsHeldAt place) ∥₁ → IsTrue told → IsCleanAt place → ∥ ((rows : Kept) × TellsWith told place rows) ∥₁
+tells_rows told place held is clean = ∥∥₁_map held (λ h. ((shown_rows place (h is) clean).0, (is, (shown_rows place (h is) clean).1)))

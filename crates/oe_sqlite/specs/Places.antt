@@ -4,10 +4,11 @@ use Rattle.std.proofs.Common.{sym, ◌∙◌}
 use Rattle.sqlite_disk.specs.declared.Disk.{Ghosts}
 use Rattle.sqlite.specs.Held.{state}
 use Rattle.sqlite.specs.Files.{file_state}
+use Rattle.sqlite.specs.State.{HasCleanDisk}
 use Rattle.sqlite.specs.Steps.{over_memory}
 use Rattle.oe_keeper.specs.Kept.{Kept}
 use Rattle.kept_table.specs.Model.{IsHeld, TellsIn}
-use Rattle.kept_table.specs.Shape.{no_schema}
+use Rattle.kept_table.specs.Shape.{kept_schema, no_schema}
 use Rattle.oe_sqlite.specs.declared.place.Place.{Place}
 use Rattle.oe_sqlite.specs.declared.place.Place.TheVariants.{Nowhere, Memory, File}
 
@@ -32,6 +33,18 @@ abbrev pub IsBlankAt : {D : Type 0} {g : Ghosts D} → Place D g → Type 0
 IsBlankAt Nowhere = ⊥
 IsBlankAt (Memory conn) = (state over_memory conn).now.schema ≡ no_schema
 IsBlankAt (File conn) = (file_state conn).now.schema ≡ no_schema
+
+-- its store has the one table, as this keeper makes it, and no more
+abbrev pub IsShapedAt : {D : Type 0} {g : Ghosts D} → Place D g → Type 0
+IsShapedAt Nowhere = ⊥
+IsShapedAt (Memory conn) = (state over_memory conn).now.schema ≡ kept_schema
+IsShapedAt (File conn) = (file_state conn).now.schema ≡ kept_schema
+
+-- its store is open, and what was read from its disk is what was written there
+abbrev pub IsCleanAt : {D : Type 0} {g : Ghosts D} → Place D g → Type 0
+IsCleanAt Nowhere = ⊥
+IsCleanAt (Memory conn) = HasCleanDisk (state over_memory conn) × IsTrue (state over_memory conn).is_open
+IsCleanAt (File conn) = HasCleanDisk (file_state conn) × IsTrue (file_state conn).is_open
 
 pub told_once : {D : Type 0} {g : Ghosts D} (place : Place D g) (a b : Kept) → TellsAt place a → TellsAt place b → a ≡ b
 told_once Nowhere a b p q = absurd p

@@ -4,7 +4,7 @@ ghost use Rattle.std.specs.Prelude.{◌≡◌, true, false, None, Err, IsTrue, I
 ghost use Rattle.oe_keeper.specs.Kept.{Kept};
 ghost use Rattle.oe_keeper.specs.Keeping.{HasCause, IfFailed, Stays, StaysSilent, HasAll};
 ghost use Rattle.oe_sqlite.specs.declared.place.Place.TheVariants.{Nowhere};
-ghost use Rattle.oe_sqlite.specs.Places.{TellsWith, IsHeldAt, IsBlankAt, told_once};
+ghost use Rattle.oe_sqlite.specs.Places.{TellsWith, IsHeldAt, IsBlankAt, IsCleanAt, IsShapedAt, told_once};
 
 use crate::opens::{HostFiles, Opens};
 use crate::place::Place;
@@ -12,6 +12,7 @@ use kept_table::Stop;
 use oe_keeper::{KeepErr, Keeper, RowChange, Tables};
 use sqlite::Connection;
 use std::alloc::Global;
+use std::mem;
 
 /// A keeper over the files of the machine.
 pub type SqliteKeeper<'a> = StoreKeeper<HostFiles<'a>>;
@@ -73,22 +74,23 @@ impl<O: Opens> StoreKeeper<O> {
         }
     }
 
-    /// The rows of a keeper that tells none yet.
+    /// The rows of a keeper that tells none yet. Its store is looked at anew, and closed where it cannot be read.
     fn load_untold(&mut self, alloc: Global, path: Option<&str>) -> Result<Tables, Stop>
         requires { self.old.is_told ≡ false }
         ensures faults { self.new.faults ≡ self.old.faults }
         ensures rows { IfOk result (λ rows. (now : Kept) → TellsWith self.new.is_told self.new.place now → now ≡ rows) }
         ensures untold { OnErr result (self.new.is_told ≡ false) }
         ensures memory { self.old.place ≡ Nowhere → path.entry ≡ None → OnOk result (IsTrue self.new.is_told) }
+        ensures shaped { OnOk result (IsShapedAt self.new.place → IsTrue self.new.is_told) }
     {
-        if matches!(&self.place, Place::Nowhere) {
-            let opened = self.open(alloc, path)?;
-            let (place, tables, is_told) = opened.load_first(alloc)?;
-            self.place = place;
-            self.is_told = is_told;
-            return Ok(tables);
-        }
-        self.place.load_again(alloc)
+        let opened = match mem::replace(&mut self.place, Place::Nowhere) {
+            Place::Nowhere => self.open(alloc, path)?,
+            place => place,
+        };
+        let (place, tables, is_told) = opened.load_first(alloc)?;
+        self.place = place;
+        self.is_told = is_told;
+        Ok(tables)
     }
 
     /// The rows of the store, which is opened where there is none yet.
@@ -99,6 +101,7 @@ impl<O: Opens> StoreKeeper<O> {
         ensures silent { OnErr result (StaysSilent (λ k. TellsWith k.is_told k.place) self.old self.new) }
         ensures memory { self.old.place ≡ Nowhere → path.entry ≡ None → OnOk result (IsTrue self.new.is_told) }
         ensures still { IsTrue self.old.is_told → IsTrue self.new.is_told }
+        ensures shaped { OnOk result (IsShapedAt self.new.place → IsTrue self.new.is_told) }
     {
         if self.is_told {
             self.place.load_again(alloc)
@@ -140,9 +143,10 @@ impl<O: Opens> Keeper for StoreKeeper<O> {
         ensures steady { ⊥ → ⊥ }
         ensures unfailing { ⊥ → IfFailed result ⊥ }
 
-        // A store in memory is told from its first load on, and what is told stays so.
+        // A store in memory is told from its first load on, what is told stays so, and a store that has the one table is told while it is clean.
         ensures memory { self.old.place ≡ Nowhere → place.entry ≡ None → OnOk result (IsTrue self.new.is_told) }
         ensures still { IsTrue self.old.is_told → IsTrue self.new.is_told }
+        ensures tells { OnOk result (IsShapedAt self.new.place → IsCleanAt self.new.place → ∥ ((rows : Kept) × TellsWith self.new.is_told self.new.place rows) ∥₁) }
     {
         match self.load_all(alloc, place) {
             Ok(tables) => Ok(tables),

@@ -3,7 +3,7 @@
 ghost use Rattle.std.specs.Prelude.{◌≡◌, IsTrue, IfOk, OnOk, OnErr};
 ghost use Rattle.oe_keeper.specs.Kept.{Kept};
 ghost use Rattle.oe_keeper.specs.Keeping.{Stays, StaysSilent, HasAll};
-ghost use Rattle.oe_sqlite.specs.Places.{TellsAt, IsHeldAt, IsBlankAt};
+ghost use Rattle.oe_sqlite.specs.Places.{TellsAt, IsHeldAt, IsBlankAt, IsShapedAt};
 
 use kept_table::{Opened, Stop, change_told, load_again, load_opened};
 use oe_keeper::{RowChange, Tables};
@@ -25,6 +25,7 @@ impl<D: Disk + Drop> Place<D> {
         ensures held { IfOk result (λ r. IsTrue r.2 → IsHeldAt r.0) }
         ensures rows { IfOk result (λ r. IsTrue r.2 → (now : Kept) → TellsAt r.0 now → now ≡ r.1) }
         ensures blank { IsBlankAt self → IfOk result (λ r. IsTrue r.2) }
+        ensures shaped { IfOk result (λ r. IsShapedAt r.0 → IsTrue r.2) }
     {
         match self {
             Place::Memory(conn) => {

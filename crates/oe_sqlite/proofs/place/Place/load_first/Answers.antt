@@ -1,4 +1,6 @@
-use Rattle.std.proofs.Common.{sym, ◌∙◌}
+use Rattle.std.proofs.Common.{sym, subst, ◌∙◌}
+use Rattle.oe_sqlite.specs.Places.{IsBlankAt}
+use Rattle.oe_sqlite.specs.declared.place.Place.{Place}
 use Rattle.oe_sqlite.proofs.place.Place.load_first.Goals as goal
 
 pub returns-in_ok-conn-in-Memory-clause-held : goal.returns-in_ok-conn-in-Memory-clause-held
@@ -9,3 +11,6 @@ returns-in_ok-conn-in-File-clause-held g c = λ told clean up. (c.in_ok-conn-in-
 
 pub returns-in_ok-conn-in-File-clause-rows : goal.returns-in_ok-conn-in-File-clause-rows
 returns-in_ok-conn-in-File-clause-rows g c = λ told now there. sym there.2.are ∙ (c.in_ok-conn-in-File.ensures.told there.0 there.1 told).are
+
+pub returns-in_ok-conn-in-File-clause-blank : goal.returns-in_ok-conn-in-File-clause-blank
+returns-in_ok-conn-in-File-clause-blank g c = λ blank. c.in_ok-conn-in-File.ensures.blank (subst (λ (p : Place _ _). IsBlankAt p) c.in-File.is blank)
