@@ -11,7 +11,7 @@ use std::process::Abort;
 use std::test::Fail;
 
 /// How a run over a keeper ends, and what it writes.
-fn ran<K: Keeper + Drop>(
+pub(crate) fn ran<K: Keeper + Drop>(
     alloc: Global,
     keeper: K,
     list: &[&str],

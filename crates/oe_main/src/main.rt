@@ -35,6 +35,8 @@ mod review_tests;
 #[cfg(test)]
 mod rule_tests;
 #[cfg(test)]
+mod store_tests;
+#[cfg(test)]
 mod tests;
 
 /// The words after the program's name.
