@@ -22,6 +22,18 @@ def once(program, path, words=("desk",)):
     return usage.ru_utime, usage.ru_stime
 
 
+def spent(pid):
+    """Ticks of a processor that a program has taken so far."""
+    return [int(part) for part in Path(f"/proc/{pid}/stat").read_text().rsplit(")", 1)[1].split()[11:13]]
+
+
+def wait_at_rest(pid):
+    """Waits until a program does nothing for a while: it has read all that it was given, and waits for more."""
+    before = None
+    while before != (before := spent(pid)):
+        time.sleep(0.3)
+
+
 def peak_memory(program, path, words=("desk",)):
     """Peak resident memory in KiB, asked of the system while the program waits for the end of its input.
 
@@ -31,7 +43,7 @@ def peak_memory(program, path, words=("desk",)):
         while block := given.read(1 << 20):
             child.stdin.write(block)
     child.stdin.flush()
-    time.sleep(0.3)
+    wait_at_rest(child.pid)
     status = Path(f"/proc/{child.pid}/status").read_text()
     child.stdin.close()
     child.wait()
