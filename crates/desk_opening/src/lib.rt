@@ -13,3 +13,4 @@ mod value;
 pub use laws::{opened_empty, opened_rows};
 pub use opening::{OpenedDesk, read_desk};
 pub use unread::{BadRow, Unread};
+pub use value::RowValue;

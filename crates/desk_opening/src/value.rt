@@ -15,7 +15,7 @@ use std::alloc::Global;
 
 /// What a row of one of the five tables tells.
 #[derive(Drop)]
-pub(crate) enum RowValue {
+pub enum RowValue {
     Airfield(Airfield),
     Runway(RunwayRow),
     Desk(DeskRow),

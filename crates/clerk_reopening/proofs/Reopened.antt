@@ -1,0 +1,41 @@
+-- From what a keeper finds to the desk that it tells.
+use Rattle.std.proofs.Common.{◌≡◌, refl, ℕ, List, [], Option, Result, Ok, Err}
+use Rattle.std.specs.Prelude.{IfOk, IfErr}
+use Rattle.std.specs.Coded.{Coded, Coded-set, code_by, coded×, coded_list, coded_option}
+use Rattle.std.proofs.Math.Logic.{∥∥₁_elim}
+use Rattle.jiff_core.specs.contracts.civil.date.Date as date
+use Rattle.airfields.specs.contracts.airfield.Airfield as airfield
+use Rattle.case_records.specs.contracts.case.KeptCase as case
+use Rattle.desk_rules.specs.contracts.entry.Entry as entry
+use Rattle.desk_rules.specs.States.{State}
+use Rattle.oe_keeper.specs.Kept.{Kept, Key}
+use Rattle.desk_rows.specs.Rows.{AreRows}
+use Rattle.desk_opening.specs.Opening.{Opens, IsFirstBad}
+use Rattle.filing_desk.specs.Clerks.{Clerking}
+use Rattle.filing_desk.specs.Handed.{Told}
+use Rattle.filing_desk.specs.Loads.{IsOpened, HasOpenCause}
+use Rattle.filing_desk.specs.declared.opening.OpenRefusal.{OpenRefusal}
+use Rattle.filing_desk.specs.declared.opening.OpenRefusal.TheVariants as refusals
+use Rattle.clerk_reopening.specs.Refusals.{IsNoBadRow}
+
+state_code : Coded State
+state_code =
+    code_by (_ × (_ × (_ × (_ × _))))
+    (coded× (coded_list airfield.the_row.coded) (coded× (coded_option date.the_row.coded) (coded× (coded_list date.the_row.coded) (coded× (coded_list case.the_row.coded) (coded_list entry.the_row.coded)))))
+    (λ (s : State). (s.register, (s.day, (s.closed, (s.cases, s.entries)))))
+    (λ p. record { register = p.0; day = p.1.0; closed = p.1.1.0; cases = p.1.1.1.0; entries = p.1.1.1.1 })
+    (λ _. refl)
+
+module _ {K : Type 0} (Tells : K → Kept → Type 0) (Finds : K → Option (List ℕ) → Kept → Type 0) (faults : K → ℕ) (IsSteady : K → Type 0) (keeper : K) (path : Option (List ℕ)) (s : State)
+    (told : Told Tells keeper s) (finds : (k : K) (rows : Kept) → Finds k path rows → Tells k rows) (opens : (kept : Kept) → AreRows s kept → Opens kept s) where
+  pub same_state : ((a b : State) (kept : Kept) → Opens kept a → Opens kept b → a ≡ b) → (r : Result Clerking OpenRefusal) → IfOk r (λ c. IsOpened Finds faults keeper path c) → IfOk r (λ c. c.state ≡ s)
+  unfolding Told
+  same_state one (Err why) h = tt
+  same_state one (Ok c) h = ∥∥₁_elim (told h.kept (finds keeper h.kept h.found)) (Coded-set state_code _ _) (λ are. one c.state s h.kept h.opens (opens h.kept are))
+
+  pub none_bad : ((a : State) (kept : Kept) (k : Key) → Opens kept a → IsFirstBad kept k → ⊥) → (why : OpenRefusal) → HasOpenCause Finds faults IsSteady keeper path why → IsNoBadRow why
+  unfolding Told
+  none_bad sound refusals.KeeperFault h = tt
+  none_bad sound (refusals.BadRow table key) h =
+      ∥∥₁_elim (told h.0 (finds keeper h.0 h.1)) (λ a b. absurd a) (λ are. sound s h.0 _ (opens h.0 are) h.2)
+  none_bad sound refusals.NoMemory h = tt

@@ -1,0 +1,6 @@
+//! A clerk that is opened again over its own keeper goes on as it was.
+#![tactic(auto)]
+
+mod reopened;
+
+pub use reopened::reopened;
