@@ -1,6 +1,6 @@
 -- The rows of a desk's days can be read.
 use Rattle.std.proofs.Common.{◌≡◌, refl, sym, subst, ℕ, List, Bool, true, false, Option, Some, IfSome}
-use Rattle.std.proofs.lemmas.Option.{same_Some}
+use Rattle.std.proofs.lemmas.Option.{cond_some}
 use Rattle.jiff_core.specs.declared.civil.date.Date.{Date}
 use Rattle.jiff_core.specs.Date.{epoch_day}
 use Rattle.determination_dates.specs.Days.{IsLimited}
@@ -12,7 +12,7 @@ use Rattle.oe_keeper.specs.Kept.{Kept}
 use Rattle.oe_keeper.specs.declared.change.Table.TheVariants as tables
 use Rattle.desk_rules.specs.States.{State}
 use Rattle.desk_rows.specs.Rows.{AreTables}
-use Rattle.desk_rows.specs.Tables.{ClosedOn, DayName, Format, IsDayName, Today, day_found, day_key, found_in, shown}
+use Rattle.desk_rows.specs.Tables.{ClosedOn, DayName, Format, IsDayName, Today, day_found, day_key, found_in}
 use Rattle.desk_opening.specs.Parts.{Part}
 use Rattle.desk_opening.specs.declared.value.RowValue.TheVariants.{Desk}
 use Rattle.reached_desks.specs.Desks.{IsDesk}
@@ -22,15 +22,11 @@ use Rattle.desk_reopening.proofs.Places.{mapped}
 use Rattle.desk_reopening.proofs.RowNames.{day_named, day_sure, name_found}
 use Rattle.desk_reopening.proofs.RowsInOrder.{ComesAt}
 
-shown_parts : (b : Bool) (y x : List ℕ) → shown b y ≡ Some x → (b ≡ true) × (y ≡ x)
-shown_parts true y x h = (refl, same_Some y x h)
-shown_parts false y x h = absurd (cc (h))
-
 module _ (s : State) (desk : IsDesk s) (n : ℕ) (b f : Bool) (kept so_far : Kept) (are : AreTables f s kept) (p : Part) (part : IsPartOf s n p)
     (lone : f ≡ true → b ≡ false) where
   day_by : (name : DayName) (text : List ℕ) → day_found f s.day s.closed name ≡ Some text → ComesIn s n b p ((2, day_key name), text)
   day_by Format text row =
-      let shows = shown_parts f (desk_row rows.Format) text row in
+      let shows = cond_some f (desk_row rows.Format) text row in
       record {
         value = Desk rows.Format;
         is = (refl, record { key_is = refl; row_is = sym shows.1; valid = tt });
@@ -46,7 +42,7 @@ module _ (s : State) (desk : IsDesk s) (n : ℕ) (b f : Bool) (kept so_far : Kep
         part = record { register = part.register; room = part.room; entries = part.entries };
       }
   day_by (ClosedOn d) text row =
-      let shows = shown_parts (is_closed s.closed (epoch_day d)) (desk_row (rows.Closed d)) text row in
+      let shows = cond_some (is_closed s.closed (epoch_day d)) (desk_row (rows.Closed d)) text row in
       record {
         value = Desk (rows.Closed d);
         is = (refl, record { key_is = refl; row_is = sym shows.1; valid = closed_limited d s.closed desk.closed.limited shows.0 });

@@ -1,5 +1,5 @@
 -- What was read so far of tables, as a part of a desk.
-use Rattle.std.proofs.Common.{◌≡◌, refl, sym, ap, ◌∙◌, subst, arith, ℕ, zero, suc, ◌-◌, ◌<◌, ◌≤◌, ◌^◌, Bool, List, [], ◌∷◌, ◌++◌, length, length-append, All}
+use Rattle.std.proofs.Common.{◌≡◌, refl, sym, ap, ◌∙◌, subst, arith, ℕ, ◌-◌, ◌<◌, ◌≤◌, ◌^◌, Bool, List, [], ◌∷◌, ◌++◌, length, length-append, All}
 use Rattle.std.proofs.Common.{Option, Some, None, IfSome, slice_get, slice_set, replicate}
 use Rattle.std.specs.FinMap as maps
 use Rattle.std.proofs.lemmas.List.{length-replicate, length-set}
@@ -41,7 +41,7 @@ use Rattle.desk_opening.specs.Opening.{count_of, is_in, unread_of}
 use Rattle.desk_opening.specs.declared.value.RowValue.TheVariants.{Airfield as AnAirfield, Runway, Desk, Case, Request}
 use Rattle.desk_opening.proofs.RequestRows.{no_entries}
 use Rattle.desk_reopening.proofs.Owners.{entry_like, own_with}
-use Rattle.desk_reopening.proofs.Places.{IsFilledMore, filled_more, set_each, unmapped}
+use Rattle.desk_reopening.proofs.Places.{IsFilledMore, filled_more, none_filled, set_each, unmapped}
 use Rattle.desk_reopening.proofs.Walks.{IsKept}
 
 pub record AreFields (register : List Airfield) : Type 0 where
@@ -74,15 +74,10 @@ pub record IsDeskPart (requests : ℕ) (p : Part) : Type 0 where
 
 -- ---- before the first row
 
-none_there : (n i : ℕ) (P : Entry → Type 0) → IfSome (slice_get (replicate n None) i) (λ o. IfSome o P)
-none_there zero i P = tt
-none_there (suc n) zero P = tt
-none_there (suc n) (suc i) P = none_there n i P
-
 no_requests : (n : ℕ) → AreRequests n (replicate n None)
 no_requests n = record {
   room = length-replicate n None;
-  each = λ i. none_there n i (IsRequestAt n i);
+  each = λ i. none_filled n i (IsRequestAt n i);
   own = subst (λ (es : List Entry). All (IsOwn es) es) (sym (no_entries n)) desk_starts.own;
 }
 

@@ -1,5 +1,5 @@
 -- What was read so far of the rows of a desk, as a part of it.
-use Rattle.std.proofs.Common.{◌≡◌, ◌≢◌, ℕ, List, [], length, Some, None, IfSome, slice_get, replicate, zero, suc, Bool}
+use Rattle.std.proofs.Common.{◌≡◌, ◌≢◌, ℕ, List, [], length, Some, None, IfSome, slice_get, Bool}
 use Rattle.std.proofs.lemmas.List.{length-replicate}
 use Rattle.airfields.specs.Runways.{runway_at}
 use Rattle.airfields.specs.declared.runway.Runway.{Runway}
@@ -14,11 +14,11 @@ use Rattle.register_parts.specs.Parts.{IsPart}
 use Rattle.oe_keeper.specs.Kept.{Kept}
 use Rattle.oe_keeper.specs.declared.change.Table.TheVariants as tables
 use Rattle.desk_rules.specs.States.{State}
-use Rattle.desk_rules.specs.declared.entry.Entry.{Entry}
 use Rattle.desk_opening.specs.Values.{Row, IsRowOf}
 use Rattle.desk_opening.specs.Parts.{Part, IsNext, with_row}
 use Rattle.desk_opening.specs.Opening.{count_of, is_in, unread_of}
 use Rattle.desk_opening.specs.declared.value.RowValue.{RowValue}
+use Rattle.desk_reopening.proofs.Places.{none_filled}
 
 -- parts of registers that grow to the whole
 pub record PartsGrow : Type 0 where
@@ -51,14 +51,9 @@ pub record ComesIn (s : State) (requests : ℕ) (is_lone : Bool) (p : Part) (r :
   pub next : IsNext is_lone p value
   pub part : IsPartOf s requests (with_row value p)
 
-none_there : (n i : ℕ) (P : Entry → Type 0) → IfSome (slice_get (replicate n None) i) (λ o. IfSome o P)
-none_there zero i P = tt
-none_there (suc n) zero P = tt
-none_there (suc n) (suc i) P = none_there n i P
-
 pub nothing_of : PartsGrow → (s : State) (kept : Kept) → IsPartOf s (count_of (is_in tables.Receipt) kept) (unread_of kept)
 nothing_of grow s kept = record {
   register = grow.nothing s.register;
   room = length-replicate (count_of (is_in tables.Receipt) kept) None;
-  entries = λ i. none_there (count_of (is_in tables.Receipt) kept) i (λ e. slice_get s.entries i ≡ Some e);
+  entries = λ i. none_filled (count_of (is_in tables.Receipt) kept) i (λ e. slice_get s.entries i ≡ Some e);
 }

@@ -1,6 +1,6 @@
 -- Lists by their places, and lists of places of which some are filled.
 use Rattle.std.proofs.Common.{◌≡◌, refl, sym, ap, arith, ℕ, zero, suc, ◌+◌, ◌≤◌, List, [], ◌∷◌, ◌++◌, length, Option, Some, None, IfSome, All, slice_get}
-use Rattle.std.proofs.Common.{slice_set}
+use Rattle.std.proofs.Common.{slice_set, replicate}
 use Rattle.std.specs.List.{flat_map}
 use Rattle.std.specs.Option.{option_to_list, option_map}
 use Rattle.std.proofs.lemmas.List.Elements.{All-cons, All-head, All-tail}
@@ -46,6 +46,12 @@ module _ {X : Type 0} where
 
   abbrev pub filled : List (Option X) → List X
   filled os = flat_map option_to_list os
+
+  -- no place is filled at first
+  pub none_filled : (n i : ℕ) (P : X → Type 0) → IfSome (slice_get (replicate n None) i) (λ o. IfSome o P)
+  none_filled zero i P = tt
+  none_filled (suc n) zero P = tt
+  none_filled (suc n) (suc i) P = none_filled n i P
 
   pub filled_most : (os : List (Option X)) → length (filled os) ≤ length os
   filled_most [] = omega arith

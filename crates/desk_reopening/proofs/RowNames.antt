@@ -5,7 +5,7 @@ use Rattle.std.specs.Str.{bytes_eq}
 use Rattle.std.specs.Ordering.{int_eq}
 use Rattle.std.proofs.lemmas.Bool.Decides.{Decides-int_eq}
 use Rattle.std.proofs.lemmas.List.Elements.{All-head, All-tail}
-use Rattle.std.proofs.lemmas.Option.{same_Some}
+use Rattle.std.proofs.lemmas.Option.{cond_some, same_Some}
 use Rattle.std.proofs.lemmas.Slice.Eq.{bytes_eq-Decides}
 use Rattle.jiff_core.specs.declared.civil.date.Date.{Date}
 use Rattle.jiff_core.specs.Date.{epoch_day}
@@ -13,7 +13,7 @@ use Rattle.jiff.proofs.Family.{same_date}
 use Rattle.determination_dates.specs.Days.{IsLimited}
 use Rattle.determination_dates.specs.Closed.{is_closed}
 use Rattle.desk_rows.specs.Tables.{Found, AreNamed, ClosedOn, DayName, Format, HasCaller, HasFieldId, IsDayName, ReceiptName, RunwayName, Today, day_found}
-use Rattle.desk_rows.specs.Tables.{day_key, key_of, runway_key, shown}
+use Rattle.desk_rows.specs.Tables.{day_key, key_of, runway_key}
 use Rattle.desk_rows.proofs.Days.{one_day_name}
 use Rattle.desk_rows.proofs.Split.{field_without_space, word_without_space}
 
@@ -127,10 +127,6 @@ closed_sure text d (c ∷ cs) h k at is =
 pub day_named : List ℕ → List Date → DayName
 day_named text cs = cond (bytes_eq text (day_key Format)) Format (cond (bytes_eq text (day_key Today)) Today (closed_named text cs))
 
-shown_is : (b : Bool) (y x : List ℕ) → shown b y ≡ Some x → b ≡ true
-shown_is true y x h = refl
-shown_is false y x h = absurd (cc (h))
-
 key_unlike : (text : List ℕ) (m n : DayName) → IsDayName m → IsDayName n → m ≢ n → text ≡ day_key n → bytes_eq text (day_key m) ≡ false
 key_unlike text m n h k apart at = by (bytes_eq text (day_key m)) refl
   where
@@ -146,4 +142,4 @@ day_sure text x f day cs Today h k at row =
     rw (key_unlike text Format Today tt tt (λ e. absurd (cc (e))) at, (bytes_eq-Decides text (day_key Today)).1 at) refl
 day_sure text x f day cs (ClosedOn d) h k at row =
     rw (key_unlike text Format (ClosedOn d) tt k (λ e. absurd (cc (e))) at, key_unlike text Today (ClosedOn d) tt k (λ e. absurd (cc (e))) at)
-    (closed_sure text d cs k h at (shown_is (is_closed cs (epoch_day d)) _ x row))
+    (closed_sure text d cs k h at ((cond_some (is_closed cs (epoch_day d)) _ x row).0))
