@@ -1,6 +1,7 @@
 -- The rows of the table as one map.
 use Rattle.std.specs.Prelude.{◌≡◌, ℕ, ℤ, pos, negsuc, List, [], ◌∷◌, map}
-use Rattle.sqlite_trees.specs.Tree.{IsTable}
+use Rattle.sqlite_trees.specs.Tree.{Trees, IsTable}
+use Rattle.sqlite_catalog.specs.Listing.{IsSound}
 use Rattle.sqlite_rules.specs.Lists.{Has}
 use Rattle.std.specs.Prelude.{IsTrue}
 use Rattle.sqlite.specs.State.{State, HasCleanDisk}
@@ -55,6 +56,11 @@ pub record Holds (s : State) (tables : Kept) : Type 0 where
   pub schema : s.now.schema ≡ kept_schema
   pub rows : AreKept (s.now.trees 0)
   pub are : tables_in (s.now.trees 0) ≡ tables
+
+-- the trees list the one table and obey it, and these are its rows
+pub record AreRows (db : Trees) (rows : Kept) : Type 0 where
+  pub sound : IsSound kept_schema db
+  pub are : tables_in (db 0) ≡ rows
 
 -- the rows that a store shows, while its disk has returned what was written
 abbrev pub TellsIn : State → Kept → Type 0

@@ -1,11 +1,13 @@
 //! The first load of a store that was just opened.
 
-ghost use Rattle.std.specs.Prelude.{◌≡◌, IsTrue, IfOk, IfSome};
+ghost use Rattle.std.specs.Prelude.{◌≡◌, ◌≤◌, IsTrue, IfOk, IfSome};
+ghost use Rattle.std.specs.FinMap as maps;
+ghost use Rattle.sqlite.specs.Effect.{IsDatabase};
 ghost use Rattle.sqlite.specs.Held.{state};
 ghost use Rattle.sqlite.specs.State.{HasCleanDisk};
-ghost use Rattle.sqlite_trees.specs.View.{IsShaped};
+ghost use Rattle.sqlite_trees.specs.View.{IsShaped, doubt};
 ghost use Rattle.sqlite_trees.specs.declared.store.Shape.TheVariants.{Table};
-ghost use Rattle.kept_table.specs.Model.{Holds};
+ghost use Rattle.kept_table.specs.Model.{Holds, tables_in};
 ghost use Rattle.kept_table.specs.Shape.{kept_schema, no_schema};
 
 use crate::schema::has_shape;
@@ -18,7 +20,9 @@ use std::alloc::Global;
 
 /// The same store opened once more, which shows that its rowids rise.
 fn opened_again<S: Alter + Drop>(alloc: Global, conn: Connection<S>) -> Option<Connection<S>>
-    ensures { IfSome result (λ c. HasCleanDisk (state S.Store c) → (state S.Store c).now.schema ≡ kept_schema → IsShaped Table ((state S.Store c).now.trees 0)) }
+    ensures shaped { IfSome result (λ c. HasCleanDisk (state S.Store c) → (state S.Store c).now.schema ≡ kept_schema → IsShaped Table ((state S.Store c).now.trees 0)) }
+    ensures same { IfSome result (λ c. HasCleanDisk (state S.Store c) → ((state S.Store c).now.trees ≡ (state S.Store conn).committed.trees) × IsDatabase (state S.Store c).now) }
+    ensures clean { IfSome result (λ c. doubt (state S.Store conn).is_clean ≤ doubt (state S.Store c).is_clean) }
 {
     let mut store = conn.into_store();
     store.rollback();
@@ -36,6 +40,10 @@ fn load_shaped<S: Alter>(alloc: Global, conn: &mut Connection<S>) -> Result<(Tab
     requires { HasCleanDisk (state S.Store conn.old) → (state S.Store conn.old).now.schema ≡ kept_schema → IsShaped Table ((state S.Store conn.old).now.trees 0) }
     ensures told { HasCleanDisk (state S.Store conn.new) → IsTrue (state S.Store conn.new).is_open → IfOk result (λ r. IsTrue r.1 → Holds (state S.Store conn.new) r.0) }
     ensures shaped { IfOk result (λ r. (state S.Store conn.new).now.schema ≡ kept_schema → IsTrue r.1) }
+    ensures was { (state S.Store conn.old).now.schema ≡ kept_schema → IfOk result (λ r. IsTrue r.1) }
+    ensures rows { HasCleanDisk (state S.Store conn.new) → IsTrue (state S.Store conn.new).is_open → (state S.Store conn.old).now.schema ≡ kept_schema
+        → IfOk result (λ r. tables_in ((state S.Store conn.old).now.trees 0) ≡ r.0) }
+    ensures clean { doubt (state S.Store conn.old).is_clean ≤ doubt (state S.Store conn.new).is_clean }
 {
     if !conn.is_autocommit() {
         return Err(Stop::NotReady);
@@ -71,6 +79,10 @@ pub fn load_opened<S: Alter + Drop>(alloc: Global, conn: Connection<S>) -> Resul
     ensures told { IfOk result (λ r. HasCleanDisk (state S.Store r.conn) → IsTrue (state S.Store r.conn).is_open → IsTrue r.is_told → Holds (state S.Store r.conn) r.tables) }
     ensures blank { (state S.Store conn).now.schema ≡ no_schema → IfOk result (λ r. IsTrue r.is_told) }
     ensures shaped { IfOk result (λ r. (state S.Store r.conn).now.schema ≡ kept_schema → IsTrue r.is_told) }
+    ensures none { (state S.Store conn).now.schema ≡ no_schema → IfOk result (λ r. HasCleanDisk (state S.Store r.conn) → r.tables ≡ maps.empty) }
+    ensures rows { (state S.Store conn).now.schema ≡ kept_schema → (state S.Store conn).now ≡ (state S.Store conn).committed
+        → IfOk result (λ r. HasCleanDisk (state S.Store r.conn) → IsTrue (state S.Store r.conn).is_open → IsTrue r.is_told × (tables_in ((state S.Store conn).now.trees 0) ≡ r.tables)) }
+    ensures clean { IfOk result (λ r. doubt (state S.Store conn).is_clean ≤ doubt (state S.Store r.conn).is_clean) }
 {
     let mut conn = conn;
     if is_blank(conn.schema()) {

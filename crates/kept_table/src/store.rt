@@ -3,11 +3,12 @@
 ghost use Rattle.std.specs.Prelude.{◌≡◌, ◌↔◌, ◌≤◌, false, IsTrue, IfOk, OnOk};
 ghost use Rattle.std.specs.FinMap as maps;
 ghost use Rattle.sqlite.specs.Held.{state};
-ghost use Rattle.sqlite.specs.State.{HasCleanDisk};
+ghost use Rattle.sqlite.specs.State.{HasCleanDisk, IsUnchanged};
+ghost use Rattle.sqlite_trees.specs.Tree.{Trees};
 ghost use Rattle.sqlite_trees.specs.View.{doubt};
 ghost use Rattle.oe_keeper.specs.Kept.{Kept};
 ghost use Rattle.kept_table.specs.Model.{Holds};
-ghost use Rattle.kept_table.specs.Shape.{no_schema};
+ghost use Rattle.kept_table.specs.Shape.{kept_schema, no_schema};
 
 use crate::rows::tables_of;
 use crate::stop::Stop;
@@ -31,6 +32,7 @@ pub(crate) fn is_blank(schema: &Schema) -> bool
 /// Makes the table, where it is not there.
 pub(crate) fn create<S: Alter>(conn: &mut Connection<S>) -> Result<(), Error>
     ensures makes { HasCleanDisk (state S.Store conn.new) → OnOk result ((state S.Store conn.old).now.schema ≡ no_schema → Holds (state S.Store conn.new) maps.empty) }
+    ensures stays { HasCleanDisk (state S.Store conn.new) → OnOk result ((state S.Store conn.old).now.schema ≡ kept_schema → IsUnchanged (state S.Store conn.old) (state S.Store conn.new)) }
     ensures clean { doubt (state S.Store conn.old).is_clean ≤ doubt (state S.Store conn.new).is_clean }
 {
     conn.execute(CREATE, &[])?;
@@ -45,6 +47,7 @@ pub(crate) fn load_rows<S: Alter>(alloc: Global, conn: &mut Connection<S>) -> Re
     ensures open { HasCleanDisk (state S.Store conn.new) → IsTrue (state S.Store conn.new).is_open → IsTrue (state S.Store conn.old).is_open }
     ensures clean { doubt (state S.Store conn.old).is_clean ≤ doubt (state S.Store conn.new).is_clean }
     ensures mode { conn.new.in_transaction ≡ false }
+    ensures crash { HasCleanDisk (state S.Store conn.new) → (tables : Kept) → Holds (state S.Store conn.old) tables → (db : Trees) → (state S.Store conn.new).may_leave db → (state S.Store conn.old).may_leave db }
 {
     let _settled = conn.is_autocommit();
     let rows = conn.query_all(SELECT, &[])?;
@@ -55,6 +58,8 @@ pub(crate) fn load_rows<S: Alter>(alloc: Global, conn: &mut Connection<S>) -> Re
 pub(crate) fn load_blank<S: Alter>(alloc: Global, conn: &mut Connection<S>) -> Result<Tables, Stop>
     requires { (state S.Store conn.old).now.schema ≡ no_schema }
     ensures told { HasCleanDisk (state S.Store conn.new) → IsTrue (state S.Store conn.new).is_open → IfOk result (λ rows. Holds (state S.Store conn.new) rows) }
+    ensures none { HasCleanDisk (state S.Store conn.new) → IfOk result (λ rows. rows ≡ maps.empty) }
+    ensures clean { doubt (state S.Store conn.old).is_clean ≤ doubt (state S.Store conn.new).is_clean }
 {
     create(conn)?;
     if !conn.is_autocommit() {

@@ -1,9 +1,11 @@
 //! What is done over a store that holds the table, in terms of the rows that the store tells.
 
-ghost use Rattle.std.specs.Prelude.{◌≡◌, IfOk, OnOk, OnErr};
+ghost use Rattle.std.specs.Prelude.{◌≡◌, ◌⊎◌, false, IfOk, OnOk, OnErr};
 ghost use Rattle.sqlite.specs.Held.{state};
+ghost use Rattle.sqlite.specs.State.{HasCleanDisk};
+ghost use Rattle.sqlite_trees.specs.Tree.{Trees};
 ghost use Rattle.oe_keeper.specs.Kept.{Kept, all_changed};
-ghost use Rattle.kept_table.specs.Model.{TellsIn, IsHeld, StaysIn, StaysSilentIn};
+ghost use Rattle.kept_table.specs.Model.{AreRows, TellsIn, IsHeld, StaysIn, StaysSilentIn};
 
 use crate::stop::Stop;
 use crate::store::load_rows;
@@ -23,10 +25,15 @@ pub fn load_again<S: Alter>(alloc: Global, conn: &mut Connection<S>) -> Result<T
     ensures rows { IsHeld (state S.Store conn.old) → IfOk result (λ rows. (now : Kept) → TellsIn (state S.Store conn.new) now → now ≡ rows) }
     ensures stays { StaysIn (state S.Store conn.old) (state S.Store conn.new) }
     ensures silent { IsHeld (state S.Store conn.old) → StaysSilentIn (state S.Store conn.old) (state S.Store conn.new) }
+
+    // a crash leaves the rows
+    ensures crash { HasCleanDisk (state S.Store conn.new) → conn.old.in_transaction ≡ false → (before : Kept) → TellsIn (state S.Store conn.old) before
+        → (db : Trees) → (state S.Store conn.new).may_leave db → AreRows db before }
 {
     if !conn.is_autocommit() {
         return Err(Stop::NotReady);
     }
+    let _live = conn.schema();
     load_rows(alloc, conn)
 }
 
@@ -40,10 +47,15 @@ pub fn change_told<S: Alter>(conn: &mut Connection<S>, changes: &[RowChange]) ->
     ensures all { OnOk result ((before now : Kept) → TellsIn (state S.Store conn.old) before → TellsIn (state S.Store conn.new) now → now ≡ all_changed before changes.now) }
     ensures none { OnErr result (StaysIn (state S.Store conn.old) (state S.Store conn.new)) }
     ensures silent { IsHeld (state S.Store conn.old) → StaysSilentIn (state S.Store conn.old) (state S.Store conn.new) }
+
+    // a crash leaves the rows as they were or with all the changes
+    ensures crash { HasCleanDisk (state S.Store conn.new) → conn.old.in_transaction ≡ false → (before : Kept) → TellsIn (state S.Store conn.old) before
+        → (db : Trees) → (state S.Store conn.new).may_leave db → AreRows db before ⊎ AreRows db (all_changed before changes.now) }
 {
     if !conn.is_autocommit() {
         return Err(Stop::NotReady);
     }
+    let _live = conn.schema();
     apply(conn, changes)?;
     Ok(())
 }

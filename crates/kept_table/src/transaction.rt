@@ -1,12 +1,14 @@
 //! The texts that put a row and take one out, within one transaction.
 
-ghost use Rattle.std.specs.Prelude.{◌≡◌, ◌≤◌, false, IsTrue, OnOk, OnErr, pos};
+ghost use Rattle.std.specs.Prelude.{◌≡◌, ◌⊎◌, ◌≤◌, false, IsTrue, OnOk, OnErr, pos};
 ghost use Rattle.std.specs.FinMap as map;
 ghost use Rattle.sqlite.specs.Held.{state};
 ghost use Rattle.sqlite.specs.State.{HasCleanDisk, KeepsCommit};
+ghost use Rattle.sqlite.specs.Effect.{IsDatabase};
+ghost use Rattle.sqlite_trees.specs.Tree.{Trees};
 ghost use Rattle.sqlite_trees.specs.View.{doubt};
 ghost use Rattle.oe_keeper.specs.Kept.{Kept, changed, all_changed, place};
-ghost use Rattle.kept_table.specs.Model.{Holds};
+ghost use Rattle.kept_table.specs.Model.{Holds, AreRows};
 
 use oe_keeper::{RowChange, Table};
 use sqlite::{Alter, Connection, Error, Transaction, params};
@@ -36,6 +38,9 @@ fn put<S: Alter>(
     ensures clean { doubt (state S.Store tx.old.conn.now).is_clean ≤ doubt (state S.Store tx.new.conn.now).is_clean }
     ensures inside { HasCleanDisk (state S.Store tx.new.conn.now) → IsTrue tx.old.conn.now.in_transaction → OnOk result (IsTrue tx.new.conn.now.in_transaction) }
     ensures kept { HasCleanDisk (state S.Store tx.new.conn.now) → IsTrue tx.old.conn.now.in_transaction → KeepsCommit (state S.Store tx.old.conn.now) (state S.Store tx.new.conn.now) }
+    ensures sound { HasCleanDisk (state S.Store tx.new.conn.now) → IsTrue tx.old.conn.now.in_transaction
+        → OnOk result ((tables : Kept) → Holds (state S.Store tx.old.conn.now) tables → IsDatabase (state S.Store tx.new.conn.now).now) }
+    ensures crash { HasCleanDisk (state S.Store tx.new.conn.now) → (db : Trees) → (state S.Store tx.new.conn.now).may_leave db → (state S.Store tx.old.conn.now).may_leave db }
 {
     let t = number(table);
     tx.execute(PUT, params![t, key, row])?;
@@ -50,6 +55,9 @@ fn remove<S: Alter>(tx: &mut Transaction<'_, S>, table: Table, key: &str) -> Res
     ensures clean { doubt (state S.Store tx.old.conn.now).is_clean ≤ doubt (state S.Store tx.new.conn.now).is_clean }
     ensures inside { HasCleanDisk (state S.Store tx.new.conn.now) → IsTrue tx.old.conn.now.in_transaction → OnOk result (IsTrue tx.new.conn.now.in_transaction) }
     ensures kept { HasCleanDisk (state S.Store tx.new.conn.now) → IsTrue tx.old.conn.now.in_transaction → KeepsCommit (state S.Store tx.old.conn.now) (state S.Store tx.new.conn.now) }
+    ensures sound { HasCleanDisk (state S.Store tx.new.conn.now) → IsTrue tx.old.conn.now.in_transaction
+        → OnOk result ((tables : Kept) → Holds (state S.Store tx.old.conn.now) tables → IsDatabase (state S.Store tx.new.conn.now).now) }
+    ensures crash { HasCleanDisk (state S.Store tx.new.conn.now) → (db : Trees) → (state S.Store tx.new.conn.now).may_leave db → (state S.Store tx.old.conn.now).may_leave db }
 {
     let t = number(table);
     tx.execute(REMOVE, params![t, key])?;
@@ -64,6 +72,9 @@ fn make<S: Alter>(tx: &mut Transaction<'_, S>, change: &RowChange) -> Result<(),
     ensures clean { doubt (state S.Store tx.old.conn.now).is_clean ≤ doubt (state S.Store tx.new.conn.now).is_clean }
     ensures inside { HasCleanDisk (state S.Store tx.new.conn.now) → IsTrue tx.old.conn.now.in_transaction → OnOk result (IsTrue tx.new.conn.now.in_transaction) }
     ensures kept { HasCleanDisk (state S.Store tx.new.conn.now) → IsTrue tx.old.conn.now.in_transaction → KeepsCommit (state S.Store tx.old.conn.now) (state S.Store tx.new.conn.now) }
+    ensures sound { HasCleanDisk (state S.Store tx.new.conn.now) → IsTrue tx.old.conn.now.in_transaction
+        → OnOk result ((tables : Kept) → Holds (state S.Store tx.old.conn.now) tables → IsDatabase (state S.Store tx.new.conn.now).now) }
+    ensures crash { HasCleanDisk (state S.Store tx.new.conn.now) → (db : Trees) → (state S.Store tx.new.conn.now).may_leave db → (state S.Store tx.old.conn.now).may_leave db }
 {
     match change {
         RowChange::Put { table, key, row } => put(tx, *table, key.as_str(), row.as_str()),
@@ -79,6 +90,9 @@ fn change_all<S: Alter>(tx: &mut Transaction<'_, S>, changes: &[RowChange]) -> R
     ensures clean { doubt (state S.Store tx.old.conn.now).is_clean ≤ doubt (state S.Store tx.new.conn.now).is_clean }
     ensures inside { HasCleanDisk (state S.Store tx.new.conn.now) → IsTrue tx.old.conn.now.in_transaction → OnOk result (IsTrue tx.new.conn.now.in_transaction) }
     ensures kept { HasCleanDisk (state S.Store tx.new.conn.now) → IsTrue tx.old.conn.now.in_transaction → KeepsCommit (state S.Store tx.old.conn.now) (state S.Store tx.new.conn.now) }
+    ensures sound { HasCleanDisk (state S.Store tx.new.conn.now) → IsTrue tx.old.conn.now.in_transaction
+        → OnOk result ((tables : Kept) → Holds (state S.Store tx.old.conn.now) tables → IsDatabase (state S.Store tx.old.conn.now).now → IsDatabase (state S.Store tx.new.conn.now).now) }
+    ensures crash { HasCleanDisk (state S.Store tx.new.conn.now) → (db : Trees) → (state S.Store tx.new.conn.now).may_leave db → (state S.Store tx.old.conn.now).may_leave db }
 {
     'changes: for it in changes {
         make(tx, it)?;
@@ -94,6 +108,8 @@ pub(crate) fn apply<S: Alter>(conn: &mut Connection<S>, changes: &[RowChange]) -
     ensures mode { conn.new.in_transaction ≡ false }
     ensures clean { doubt (state S.Store conn.old).is_clean ≤ doubt (state S.Store conn.new).is_clean }
     ensures open { HasCleanDisk (state S.Store conn.new) → IsTrue (state S.Store conn.new).is_open → IsTrue (state S.Store conn.old).is_open }
+    ensures crash { HasCleanDisk (state S.Store conn.new) → IsDatabase (state S.Store conn.old).now → (tables : Kept) → Holds (state S.Store conn.old) tables
+        → (db : Trees) → (state S.Store conn.new).may_leave db → (state S.Store conn.old).may_leave db ⊎ AreRows db (all_changed tables changes.now) }
 {
     let _settled = conn.is_autocommit();
     let mut tx = conn.transaction();

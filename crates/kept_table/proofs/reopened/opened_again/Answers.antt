@@ -1,5 +1,4 @@
-use Rattle.std.proofs.Common.{◌≡◌, ◌⊎◌, inl, inr, Bool, true, false, IsTrue, refl, sym, ap, subst, ◌∙◌, arith}
-use Rattle.sqlite.specs.Held.{state}
+use Rattle.std.proofs.Common.{◌≡◌, Bool, true, false, IsTrue, refl, sym, subst, ◌∙◌, arith}
 use Rattle.sqlite_trees.specs.Tree.{Trees}
 use Rattle.sqlite_trees.specs.View.{IsShaped, IsClean}
 use Rattle.sqlite_trees.specs.declared.store.Shape.TheVariants.{Table}
@@ -24,8 +23,8 @@ over-requires g c clean =
       unmarked = kept.marks open_now;
     }
 
-pub returns-in-Ok : goal.returns-in-Ok
-returns-in-Ok g c clean has =
+pub returns-in-Ok-clause-shaped : goal.returns-in-Ok-clause-shaped
+returns-in-Ok-clause-shaped g c clean has =
     let store = c.rollback.new.self in
     let v = g.S.Store.view store in
     let was : IsClean v = omega (arith, c.in-Ok.ensures.clean) in
@@ -39,3 +38,16 @@ returns-in-Ok g c clean has =
     let laid = laid_out listed (objects_rise v listed ordered) there.lists.listed in
     let shaped : IsShaped Table (v.trees 0) = subst (λ s. IsShaped s (v.trees 0)) laid.tables.0 (ordered 0) in
     subst (λ (t : Trees). IsShaped Table (t 0)) (sym trees) shaped
+
+pub returns-in-Ok-clause-same : goal.returns-in-Ok-clause-same
+returns-in-Ok-clause-same g c clean =
+    let store = c.rollback.new.self in
+    let was : IsClean (g.S.Store.view store) = omega (arith, c.in-Ok.ensures.clean) in
+    let early : IsClean (g.S.Store.view c.into_store-store.result) = omega (arith, c.rollback.ensures.quiet.clean) in
+    let unbroken = sym (c.is_broken.ensures was) ∙ c.if-is_broken.false in
+    let up = open_if _ _ unbroken (g.met.S.Store.broken_if_shut store) in
+    let before = (c.rollback.ensures.undone.kept was).was_open up in
+    let opens = c.in-Ok.ensures.opens clean in (
+      c.in-Ok.ensures.trees clean ∙ (c.rollback.ensures.undone.undone up).0 ∙ (c.into_store-store.ensures.undone.kept early).committed before,
+      (opens.1 opens.0.is_open).0,
+    )

@@ -1,0 +1,10 @@
+//! The one table over two files: what the files hold when a store that tells its rows ends, and that the next store over them tells the same rows.
+#![tactic(auto)]
+
+mod leave;
+mod load;
+mod next;
+
+pub use leave::{close_rows, is_settled, leave_rows};
+pub use load::{load_files, load_path};
+pub use next::load_next;

@@ -1,0 +1,31 @@
+//! From one store to the next over the same files.
+
+ghost use Rattle.std.specs.Prelude.{IfOk};
+ghost use Rattle.sqlite.specs.Files.{file_state};
+ghost use Rattle.oe_keeper.specs.Kept.{Kept};
+ghost use Rattle.kept_table.specs.Model.{Holds};
+ghost use Rattle.kept_files.specs.FileRows.{LoadsAs};
+
+use crate::leave::close_rows;
+use crate::load::load_files;
+use kept_table::{Opened, Stop};
+use sqlite::{Connection, FileStore, Options};
+use sqlite_disk::Disk;
+use std::alloc::Global;
+
+/// Closes a store and opens its files again. The next store tells the rows of the last from its first load on.
+///
+/// # Errors
+///
+/// Those of `close_rows` and of `load_files`.
+pub fn load_next<D: Disk + Drop>(
+    alloc: Global,
+    conn: Connection<FileStore<D>>,
+    options: Options,
+) -> Result<Opened<FileStore<D>>, Stop>
+    ensures { IfOk result (λ r. (rows : Kept) → Holds (file_state conn) rows → LoadsAs (file_state r.conn) r.is_told r.tables rows) }
+{
+    let files = close_rows(conn)?;
+    let opened = load_files(alloc, files, options)?;
+    Ok(opened)
+}

@@ -1,0 +1,40 @@
+-- What a crash leaves of a store that holds the table.
+use Rattle.std.proofs.Common.{◌≡◌, ◌⊎◌, inl, inr, ℕ, [], Some, None, Ok, IsTrue, IsSome, sym, ap, subst, ◌∙◌}
+use Rattle.sqlite_value.specs.Order.{Row}
+use Rattle.sqlite_trees.specs.Tree.{Trees}
+use Rattle.sqlite_catalog.specs.Listing.{IsSound}
+use Rattle.sqlite.specs.Effect.{Database, IsDatabase}
+use Rattle.sqlite.specs.Given.{IsPlain}
+use Rattle.sqlite.specs.Listing.{understood}
+use Rattle.sqlite.specs.State.{State, IsLive, Executes, CommitsShowing}
+use Rattle.sqlite.proofs.Callers.{runs_as}
+use Rattle.oe_keeper.specs.Kept.{Kept}
+use Rattle.kept_table.specs.Model.{Holds, AreRows, TellsIn, tables_in}
+use Rattle.kept_table.specs.Shape.{put_text, remove_text, select_text, kept_schema}
+use Rattle.kept_table.proofs.Texts.{put_command, put_is, put_plain, remove_command, remove_is, remove_plain, select_plain}
+
+-- what a text writes obeys the schema
+pub put_sound : (given : Row) (old new : State) (count : ℕ) → old.now.schema ≡ kept_schema → Executes put_text given old new (Ok count) → IsDatabase new.now
+put_sound given old new count has h = (runs_as put_text given old new kept_schema has put_command put_is put_plain count h).sound
+
+pub remove_sound : (given : Row) (old new : State) (count : ℕ) → old.now.schema ≡ kept_schema → Executes remove_text given old new (Ok count) → IsDatabase new.now
+remove_sound given old new count has h = (runs_as remove_text given old new kept_schema has remove_command remove_is remove_plain count h).sound
+
+-- a read commits nothing
+pub reads_only : (s : State) (db : Trees) → s.now.schema ≡ kept_schema → ¬ CommitsShowing select_text [] s db
+unfolding CommitsShowing
+reads_only s db has h =
+    let known : understood kept_schema select_text ≡ Ok h.0 = sym (ap (λ x. understood x select_text) has) ∙ h.1.is in
+    let bare = subst IsPlain known select_plain in
+    let some = rw bare.0 at h.2 in
+    absurd cc
+
+pub rows_of : (s : State) (rows : Kept) → IsDatabase s.now → Holds s rows → AreRows s.now.trees rows
+rows_of s rows sound holds = record { sound = subst (λ x. IsSound x s.now.trees) holds.schema sound; are = holds.are }
+
+-- outside a transaction the last commit has the rows
+pub committed_rows : (s : State) (rows : Kept) → IsTrue s.is_open → IsLive s → s.now ≡ s.committed → Holds s rows → AreRows s.committed.trees rows
+committed_rows s rows up live settled holds = subst (λ (d : Database). AreRows d.trees rows) settled (rows_of s rows (live up).0 holds)
+
+pub same_rows : (a b : Trees) (rows : Kept) → a ≡ b → AreRows b rows → AreRows a rows
+same_rows a b rows same = subst (λ t. AreRows t rows) (sym same)
