@@ -1,6 +1,6 @@
 //! A clerk that is opened again over its own keeper goes on as it was.
 #![tactic(auto)]
 
-mod reopened;
+mod opening;
 
-pub use reopened::reopened;
+pub use opening::reopened;

@@ -24,7 +24,7 @@ pub fn reopened<K: Keeper + Drop>(
     place: Option<&str>,
 ) -> Result<Clerk<K>, OpenRefusal>
     requires desk { IsDesk clerk.state }
-    requires finds { (k : K) (rows : Kept) → K.Finds k (option_copied place.entry) rows → K.Tells k rows }
+    requires finds { (k : K) (rows : Kept) → K.Finds k (option_copied place) rows → K.Tells k rows }
     ensures same { IfOk result (λ c. c.state ≡ clerk.state) }
     ensures new { IfOk result (λ c. c.accepted ≡ []) }
     ensures sound { IfErr result IsNoBadRow }

@@ -1,5 +1,5 @@
 -- From what a keeper finds to the desk that it tells.
-use Rattle.std.proofs.Common.{◌≡◌, refl, ℕ, List, [], Option, Result, Ok, Err}
+use Rattle.std.proofs.Common.{◌≡◌, refl, ℕ, List, Option, Result, Ok, Err}
 use Rattle.std.specs.Prelude.{IfOk, IfErr}
 use Rattle.std.specs.Coded.{Coded, Coded-set, code_by, coded×, coded_list, coded_option}
 use Rattle.std.proofs.Math.Logic.{∥∥₁_elim}
@@ -33,9 +33,13 @@ module _ {K : Type 0} (Tells : K → Kept → Type 0) (Finds : K → Option (Lis
   same_state one (Err why) h = tt
   same_state one (Ok c) h = ∥∥₁_elim (told h.kept (finds keeper h.kept h.found)) (Coded-set state_code _ _) (λ are. one c.state s h.kept h.opens (opens h.kept are))
 
-  pub none_bad : ((a : State) (kept : Kept) (k : Key) → Opens kept a → IsFirstBad kept k → ⊥) → (why : OpenRefusal) → HasOpenCause Finds faults IsSteady keeper path why → IsNoBadRow why
+  none_bad : ((a : State) (kept : Kept) (k : Key) → Opens kept a → IsFirstBad kept k → ⊥) → (why : OpenRefusal) → HasOpenCause Finds faults IsSteady keeper path why → IsNoBadRow why
   unfolding Told
   none_bad sound refusals.KeeperFault h = tt
   none_bad sound (refusals.BadRow table key) h =
       ∥∥₁_elim (told h.0 (finds keeper h.0 h.1)) (λ a b. absurd a) (λ are. sound s h.0 _ (opens h.0 are) h.2)
   none_bad sound refusals.NoMemory h = tt
+
+  pub no_bad_row : ((a : State) (kept : Kept) (k : Key) → Opens kept a → IsFirstBad kept k → ⊥) → (r : Result Clerking OpenRefusal) → IfErr r (HasOpenCause Finds faults IsSteady keeper path) → IfErr r IsNoBadRow
+  no_bad_row sound (Ok c) h = tt
+  no_bad_row sound (Err why) h = none_bad sound why h
