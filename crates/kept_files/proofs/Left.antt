@@ -1,5 +1,5 @@
 -- What a store that holds rows may leave of its files.
-use Rattle.std.proofs.Common.{◌≡◌, IsTrue, sym, ap, subst, ◌∙◌}
+use Rattle.std.proofs.Common.{◌≡◌, ◌⊎◌, inl, inr, IsTrue, refl, subst}
 use Rattle.std.proofs.Math.Logic.{∥∥₁_map}
 use Rattle.sqlite_disk.specs.declared.Disk.{Ghosts}
 use Rattle.sqlite_wal.specs.Recovery.{Image}
@@ -7,38 +7,37 @@ use Rattle.sqlite_wal.specs.Files.{outcomes}
 use Rattle.sqlite_wal.proofs.LogLemmas.{SeenMayStay}
 use Rattle.sqlite_pool.proofs.StateLemmas.{clean_is, may_leave_is}
 use Rattle.sqlite_trees.specs.Tree.{Trees}
+use Rattle.sqlite_trees.specs.View.{IsClean}
 use Rattle.sqlite_trees.proofs.Doubt.{clean_of}
-use Rattle.sqlite_catalog.specs.Listing.{IsSound}
 use Rattle.sqlite_store.specs.declared.store.FileStore.{FileStore}
-use Rattle.sqlite_store.specs.FileStore.{view, files}
+use Rattle.sqlite_store.specs.FileStore.{view, recovers, files}
 use Rattle.sqlite_store.specs.Laws.{settled_at}
-use Rattle.sqlite.specs.Effect.{Database}
-use Rattle.sqlite.specs.Held.{Held}
-use Rattle.sqlite.specs.State.{State, IsLive}
+use Rattle.sqlite.specs.Held.{Held, AreDatabases}
+use Rattle.sqlite.specs.State.{IsLive}
 use Rattle.sqlite.specs.Files.{file_state, HoldsDatabase}
 use Rattle.sqlite.proofs.Theorems.{opens_again}
 use Rattle.oe_keeper.specs.Kept.{Kept}
-use Rattle.kept_table.specs.Model.{Holds, tables_in, TellsIn}
+use Rattle.kept_table.specs.Model.{AreRows, TellsIn}
 use Rattle.kept_table.specs.Shape.{kept_schema}
-use Rattle.kept_files.specs.FileRows.{AreRows, HoldsRows}
+use Rattle.kept_table.proofs.Crash.{crash_rows}
+use Rattle.kept_files.specs.FileRows.{HoldsRows}
 
--- outside a transaction the last commit has the rows
-pub committed_rows : (s : State) (rows : Kept) → IsTrue s.is_open → IsLive s → s.now ≡ s.committed → Holds s rows → AreRows s.committed.trees rows
-committed_rows s rows up live settled holds =
-    let trees : s.now.trees ≡ s.committed.trees = ap (λ (d : Database). d.trees) settled in
-    let listed : IsSound kept_schema s.now.trees = subst (λ x. IsSound x s.now.trees) holds.schema (live up).0 in
-    record { sound = subst (IsSound kept_schema) trees listed; are = ap (λ (t : Trees). tables_in (t 0)) (sym trees) ∙ holds.are }
+-- each image that the disk may leave holds a database that the store allows
+pub left_database : {D : Type 0} {g : Ghosts D} (it : FileStore D g) → IsClean (view it) → IsTrue (view it).is_numbered → AreDatabases (recovers it)
+    → (image : Image) → outcomes g (files it).0 (files it).1 image → ∥ ((db : Trees) × recovers it db × HoldsDatabase image db) ∥₁
+left_database it clean numbered sound image may =
+    opens_again it numbered sound image (may_leave_is it.pool image (subst IsTrue (clean_is it.pool) (clean_of (view it).is_clean clean)) may)
 
-module _ {D : Type 0} {g : Ghosts D} (c : Held (FileStore D g)) (stays : SeenMayStay g) (rows : Kept) (tells : TellsIn (file_state c) rows) (live : IsLive (file_state c))
-    (settled : (file_state c).now ≡ (file_state c).committed) where
-  last : AreRows (file_state c).committed.trees rows
-  last = committed_rows (file_state c) rows tells.1 live settled tells.2
+-- outside a transaction it is the last commit
+pub crash_files : {D : Type 0} {g : Ghosts D} (c : Held (FileStore D g)) (it : FileStore D g) (rows : Kept) → SeenMayStay g → TellsIn (file_state c) rows → IsLive (file_state c)
+    → (IsTrue (file_state c).is_open → (file_state c).now ≡ (file_state c).committed) → ((db : Trees) → recovers it db → recovers c.store db)
+    → IsClean (view it) → IsTrue (view it).is_numbered → (image : Image) → outcomes g (files it).0 (files it).1 image → HoldsRows image rows
+crash_files c it rows stays tells live settled some clean numbered image may =
+    let last = λ (db : Trees). crash_rows (file_state c) rows db live settled tells in
+    let same = λ (db : Trees) (found : recovers it db). settled_at c.store stays db tells.1 (some db found) in
+    let left = left_database it clean numbered (λ db found. (kept_schema, (last db (same db found)).sound)) image may in
+    ((file_state c).committed.trees, ∥∥₁_map left (λ one. subst (HoldsDatabase image) (same one.0 one.1) one.2), last _ refl)
 
-  pub crash_rows : (db : Trees) → (file_state c).may_leave db → AreRows db rows
-  crash_rows db may = subst (λ t. AreRows t rows) (sym (settled_at c.store stays db tells.1 may)) last
-
-  pub crash_files : IsTrue (view c.store).is_numbered → (image : Image) → outcomes g (files c.store).0 (files c.store).1 image → HoldsRows image rows
-  crash_files numbered image may =
-      let sure = subst IsTrue (clean_is c.store.pool) (clean_of (view c.store).is_clean tells.0) in
-      let left = opens_again c.store numbered (λ db found. (kept_schema, (crash_rows db found).sound)) image (may_leave_is c.store.pool image sure may) in
-      ((file_state c).committed.trees, ∥∥₁_map left (λ it. subst (HoldsDatabase image) (settled_at c.store stays it.0 tells.1 it.1) it.2), last)
+pub either_rows : (image : Image) (db : Trees) (a b : Kept) → HoldsDatabase image db → AreRows db a ⊎ AreRows db b → HoldsRows image a ⊎ HoldsRows image b
+either_rows image db a b held (inl old) = inl (db, ∣ held ∣₁, old)
+either_rows image db a b held (inr new) = inr (db, ∣ held ∣₁, new)

@@ -1,22 +1,24 @@
 -- What the two files of a store hold, and what the next load of them gives.
-use Rattle.std.specs.Prelude.{◌≡◌, Bool, IsTrue}
+use Rattle.std.specs.Prelude.{◌≡◌, ◌⊎◌, Bool, IsTrue}
+use Rattle.std.specs.FinMap as maps
 use Rattle.sqlite_wal.specs.Recovery.{Image}
 use Rattle.sqlite_trees.specs.Tree.{Trees}
-use Rattle.sqlite_catalog.specs.Listing.{IsSound}
-use Rattle.sqlite.specs.Files.{HoldsDatabase}
+use Rattle.sqlite.specs.Files.{HoldsDatabase, IsNothing, IsEmpty}
 use Rattle.sqlite.specs.State.{State, HasCleanDisk}
 use Rattle.oe_keeper.specs.Kept.{Kept}
-use Rattle.kept_table.specs.Model.{Holds, tables_in}
-use Rattle.kept_table.specs.Shape.{kept_schema}
-
--- the trees list the one table and obey it, and these are its rows
-pub record AreRows (db : Trees) (rows : Kept) : Type 0 where
-  pub sound : IsSound kept_schema db
-  pub are : tables_in (db 0) ≡ rows
+use Rattle.kept_table.specs.Model.{Holds, AreRows}
 
 -- the log and the database file hold the one table, with these rows
 abbrev pub HoldsRows : Image → Kept → Type 0
 HoldsRows image rows = (db : Trees) × ∥ HoldsDatabase image db ∥₁ × AreRows db rows
+
+-- they hold nothing yet, or a database with nothing in it, as a crash while they are made leaves them
+abbrev pub HoldsNone : Image → Type 0
+HoldsNone image = IsNothing image ⊎ ∥ ((db : Trees) × HoldsDatabase image db × IsEmpty db) ∥₁
+
+-- the rows that a load of the files gives
+abbrev pub GiveRows : Image → Kept → Type 0
+GiveRows image rows = HoldsRows image rows ⊎ (HoldsNone image × (rows ≡ maps.empty))
 
 -- what a load left tells these rows, which are those that it loaded, while its store is clean and open
 abbrev pub LoadsAs : State → Bool → Kept → Kept → Type 0

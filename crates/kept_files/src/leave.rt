@@ -1,18 +1,19 @@
 //! What a store that tells its rows leaves of its files.
 
-ghost use Rattle.std.specs.Prelude.{◌≡◌, false, IsTrue, IfOk};
+ghost use Rattle.std.specs.Prelude.{◌≡◌, ◌⊎◌, ◌≤◌, false, IsTrue, IfOk};
 ghost use Rattle.sqlite_wal.specs.Recovery.{Image};
 ghost use Rattle.sqlite_wal.specs.Files.{outcomes};
 ghost use Rattle.sqlite_wal.specs.Reads.{AreClean};
 ghost use Rattle.sqlite_trees.specs.Tree.{Trees};
-ghost use Rattle.sqlite_trees.specs.View.{IsClean};
+ghost use Rattle.sqlite_trees.specs.View.{IsClean, doubt};
 ghost use Rattle.sqlite_store.specs.FileStore.{view, files as store_files};
-ghost use Rattle.sqlite.specs.Files.{file_state, image_of};
-ghost use Rattle.oe_keeper.specs.Kept.{Kept};
-ghost use Rattle.kept_table.specs.Model.{Holds, TellsIn};
-ghost use Rattle.kept_files.specs.FileRows.{AreRows, HoldsRows};
+ghost use Rattle.sqlite.specs.Files.{file_state, image_of, HoldsDatabase};
+ghost use Rattle.oe_keeper.specs.Kept.{Kept, all_changed};
+ghost use Rattle.kept_table.specs.Model.{AreRows, Holds, TellsIn};
+ghost use Rattle.kept_files.specs.FileRows.{HoldsRows};
 
-use kept_table::Stop;
+use kept_table::{Stop, change_told};
+use oe_keeper::RowChange;
 use sqlite::{Connection, FileStore, Files};
 use sqlite_disk::Disk;
 
@@ -48,13 +49,32 @@ pub fn is_settled<D: Disk + Drop>(conn: &Connection<FileStore<D>>) -> bool
     conn.is_autocommit()
 }
 
-/// Ends the connection and gives its store back. Whatever a crash could leave of the two files while the connection was there and no transaction was
-/// open holds its rows.
+/// Ends the connection and gives its store back. Whatever a crash could leave of the two files while the connection stood outside a transaction holds its
+/// rows, and so does what it can leave of them now. Where the connection had failed, that is a database that it could leave.
 pub fn leave_rows<D: Disk + Drop>(conn: Connection<FileStore<D>>) -> FileStore<D>
-    ensures { IsClean (view result) → conn.in_transaction ≡ false → (rows : Kept) → TellsIn (file_state conn) rows
+    ensures before { IsClean (view result) → conn.in_transaction ≡ false → (rows : Kept) → TellsIn (file_state conn) rows
         → (image : Image) → outcomes D.Disk (store_files conn.store).0 (store_files conn.store).1 image → HoldsRows image rows }
+    ensures after { IsClean (view result) → conn.in_transaction ≡ false → (rows : Kept) → TellsIn (file_state conn) rows
+        → (image : Image) → outcomes D.Disk (store_files result).0 (store_files result).1 image → HoldsRows image rows }
+    ensures found { IsClean (view result) → (image : Image) → outcomes D.Disk (store_files result).0 (store_files result).1 image
+        → ∥ ((db : Trees) × (file_state conn).may_leave db × HoldsDatabase image db) ∥₁ }
+    ensures clean { doubt (file_state conn).is_clean ≤ doubt (view result).is_clean }
 {
     let _live = conn.schema();
     let _settled = conn.is_autocommit();
     conn.into_store()
+}
+
+/// Makes the changes and ends the connection. Wherever its disk stopped on the way, a crash leaves the rows as they were or with all the changes.
+pub fn change_and_leave<D: Disk + Drop>(
+    conn: Connection<FileStore<D>>,
+    changes: &[RowChange],
+) -> FileStore<D>
+    ensures { IsClean (view result) → conn.in_transaction ≡ false → (before : Kept) → TellsIn (file_state conn) before
+        → (image : Image) → outcomes D.Disk (store_files result).0 (store_files result).1 image
+        → ∥ (HoldsRows image before ⊎ HoldsRows image (all_changed before changes.now)) ∥₁ }
+{
+    let mut conn = conn;
+    let _made = change_told(&mut conn, changes);
+    leave_rows(conn)
 }

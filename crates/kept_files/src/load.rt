@@ -1,20 +1,20 @@
 //! The first load of a store over two files.
 
-ghost use Rattle.std.specs.Prelude.{IsTrue, IfOk};
-ghost use Rattle.std.specs.FinMap as maps;
+ghost use Rattle.std.specs.Prelude.{◌≡◌, false, IsTrue, IfOk};
 ghost use Rattle.sqlite_wal.specs.Files.{image_at};
 ghost use Rattle.sqlite_wal.specs.Reads.{AreClean};
-ghost use Rattle.sqlite.specs.Files.{file_state, image_of, IsNothing};
+ghost use Rattle.sqlite.specs.Files.{file_state, image_of};
 ghost use Rattle.sqlite.specs.State.{HasCleanDisk};
 ghost use Rattle.oe_keeper.specs.Kept.{Kept};
-ghost use Rattle.kept_files.specs.FileRows.{HoldsRows, LoadsAs};
+ghost use Rattle.kept_files.specs.FileRows.{GiveRows, LoadsAs};
 
 use kept_table::{Opened, Stop, load_opened};
 use sqlite::{Connection, FileFrom, FileStore, Files, Options, Start};
 use sqlite_disk::Disk;
 use std::alloc::Global;
 
-/// The rows of two files. Where they held the one table, its store tells the rows that they held, and where they held nothing yet, none.
+/// The rows of two files. Where they held the one table, its store tells the rows that they held, and where they held nothing
+/// yet, none.
 ///
 /// # Errors
 ///
@@ -26,8 +26,8 @@ pub fn load_files<D: Disk + Drop>(
 ) -> Result<Opened<FileStore<D>>, Stop>
     requires log { IsTrue (D.Disk.is_usable files.log) }
     requires db { IsTrue (D.Disk.is_usable files.db) }
-    ensures rows { IfOk result (λ r. (rows : Kept) → HoldsRows (image_of D.Disk files) rows → LoadsAs (file_state r.conn) r.is_told r.tables rows) }
-    ensures none { IfOk result (λ r. IsNothing (image_of D.Disk files) → LoadsAs (file_state r.conn) r.is_told r.tables maps.empty) }
+    ensures rows { IfOk result (λ r. (rows : Kept) → GiveRows (image_of D.Disk files) rows → LoadsAs (file_state r.conn) r.is_told r.tables rows) }
+    ensures mode { IfOk result (λ r. r.conn.in_transaction ≡ false) }
     ensures honest { IfOk result (λ r. HasCleanDisk (file_state r.conn) → AreClean D.Disk files.log files.db) }
 {
     let conn = match Connection::open_files(alloc, files, options) {
@@ -48,8 +48,8 @@ pub fn load_path<S: Start>(
     path: &str,
     start: S,
 ) -> Result<Opened<FileStore<FileFrom<S>>>, Stop>
-    ensures rows { IfOk result (λ r. (rows : Kept) → HoldsRows (image_at S.Start) rows → LoadsAs (file_state r.conn) r.is_told r.tables rows) }
-    ensures none { IfOk result (λ r. IsNothing (image_at S.Start) → LoadsAs (file_state r.conn) r.is_told r.tables maps.empty) }
+    ensures rows { IfOk result (λ r. (rows : Kept) → GiveRows (image_at S.Start) rows → LoadsAs (file_state r.conn) r.is_told r.tables rows) }
+    ensures mode { IfOk result (λ r. r.conn.in_transaction ≡ false) }
 {
     let conn = match Connection::open_from(rt, path, false, start) {
         Ok(conn) => conn,

@@ -1,6 +1,6 @@
 //! From one store to the next over the same files.
 
-ghost use Rattle.std.specs.Prelude.{IfOk};
+ghost use Rattle.std.specs.Prelude.{◌≡◌, false, IfOk};
 ghost use Rattle.sqlite.specs.Files.{file_state};
 ghost use Rattle.oe_keeper.specs.Kept.{Kept};
 ghost use Rattle.kept_table.specs.Model.{Holds};
@@ -23,7 +23,8 @@ pub fn load_next<D: Disk + Drop>(
     conn: Connection<FileStore<D>>,
     options: Options,
 ) -> Result<Opened<FileStore<D>>, Stop>
-    ensures { IfOk result (λ r. (rows : Kept) → Holds (file_state conn) rows → LoadsAs (file_state r.conn) r.is_told r.tables rows) }
+    ensures rows { IfOk result (λ r. (rows : Kept) → Holds (file_state conn) rows → LoadsAs (file_state r.conn) r.is_told r.tables rows) }
+    ensures mode { IfOk result (λ r. r.conn.in_transaction ≡ false) }
 {
     let files = close_rows(conn)?;
     let opened = load_files(alloc, files, options)?;

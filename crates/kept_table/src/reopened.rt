@@ -1,6 +1,6 @@
 //! The first load of a store that was just opened.
 
-ghost use Rattle.std.specs.Prelude.{◌≡◌, ◌≤◌, IsTrue, IfOk, IfSome};
+ghost use Rattle.std.specs.Prelude.{◌≡◌, ◌≤◌, false, IsTrue, IfOk, IfSome, OnOk};
 ghost use Rattle.std.specs.FinMap as maps;
 ghost use Rattle.sqlite.specs.Effect.{IsDatabase};
 ghost use Rattle.sqlite.specs.Held.{state};
@@ -40,6 +40,7 @@ fn load_shaped<S: Alter>(alloc: Global, conn: &mut Connection<S>) -> Result<(Tab
     requires { HasCleanDisk (state S.Store conn.old) → (state S.Store conn.old).now.schema ≡ kept_schema → IsShaped Table ((state S.Store conn.old).now.trees 0) }
     ensures told { HasCleanDisk (state S.Store conn.new) → IsTrue (state S.Store conn.new).is_open → IfOk result (λ r. IsTrue r.1 → Holds (state S.Store conn.new) r.0) }
     ensures shaped { IfOk result (λ r. (state S.Store conn.new).now.schema ≡ kept_schema → IsTrue r.1) }
+    ensures mode { OnOk result (conn.new.in_transaction ≡ false) }
     ensures was { (state S.Store conn.old).now.schema ≡ kept_schema → IfOk result (λ r. IsTrue r.1) }
     ensures rows { HasCleanDisk (state S.Store conn.new) → IsTrue (state S.Store conn.new).is_open → (state S.Store conn.old).now.schema ≡ kept_schema
         → IfOk result (λ r. tables_in ((state S.Store conn.old).now.trees 0) ≡ r.0) }
@@ -83,6 +84,7 @@ pub fn load_opened<S: Alter + Drop>(alloc: Global, conn: Connection<S>) -> Resul
     ensures rows { (state S.Store conn).now.schema ≡ kept_schema → (state S.Store conn).now ≡ (state S.Store conn).committed
         → IfOk result (λ r. HasCleanDisk (state S.Store r.conn) → IsTrue (state S.Store r.conn).is_open → IsTrue r.is_told × (tables_in ((state S.Store conn).now.trees 0) ≡ r.tables)) }
     ensures clean { IfOk result (λ r. doubt (state S.Store conn).is_clean ≤ doubt (state S.Store r.conn).is_clean) }
+    ensures mode { IfOk result (λ r. r.conn.in_transaction ≡ false) }
 {
     let mut conn = conn;
     if is_blank(conn.schema()) {

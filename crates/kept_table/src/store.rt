@@ -59,6 +59,7 @@ pub(crate) fn load_blank<S: Alter>(alloc: Global, conn: &mut Connection<S>) -> R
     requires { (state S.Store conn.old).now.schema ≡ no_schema }
     ensures told { HasCleanDisk (state S.Store conn.new) → IsTrue (state S.Store conn.new).is_open → IfOk result (λ rows. Holds (state S.Store conn.new) rows) }
     ensures none { HasCleanDisk (state S.Store conn.new) → IfOk result (λ rows. rows ≡ maps.empty) }
+    ensures mode { OnOk result (conn.new.in_transaction ≡ false) }
     ensures clean { doubt (state S.Store conn.old).is_clean ≤ doubt (state S.Store conn.new).is_clean }
 {
     create(conn)?;

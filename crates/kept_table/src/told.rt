@@ -25,6 +25,7 @@ pub fn load_again<S: Alter>(alloc: Global, conn: &mut Connection<S>) -> Result<T
     ensures rows { IsHeld (state S.Store conn.old) → IfOk result (λ rows. (now : Kept) → TellsIn (state S.Store conn.new) now → now ≡ rows) }
     ensures stays { StaysIn (state S.Store conn.old) (state S.Store conn.new) }
     ensures silent { IsHeld (state S.Store conn.old) → StaysSilentIn (state S.Store conn.old) (state S.Store conn.new) }
+    ensures mode { conn.old.in_transaction ≡ false → conn.new.in_transaction ≡ false }
 
     // a crash leaves the rows
     ensures crash { HasCleanDisk (state S.Store conn.new) → conn.old.in_transaction ≡ false → (before : Kept) → TellsIn (state S.Store conn.old) before
@@ -47,6 +48,7 @@ pub fn change_told<S: Alter>(conn: &mut Connection<S>, changes: &[RowChange]) ->
     ensures all { OnOk result ((before now : Kept) → TellsIn (state S.Store conn.old) before → TellsIn (state S.Store conn.new) now → now ≡ all_changed before changes.now) }
     ensures none { OnErr result (StaysIn (state S.Store conn.old) (state S.Store conn.new)) }
     ensures silent { IsHeld (state S.Store conn.old) → StaysSilentIn (state S.Store conn.old) (state S.Store conn.new) }
+    ensures mode { conn.old.in_transaction ≡ false → conn.new.in_transaction ≡ false }
 
     // a crash leaves the rows as they were or with all the changes
     ensures crash { HasCleanDisk (state S.Store conn.new) → conn.old.in_transaction ≡ false → (before : Kept) → TellsIn (state S.Store conn.old) before

@@ -3,10 +3,13 @@ use Rattle.std.specs.Prelude.{◌≡◌, Bool, IsTrue}
 use Rattle.std.proofs.Common.{sym, ◌∙◌}
 use Rattle.sqlite_disk.specs.declared.Disk.{Ghosts}
 use Rattle.sqlite.specs.Held.{state}
-use Rattle.sqlite.specs.Files.{file_state}
+use Rattle.sqlite_wal.specs.Recovery.{Image}
+use Rattle.sqlite.specs.Start.{FindsIn}
+use Rattle.sqlite.specs.Files.{file_state, IsOpened}
 use Rattle.sqlite.specs.State.{HasCleanDisk}
 use Rattle.sqlite.specs.Steps.{over_memory}
 use Rattle.oe_keeper.specs.Kept.{Kept}
+use Rattle.kept_files.specs.FileRows.{GiveRows}
 use Rattle.kept_table.specs.Model.{IsHeld, TellsIn}
 use Rattle.kept_table.specs.Shape.{kept_schema, no_schema}
 use Rattle.oe_sqlite.specs.declared.place.Place.{Place}
@@ -45,6 +48,16 @@ abbrev pub IsCleanAt : {D : Type 0} {g : Ghosts D} → Place D g → Type 0
 IsCleanAt Nowhere = ⊥
 IsCleanAt (Memory conn) = HasCleanDisk (state over_memory conn) × IsTrue (state over_memory conn).is_open
 IsCleanAt (File conn) = HasCleanDisk (file_state conn) × IsTrue (file_state conn).is_open
+
+-- its store was just opened over files that held this
+abbrev pub IsFoundAt : {D : Type 0} {g : Ghosts D} → Image → Place D g → Type 0
+IsFoundAt image Nowhere = ⊥
+IsFoundAt image (Memory conn) = ⊥
+IsFoundAt image (File conn) = HasCleanDisk (file_state conn) → IsOpened conn × FindsIn image (file_state conn)
+
+-- what it tells after a load of such files, while it is clean and open, and what was loaded are the rows that the files give
+abbrev pub LoadsAt : {D : Type 0} {g : Ghosts D} → Image → Place D g → Bool → Kept → Type 0
+LoadsAt image place is_told loaded = (rows : Kept) → GiveRows image rows → IsCleanAt place → TellsWith is_told place rows × (loaded ≡ rows)
 
 pub told_once : {D : Type 0} {g : Ghosts D} (place : Place D g) (a b : Kept) → TellsAt place a → TellsAt place b → a ≡ b
 told_once Nowhere a b p q = absurd p

@@ -1,16 +1,21 @@
 //! The keeper.
 
-ghost use Rattle.std.specs.Prelude.{◌≡◌, true, false, None, Err, IsTrue, IfOk, OnOk, OnErr};
+ghost use Rattle.std.specs.Prelude.{◌≡◌, true, false, None, Err, IsTrue, IsSome, IfOk, IfSome, OnOk, OnErr};
+ghost use Rattle.sqlite_wal.specs.Files.{outcomes};
+ghost use Rattle.sqlite_wal.specs.Recovery.{Image};
+ghost use Rattle.sqlite_store.specs.FileStore.{view, files as store_files};
+ghost use Rattle.sqlite_trees.specs.View.{IsClean};
 ghost use Rattle.oe_keeper.specs.Kept.{Kept};
+ghost use Rattle.kept_files.specs.FileRows.{HoldsRows};
 ghost use Rattle.oe_keeper.specs.Keeping.{HasCause, IfFailed, Stays, StaysSilent, HasAll};
 ghost use Rattle.oe_sqlite.specs.declared.place.Place.TheVariants.{Nowhere};
-ghost use Rattle.oe_sqlite.specs.Places.{TellsWith, IsHeldAt, IsBlankAt, IsCleanAt, IsShapedAt, told_once};
+ghost use Rattle.oe_sqlite.specs.Places.{TellsWith, IsHeldAt, IsBlankAt, IsCleanAt, IsShapedAt, IsFoundAt, LoadsAt, told_once};
 
 use crate::opens::{HostFiles, Opens};
 use crate::place::Place;
 use kept_table::Stop;
 use oe_keeper::{KeepErr, Keeper, RowChange, Tables};
-use sqlite::Connection;
+use sqlite::{Connection, FileStore};
 use std::alloc::Global;
 use std::mem;
 
@@ -42,7 +47,8 @@ fn count(faults: &mut u64, stop: Stop) -> KeepErr
 impl<'a> StoreKeeper<HostFiles<'a>> {
     /// A keeper that has no store yet. Its first `load` opens a file through `rt`, or a store in memory.
     pub fn new(rt: &'a HostRuntime) -> SqliteKeeper<'a>
-        ensures { result.place ≡ Nowhere }
+        ensures place { result.place ≡ Nowhere }
+        ensures untold { result.is_told ≡ false }
     {
         StoreKeeper::over(HostFiles::new(rt))
     }
@@ -51,7 +57,9 @@ impl<'a> StoreKeeper<HostFiles<'a>> {
 impl<O: Opens> StoreKeeper<O> {
     /// A keeper that has no store yet. Its first `load` opens one by the opener, or in memory.
     pub fn over(opener: O) -> StoreKeeper<O>
-        ensures { result.place ≡ Nowhere }
+        ensures opener { result.opener ≡ opener }
+        ensures place { result.place ≡ Nowhere }
+        ensures untold { result.is_told ≡ false }
     {
         StoreKeeper {
             opener,
@@ -67,6 +75,7 @@ impl<O: Opens> StoreKeeper<O> {
         ensures told { self.new.is_told ≡ self.old.is_told }
         ensures place { self.new.place ≡ self.old.place }
         ensures memory { path.entry ≡ None → IfOk result IsBlankAt }
+        ensures file { IsSome path.entry → IfOk result (λ p. IsFoundAt (O.Opens.image self.old.opener) p) }
     {
         match path {
             Some(path) => Ok(Place::File(self.opener.open(path)?)),
@@ -82,6 +91,7 @@ impl<O: Opens> StoreKeeper<O> {
         ensures untold { OnErr result (self.new.is_told ≡ false) }
         ensures memory { self.old.place ≡ Nowhere → path.entry ≡ None → OnOk result (IsTrue self.new.is_told) }
         ensures shaped { OnOk result (IsShapedAt self.new.place → IsTrue self.new.is_told) }
+        ensures file { self.old.place ≡ Nowhere → IsSome path.entry → IfOk result (λ rows. LoadsAt (O.Opens.image self.old.opener) self.new.place self.new.is_told rows) }
     {
         let opened = match mem::replace(&mut self.place, Place::Nowhere) {
             Place::Nowhere => self.open(alloc, path)?,
@@ -102,12 +112,22 @@ impl<O: Opens> StoreKeeper<O> {
         ensures memory { self.old.place ≡ Nowhere → path.entry ≡ None → OnOk result (IsTrue self.new.is_told) }
         ensures still { IsTrue self.old.is_told → IsTrue self.new.is_told }
         ensures shaped { OnOk result (IsShapedAt self.new.place → IsTrue self.new.is_told) }
+        ensures file { self.old.place ≡ Nowhere → self.old.is_told ≡ false → IsSome path.entry
+            → IfOk result (λ rows. LoadsAt (O.Opens.image self.old.opener) self.new.place self.new.is_told rows) }
     {
         if self.is_told {
             self.place.load_again(alloc)
         } else {
             self.load_untold(alloc, path)
         }
+    }
+
+    /// Ends the keeper and gives the store of its file, if it has one. What it told its files hold, whatever a crash leaves of them.
+    pub fn leave(self) -> Option<FileStore<O::Disk>>
+        ensures { IfSome result (λ it. IsClean (view it) → (rows : Kept) → TellsWith self.is_told self.place rows
+            → (image : Image) → outcomes O.Disk.Disk (store_files it).0 (store_files it).1 image → HoldsRows image rows) }
+    {
+        self.place.leave()
     }
 
     /// Makes all the changes, in order, or none of them.
@@ -143,9 +163,12 @@ impl<O: Opens> Keeper for StoreKeeper<O> {
         ensures steady { ⊥ → ⊥ }
         ensures unfailing { ⊥ → IfFailed result ⊥ }
 
-        // A store in memory is told from its first load on, what is told stays so, and a store that has the one table is told while it is clean.
+        // A store in memory is told from its first load on, the first load of a file gives what the file held, what is told stays so, and a store that
+        // has the one table is told while it is clean.
         ensures memory { self.old.place ≡ Nowhere → place.entry ≡ None → OnOk result (IsTrue self.new.is_told) }
         ensures still { IsTrue self.old.is_told → IsTrue self.new.is_told }
+        ensures file { self.old.place ≡ Nowhere → self.old.is_told ≡ false → IsSome place.entry
+            → IfOk result (λ rows. LoadsAt (O.Opens.image self.old.opener) self.new.place self.new.is_told rows) }
         ensures tells { OnOk result (IsShapedAt self.new.place → IsCleanAt self.new.place → ∥ ((rows : Kept) × TellsWith self.new.is_told self.new.place rows) ∥₁) }
     {
         match self.load_all(alloc, place) {

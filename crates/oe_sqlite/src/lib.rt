@@ -2,8 +2,10 @@
 #![tactic(auto)]
 
 mod keeper;
+mod laws;
 mod opens;
 mod place;
 
 pub use keeper::{SqliteKeeper, StoreKeeper};
-pub use opens::{HostFiles, Opens};
+pub use laws::told_again;
+pub use opens::{HostFiles, Opens, StartFiles};

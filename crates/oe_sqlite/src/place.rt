@@ -1,10 +1,16 @@
 //! Where the rows are kept.
 
-ghost use Rattle.std.specs.Prelude.{◌≡◌, IsTrue, IfOk, OnOk, OnErr};
+ghost use Rattle.std.specs.Prelude.{◌≡◌, IsTrue, IfOk, IfSome, OnOk, OnErr};
+ghost use Rattle.sqlite_wal.specs.Files.{outcomes};
+ghost use Rattle.sqlite_wal.specs.Recovery.{Image};
+ghost use Rattle.sqlite_store.specs.FileStore.{view, files as store_files};
+ghost use Rattle.sqlite_trees.specs.View.{IsClean};
 ghost use Rattle.oe_keeper.specs.Kept.{Kept};
+ghost use Rattle.kept_files.specs.FileRows.{HoldsRows};
 ghost use Rattle.oe_keeper.specs.Keeping.{Stays, StaysSilent, HasAll};
-ghost use Rattle.oe_sqlite.specs.Places.{TellsAt, IsHeldAt, IsBlankAt, IsShapedAt};
+ghost use Rattle.oe_sqlite.specs.Places.{TellsAt, IsHeldAt, IsBlankAt, IsShapedAt, IsFoundAt, LoadsAt};
 
+use kept_files::leave_rows;
 use kept_table::{Opened, Stop, change_told, load_again, load_opened};
 use oe_keeper::{RowChange, Tables};
 use sqlite::{Connection, FileStore, MemStore};
@@ -26,6 +32,7 @@ impl<D: Disk + Drop> Place<D> {
         ensures rows { IfOk result (λ r. IsTrue r.2 → (now : Kept) → TellsAt r.0 now → now ≡ r.1) }
         ensures blank { IsBlankAt self → IfOk result (λ r. IsTrue r.2) }
         ensures shaped { IfOk result (λ r. IsShapedAt r.0 → IsTrue r.2) }
+        ensures found { (image : Image) → IsFoundAt image self → IfOk result (λ r. LoadsAt image r.0 r.2 r.1) }
     {
         match self {
             Place::Memory(conn) => {
@@ -73,6 +80,22 @@ impl<D: Disk + Drop> Place<D> {
             Place::Memory(conn) => change_told(conn, changes),
             Place::File(conn) => change_told(conn, changes),
             Place::Nowhere => Err(Stop::NotReady),
+        }
+    }
+
+    /// The store of the file, if there is one and no transaction is open, once nothing is kept at this place any more.
+    pub(crate) fn leave(self) -> Option<FileStore<D>>
+        ensures { IfSome result (λ it. IsClean (view it) → (rows : Kept) → TellsAt self rows
+            → (image : Image) → outcomes D.Disk (store_files it).0 (store_files it).1 image → HoldsRows image rows) }
+    {
+        match self {
+            Place::File(conn) => {
+                if !conn.is_autocommit() {
+                    return None;
+                }
+                Some(leave_rows(conn))
+            }
+            _ => None,
         }
     }
 }

@@ -1,5 +1,5 @@
 use Rattle.sqlite.specs.Files.{file_state}
-use Rattle.kept_files.proofs.Left.{committed_rows}
+use Rattle.kept_table.proofs.Crash.{committed_rows}
 use Rattle.kept_files.proofs.leave.close_rows.Goals as goal
 
 pub returns-in-Ok-clause-seen : goal.returns-in-Ok-clause-seen

@@ -1,5 +1,9 @@
-use Rattle.kept_files.proofs.Left.{crash_rows}
+use Rattle.sqlite.specs.Files.{file_state}
+use Rattle.sqlite_store.specs.Laws.{settled_at}
+use Rattle.kept_table.proofs.Crash.{crash_rows}
 use Rattle.kept_files.proofs.leave.is_settled.Goals as goal
 
 pub returns : goal.returns
-returns g c settled rows tells = crash_rows c.args.conn.now g.met.D.Disk.seen_may_stay rows tells c.schema-live.ensures.live (c.is_autocommit.ensures.settled settled tells.1)
+returns g c settled rows tells db may =
+    crash_rows (file_state c.args.conn.now) rows db c.schema-live.ensures.live (c.is_autocommit.ensures.settled settled) tells
+    (settled_at c.args.conn.now.store g.met.D.Disk.seen_may_stay db tells.1 may)

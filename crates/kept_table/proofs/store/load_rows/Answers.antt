@@ -2,6 +2,7 @@ use Rattle.std.proofs.Common.{ap, ◌∙◌, not, Result, Ok, Err}
 use Rattle.std.specs.Prelude.{IfOk}
 use Rattle.sqlite.specs.Held.{state}
 use Rattle.kept_table.proofs.Reading.{holds_over, same_now, were_open, query_failed, shown_open, shown_still, rows_are}
+use Rattle.kept_table.proofs.Crash.{read_leaves}
 use Rattle.kept_table.proofs.store.load_rows.Goals as goal
 
 if_ok : {T E : Type 0} {P Q : T → Type 0} (r : Result T E) → ((x : T) → P x → Q x) → IfOk r P → IfOk r Q
@@ -26,3 +27,9 @@ returns-clause-still g c clean up tables holds =
 
 pub returns-clause-open : goal.returns-clause-open
 returns-clause-open g c clean up = shown_open _ _ (state g.S.Store c.args.conn.now) (state g.S.Store c.query_all.new.self) _ (c.in_ok-rows.ensures.ok clean)
+
+pub returns-in_err-rows-clause-crash : goal.returns-in_err-rows-clause-crash
+returns-in_err-rows-clause-crash g c clean tables holds db may = read_leaves (state g.S.Store c.args.conn.now) db holds.schema (c.in_err-rows.ensures.survives.crash clean db may)
+
+pub returns-clause-crash : goal.returns-clause-crash
+returns-clause-crash g c clean tables holds db may = read_leaves (state g.S.Store c.args.conn.now) db holds.schema (c.in_ok-rows.ensures.survives.crash clean db may)

@@ -2,6 +2,7 @@ use Rattle.std.proofs.Common.{arith}
 use Rattle.sqlite.specs.Held.{state}
 use Rattle.sqlite.specs.State.{HasCleanDisk}
 use Rattle.oe_keeper.specs.Kept.{all_changed}
+use Rattle.kept_table.proofs.Crash.{crash_rows, either}
 use Rattle.kept_table.proofs.told.change_told.Goals as goal
 
 pub returns-in_err-apply-clause-held : goal.returns-in_err-apply-clause-held
@@ -31,3 +32,15 @@ returns-clause-silent g c held now told =
     let up = c.in_ok-apply.ensures.open clean told.1 in
     let b = held was up in
     (b.0, (was, up, b.1))
+
+pub returns-in_err-apply-clause-crash : goal.returns-in_err-apply-clause-crash
+returns-in_err-apply-clause-crash g c clean outside before tells db may =
+    either (λ old. crash_rows (state g.S.Store c.args.conn.now) before db c.schema-live.ensures.live (c.is_autocommit.ensures.settled c.if-not-is_autocommit.false) tells
+    (g.met.S.Store.settled c.args.conn.now.store db tells.1 old))
+    (c.in_err-apply.ensures.crash clean (c.schema-live.ensures.live tells.1).0 before tells.2 db may)
+
+pub returns-clause-crash : goal.returns-clause-crash
+returns-clause-crash g c clean outside before tells db may =
+    either (λ old. crash_rows (state g.S.Store c.args.conn.now) before db c.schema-live.ensures.live (c.is_autocommit.ensures.settled c.if-not-is_autocommit.false) tells
+    (g.met.S.Store.settled c.args.conn.now.store db tells.1 old))
+    (c.in_ok-apply.ensures.crash clean (c.schema-live.ensures.live tells.1).0 before tells.2 db may)

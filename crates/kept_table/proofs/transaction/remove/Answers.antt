@@ -7,6 +7,7 @@ use Rattle.oe_keeper.specs.declared.change.Table.TheVariants.{Airfield, Runway, 
 use Rattle.kept_table.proofs.Removes.{removes}
 use Rattle.std.proofs.Common.{◌≡◌, ℕ, ◌<◌, ◌^◌, pos, arith, w64, to_z, of_z}
 use Rattle.std.proofs.lemmas.Int.{to_z-of_z}
+use Rattle.kept_table.proofs.Crash.{remove_sound}
 use Rattle.kept_table.proofs.transaction.remove.Goals as goal
 
 small_back : (n : ℕ) → n < 2 ^ 8 → to_z w64 (of_z w64 (pos n)) ≡ pos n
@@ -27,3 +28,8 @@ returns-clause-removes g c clean within tables holds =
     let it = removes old new (place c.args.table) c.args.key.now c.in_ok-execute.field-0 holds.schema holds.rows
     (rw (c.params-to_sql.ensures, c.params-to_sql-2.ensures, c.number-t.ensures, small_back (place c.args.table) (low c.args.table)) at ran.0) in
     record { schema = it.0; rows = it.1; are = it.2 ∙ ap (λ m. map.remove m (place c.args.table, c.args.key.now)) holds.are }
+
+pub returns-clause-sound : goal.returns-clause-sound
+returns-clause-sound g c clean within tables holds =
+    let ran = c.in_ok-execute.ensures.runs clean within in
+    remove_sound _ (state g.S.Store c.args.tx.now.conn.now) (state g.S.Store c.execute.new.self.conn.now) c.in_ok-execute.field-0 holds.schema ran.0

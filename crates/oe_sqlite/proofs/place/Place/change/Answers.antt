@@ -1,6 +1,5 @@
-use Rattle.std.proofs.Common.{◌≡◌, sym, subst}
-use Rattle.std.specs.Prelude.{IfOk, OnOk, OnErr}
-use Rattle.oe_keeper.specs.Kept.{Kept}
+use Rattle.std.proofs.Common.{sym, subst}
+use Rattle.std.specs.Prelude.{OnOk, OnErr}
 use Rattle.oe_keeper.specs.Keeping.{Stays, StaysSilent, HasAll}
 use Rattle.oe_sqlite.specs.Places.{TellsAt, IsHeldAt}
 use Rattle.oe_sqlite.specs.declared.place.Place.{Place}

@@ -1,7 +1,7 @@
 use Rattle.std.proofs.Common.{◌≡◌, sym, subst}
-use Rattle.std.specs.Prelude.{IfOk, OnOk, OnErr}
+use Rattle.std.specs.Prelude.{IfOk}
 use Rattle.oe_keeper.specs.Kept.{Kept}
-use Rattle.oe_keeper.specs.Keeping.{Stays, StaysSilent, HasAll}
+use Rattle.oe_keeper.specs.Keeping.{Stays, StaysSilent}
 use Rattle.oe_sqlite.specs.Places.{TellsAt, IsHeldAt}
 use Rattle.oe_sqlite.specs.declared.place.Place.{Place}
 use Rattle.oe_sqlite.specs.declared.place.Place.TheVariants.{Memory, File}

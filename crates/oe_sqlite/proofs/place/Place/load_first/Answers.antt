@@ -1,6 +1,8 @@
 use Rattle.std.proofs.Common.{sym, subst, ◌∙◌}
-use Rattle.oe_sqlite.specs.Places.{IsBlankAt}
+use Rattle.oe_sqlite.specs.Places.{IsBlankAt, IsFoundAt}
 use Rattle.oe_sqlite.specs.declared.place.Place.{Place}
+use Rattle.sqlite.specs.Files.{file_state}
+use Rattle.kept_files.proofs.Found.{loads}
 use Rattle.oe_sqlite.proofs.place.Place.load_first.Goals as goal
 
 pub returns-in_ok-conn-in-Memory-clause-held : goal.returns-in_ok-conn-in-Memory-clause-held
@@ -14,3 +16,12 @@ returns-in_ok-conn-in-File-clause-rows g c = λ told now there. sym there.2.are 
 
 pub returns-in_ok-conn-in-File-clause-blank : goal.returns-in_ok-conn-in-File-clause-blank
 returns-in_ok-conn-in-File-clause-blank g c = λ blank. c.in_ok-conn-in-File.ensures.blank (subst (λ (p : Place _ _). IsBlankAt p) c.in-File.is blank)
+
+pub returns-in_ok-conn-in-File-clause-found : goal.returns-in_ok-conn-in-File-clause-found
+returns-in_ok-conn-in-File-clause-found g c image found rows gives clean =
+    let opened = c.in_ok-conn-in-File.field-0 in
+    let loaded = c.in_ok-conn-in-File.ensures in
+    let it = subst (λ (p : Place _ _). IsFoundAt image p) c.in-File.is found in
+    let now = loads image (file_state c.in-File.conn) (file_state opened.conn) opened.is_told opened.tables rows (λ early. (it early).0)
+    (λ early. (it early).1.holds) (λ early. (it early).1.reads) loaded.clean loaded.told loaded.rows loaded.blank loaded.none gives clean.0 clean.1 in
+    ((now.0, (clean.0, clean.1, now.2)), now.1)
