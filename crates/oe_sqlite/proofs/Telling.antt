@@ -1,6 +1,6 @@
 -- From what a place keeps to what a keeper tells.
-use Rattle.std.proofs.Common.{◌≡◌, Bool, IsTrue, Result, Ok, Err}
-use Rattle.std.specs.Prelude.{IfOk, OnErr}
+use Rattle.std.proofs.Common.{◌≡◌, Bool, IsTrue, Option, Some, None, Result, Ok, Err}
+use Rattle.std.specs.Prelude.{IfOk, IfSome, OnErr}
 use Rattle.std.proofs.Math.Logic.{∥∥₁_elim, ∥∥₁_map, ∥∥₁_prop}
 use Rattle.std.specs.Coded.{Coded-set}
 use Rattle.oe_keeper.specs.Kept.{Kept, kept_code}
@@ -29,8 +29,12 @@ always_err (Err e) q = q
 -- a place that shows its rows whenever it is clean tells them while it is
 shown_rows : {D : Type 0} {g : Ghosts D} (place : Place D g) → IsHeldAt place → IsCleanAt place → (rows : Kept) × TellsAt place rows
 shown_rows Nowhere held clean = absurd clean
-shown_rows (Memory conn) held clean = ((held clean.0 clean.1).0, (clean.0, clean.1, (held clean.0 clean.1).1))
-shown_rows (File conn) held clean = ((held clean.0 clean.1).0, (clean.0, clean.1, (held clean.0 clean.1).1))
+shown_rows (Memory conn) held clean = let shown = held.0 clean.0 clean.1 in (shown.0, (clean.0, clean.1, shown.1))
+shown_rows (File conn) held clean = let shown = held.0 clean.0 clean.1 in (shown.0, (clean.0, clean.1, shown.1))
 
 pub tells_rows : {D : Type 0} {g : Ghosts D} (told : Bool) (place : Place D g) → ∥ (IsTrue told → IsHeldAt place) ∥₁ → IsTrue told → IsCleanAt place → ∥ ((rows : Kept) × TellsWith told place rows) ∥₁
 tells_rows told place held is clean = ∥∥₁_map held (λ h. ((shown_rows place (h is) clean).0, (is, (shown_rows place (h is) clean).1)))
+
+pub if_some : {T : Type 0} {P Q : T → Type 0} (o : Option T) → ((x : T) → P x → Q x) → IfSome o P → IfSome o Q
+if_some None f h = h
+if_some (Some x) f h = f x h

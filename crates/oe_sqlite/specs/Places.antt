@@ -1,5 +1,6 @@
 -- The rows that a place tells.
-use Rattle.std.specs.Prelude.{◌≡◌, Bool, IsTrue}
+use Rattle.std.specs.Prelude.{◌≡◌, Bool, false, IsTrue}
+use Rattle.sqlite_trees.specs.Tree.{Trees}
 use Rattle.std.proofs.Common.{sym, ◌∙◌}
 use Rattle.sqlite_disk.specs.declared.Disk.{Ghosts}
 use Rattle.sqlite.specs.Held.{state}
@@ -15,11 +16,11 @@ use Rattle.kept_table.specs.Shape.{kept_schema, no_schema}
 use Rattle.oe_sqlite.specs.declared.place.Place.{Place}
 use Rattle.oe_sqlite.specs.declared.place.Place.TheVariants.{Nowhere, Memory, File}
 
--- it shows some rows whenever its store is clean and open
+-- it shows some rows whenever its store is clean and open, and no transaction is
 abbrev pub IsHeldAt : {D : Type 0} {g : Ghosts D} → Place D g → Type 0
 IsHeldAt Nowhere = Unit {0}
-IsHeldAt (Memory conn) = IsHeld (state over_memory conn)
-IsHeldAt (File conn) = IsHeld (file_state conn)
+IsHeldAt (Memory conn) = IsHeld (state over_memory conn) × (conn.in_transaction ≡ false)
+IsHeldAt (File conn) = IsHeld (file_state conn) × (conn.in_transaction ≡ false)
 
 -- its store, which is clean and open, holds the one table with these rows
 abbrev pub TellsAt : {D : Type 0} {g : Ghosts D} → Place D g → Kept → Type 0
@@ -58,6 +59,12 @@ IsFoundAt image (File conn) = HasCleanDisk (file_state conn) → IsOpened conn �
 -- what it tells after a load of such files, while it is clean and open, and what was loaded are the rows that the files give
 abbrev pub LoadsAt : {D : Type 0} {g : Ghosts D} → Image → Place D g → Bool → Kept → Type 0
 LoadsAt image place is_told loaded = (rows : Kept) → GiveRows image rows → IsCleanAt place → TellsWith is_told place rows × (loaded ≡ rows)
+
+-- an open after a crash at this moment may find these trees in its file
+abbrev pub MayLeaveAt : {D : Type 0} {g : Ghosts D} → Place D g → Trees → Type 0
+MayLeaveAt Nowhere db = ⊥
+MayLeaveAt (Memory conn) db = ⊥
+MayLeaveAt (File conn) db = HasCleanDisk (file_state conn) × (file_state conn).may_leave db
 
 pub told_once : {D : Type 0} {g : Ghosts D} (place : Place D g) (a b : Kept) → TellsAt place a → TellsAt place b → a ≡ b
 told_once Nowhere a b p q = absurd p

@@ -1,15 +1,18 @@
 //! The keeper.
 
-ghost use Rattle.std.specs.Prelude.{◌≡◌, true, false, None, Err, IsTrue, IsSome, IfOk, IfSome, OnOk, OnErr};
+ghost use Rattle.std.specs.Prelude.{◌≡◌, ◌⊎◌, true, false, None, Err, IsTrue, IsSome, IfOk, IfSome, OnOk, OnErr};
 ghost use Rattle.sqlite_wal.specs.Files.{outcomes};
 ghost use Rattle.sqlite_wal.specs.Recovery.{Image};
 ghost use Rattle.sqlite_store.specs.FileStore.{view, files as store_files};
 ghost use Rattle.sqlite_trees.specs.View.{IsClean};
-ghost use Rattle.oe_keeper.specs.Kept.{Kept};
+ghost use Rattle.sqlite_trees.specs.Tree.{Trees};
+ghost use Rattle.sqlite.specs.Files.{HoldsDatabase};
+ghost use Rattle.oe_keeper.specs.Kept.{Kept, all_changed};
+ghost use Rattle.kept_table.specs.Model.{AreRows};
 ghost use Rattle.kept_files.specs.FileRows.{HoldsRows};
 ghost use Rattle.oe_keeper.specs.Keeping.{HasCause, IfFailed, Stays, StaysSilent, HasAll};
 ghost use Rattle.oe_sqlite.specs.declared.place.Place.TheVariants.{Nowhere};
-ghost use Rattle.oe_sqlite.specs.Places.{TellsWith, IsHeldAt, IsBlankAt, IsCleanAt, IsShapedAt, IsFoundAt, LoadsAt, told_once};
+ghost use Rattle.oe_sqlite.specs.Places.{TellsWith, IsHeldAt, IsBlankAt, IsCleanAt, IsShapedAt, IsFoundAt, LoadsAt, MayLeaveAt, told_once};
 
 use crate::opens::{HostFiles, Opens};
 use crate::place::Place;
@@ -124,8 +127,10 @@ impl<O: Opens> StoreKeeper<O> {
 
     /// Ends the keeper and gives the store of its file, if it has one. What it told its files hold, whatever a crash leaves of them.
     pub fn leave(self) -> Option<FileStore<O::Disk>>
-        ensures { IfSome result (λ it. IsClean (view it) → (rows : Kept) → TellsWith self.is_told self.place rows
+        ensures rows { IfSome result (λ it. IsClean (view it) → (rows : Kept) → TellsWith self.is_told self.place rows
             → (image : Image) → outcomes O.Disk.Disk (store_files it).0 (store_files it).1 image → HoldsRows image rows) }
+        ensures found { IfSome result (λ it. IsClean (view it) → (image : Image) → outcomes O.Disk.Disk (store_files it).0 (store_files it).1 image
+            → ∥ ((db : Trees) × MayLeaveAt self.place db × HoldsDatabase image db) ∥₁) }
     {
         self.place.leave()
     }
@@ -137,6 +142,8 @@ impl<O: Opens> StoreKeeper<O> {
         ensures none { OnErr result (Stays (λ k. TellsWith k.is_told k.place) self.old self.new) }
         ensures silent { StaysSilent (λ k. TellsWith k.is_told k.place) self.old self.new }
         ensures still { IsTrue self.old.is_told → IsTrue self.new.is_told }
+        ensures crash { (before : Kept) → TellsWith self.old.is_told self.old.place before → (db : Trees) → MayLeaveAt self.new.place db
+            → ∥ (AreRows db before ⊎ AreRows db (all_changed before changes.now)) ∥₁ }
     {
         self.place.change(changes)
     }
@@ -186,6 +193,10 @@ impl<O: Opens> Keeper for StoreKeeper<O> {
         ensures steady { ⊥ → ⊥ }
         ensures unfailing { ⊥ → IfFailed result ⊥ }
         ensures still { IsTrue self.old.is_told → IsTrue self.new.is_told }
+
+        // A crash leaves the rows as they were or with all the changes.
+        ensures crash { (before : Kept) → TellsWith self.old.is_told self.old.place before → (db : Trees) → MayLeaveAt self.new.place db
+            → ∥ (AreRows db before ⊎ AreRows db (all_changed before changes.now)) ∥₁ }
     {
         match self.change_all(changes) {
             Ok(()) => Ok(()),

@@ -7,5 +7,5 @@ mod opens;
 mod place;
 
 pub use keeper::{SqliteKeeper, StoreKeeper};
-pub use laws::told_again;
+pub use laws::{told_after_crash, told_again};
 pub use opens::{HostFiles, Opens, StartFiles};

@@ -1,14 +1,17 @@
 //! Where the rows are kept.
 
-ghost use Rattle.std.specs.Prelude.{◌≡◌, IsTrue, IfOk, IfSome, OnOk, OnErr};
+ghost use Rattle.std.specs.Prelude.{◌≡◌, ◌⊎◌, IsTrue, IfOk, IfSome, OnOk, OnErr};
 ghost use Rattle.sqlite_wal.specs.Files.{outcomes};
 ghost use Rattle.sqlite_wal.specs.Recovery.{Image};
 ghost use Rattle.sqlite_store.specs.FileStore.{view, files as store_files};
 ghost use Rattle.sqlite_trees.specs.View.{IsClean};
-ghost use Rattle.oe_keeper.specs.Kept.{Kept};
+ghost use Rattle.sqlite_trees.specs.Tree.{Trees};
+ghost use Rattle.sqlite.specs.Files.{HoldsDatabase};
+ghost use Rattle.oe_keeper.specs.Kept.{Kept, all_changed};
+ghost use Rattle.kept_table.specs.Model.{AreRows};
 ghost use Rattle.kept_files.specs.FileRows.{HoldsRows};
 ghost use Rattle.oe_keeper.specs.Keeping.{Stays, StaysSilent, HasAll};
-ghost use Rattle.oe_sqlite.specs.Places.{TellsAt, IsHeldAt, IsBlankAt, IsShapedAt, IsFoundAt, LoadsAt};
+ghost use Rattle.oe_sqlite.specs.Places.{TellsAt, IsHeldAt, IsBlankAt, IsShapedAt, IsFoundAt, LoadsAt, MayLeaveAt};
 
 use kept_files::leave_rows;
 use kept_table::{Opened, Stop, change_told, load_again, load_opened};
@@ -75,6 +78,8 @@ impl<D: Disk + Drop> Place<D> {
         ensures all { OnOk result (HasAll TellsAt self.old self.new changes.now) }
         ensures none { OnErr result (Stays TellsAt self.old self.new) }
         ensures silent { IsHeldAt self.old → StaysSilent TellsAt self.old self.new }
+        ensures crash { IsHeldAt self.old → (before : Kept) → TellsAt self.old before → (db : Trees) → MayLeaveAt self.new db
+            → AreRows db before ⊎ AreRows db (all_changed before changes.now) }
     {
         match self {
             Place::Memory(conn) => change_told(conn, changes),
@@ -85,8 +90,10 @@ impl<D: Disk + Drop> Place<D> {
 
     /// The store of the file, if there is one and no transaction is open, once nothing is kept at this place any more.
     pub(crate) fn leave(self) -> Option<FileStore<D>>
-        ensures { IfSome result (λ it. IsClean (view it) → (rows : Kept) → TellsAt self rows
+        ensures rows { IfSome result (λ it. IsClean (view it) → (rows : Kept) → TellsAt self rows
             → (image : Image) → outcomes D.Disk (store_files it).0 (store_files it).1 image → HoldsRows image rows) }
+        ensures found { IfSome result (λ it. IsClean (view it) → (image : Image) → outcomes D.Disk (store_files it).0 (store_files it).1 image
+            → ∥ ((db : Trees) × MayLeaveAt self db × HoldsDatabase image db) ∥₁) }
     {
         match self {
             Place::File(conn) => {

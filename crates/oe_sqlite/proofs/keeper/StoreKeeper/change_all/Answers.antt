@@ -10,3 +10,6 @@ returns-clause-none g c = on_err c.change.result (λ stays before now b n. stays
 
 pub returns-clause-silent : goal.returns-clause-silent
 returns-clause-silent g c = silent_told c.args.self.now.is_told c.args.self.now.place c.change.new.self c.args.self.now.held c.change.ensures.silent
+
+pub returns-clause-crash : goal.returns-clause-crash
+returns-clause-crash g c before told db may = ∥∥₁_map c.args.self.now.held (λ held. c.change.ensures.crash (held told.0) before told.1 db may)

@@ -7,7 +7,7 @@ use Rattle.oe_sqlite.specs.declared.place.Place.TheVariants.{Memory, File}
 use Rattle.oe_sqlite.proofs.place.Place.change.Goals as goal
 
 pub returns-in-Memory-clause-held : goal.returns-in-Memory-clause-held
-returns-in-Memory-clause-held g c = subst (λ (p : Place _ _). IsHeldAt p → IsHeldAt {g = g.D.Disk} (Memory c.change_told.new.conn)) (sym c.in-Memory.is) c.change_told.ensures.held
+returns-in-Memory-clause-held g c = subst (λ (p : Place _ _). IsHeldAt p → IsHeldAt {g = g.D.Disk} (Memory c.change_told.new.conn)) (sym c.in-Memory.is) (λ held. (c.change_told.ensures.held held.0, c.change_told.ensures.mode held.1))
 
 pub returns-in-Memory-clause-all : goal.returns-in-Memory-clause-all
 returns-in-Memory-clause-all g c = subst (λ (p : Place _ _). OnOk c.change_told.result (HasAll TellsAt p (Memory c.change_told.new.conn) c.args.changes.now)) (sym c.in-Memory.is) c.change_told.ensures.all
@@ -16,10 +16,10 @@ pub returns-in-Memory-clause-none : goal.returns-in-Memory-clause-none
 returns-in-Memory-clause-none g c = subst (λ (p : Place _ _). OnErr c.change_told.result (Stays TellsAt p (Memory c.change_told.new.conn))) (sym c.in-Memory.is) c.change_told.ensures.none
 
 pub returns-in-Memory-clause-silent : goal.returns-in-Memory-clause-silent
-returns-in-Memory-clause-silent g c = subst (λ (p : Place _ _). IsHeldAt p → StaysSilent TellsAt p (Memory c.change_told.new.conn)) (sym c.in-Memory.is) (λ held now told. ∣ c.change_told.ensures.silent held now told ∣₁)
+returns-in-Memory-clause-silent g c = subst (λ (p : Place _ _). IsHeldAt p → StaysSilent TellsAt p (Memory c.change_told.new.conn)) (sym c.in-Memory.is) (λ held now told. ∣ c.change_told.ensures.silent held.0 now told ∣₁)
 
 pub returns-in-File-clause-held : goal.returns-in-File-clause-held
-returns-in-File-clause-held g c = subst (λ (p : Place _ _). IsHeldAt p → IsHeldAt (File c.change_told-in-File.new.conn)) (sym c.in-File.is) c.change_told-in-File.ensures.held
+returns-in-File-clause-held g c = subst (λ (p : Place _ _). IsHeldAt p → IsHeldAt (File c.change_told-in-File.new.conn)) (sym c.in-File.is) (λ held. (c.change_told-in-File.ensures.held held.0, c.change_told-in-File.ensures.mode held.1))
 
 pub returns-in-File-clause-all : goal.returns-in-File-clause-all
 returns-in-File-clause-all g c = subst (λ (p : Place _ _). OnOk c.change_told-in-File.result (HasAll TellsAt p (File c.change_told-in-File.new.conn) c.args.changes.now)) (sym c.in-File.is) c.change_told-in-File.ensures.all
@@ -28,4 +28,13 @@ pub returns-in-File-clause-none : goal.returns-in-File-clause-none
 returns-in-File-clause-none g c = subst (λ (p : Place _ _). OnErr c.change_told-in-File.result (Stays TellsAt p (File c.change_told-in-File.new.conn))) (sym c.in-File.is) c.change_told-in-File.ensures.none
 
 pub returns-in-File-clause-silent : goal.returns-in-File-clause-silent
-returns-in-File-clause-silent g c = subst (λ (p : Place _ _). IsHeldAt p → StaysSilent TellsAt p (File c.change_told-in-File.new.conn)) (sym c.in-File.is) (λ held now told. ∣ c.change_told-in-File.ensures.silent held now told ∣₁)
+returns-in-File-clause-silent g c = subst (λ (p : Place _ _). IsHeldAt p → StaysSilent TellsAt p (File c.change_told-in-File.new.conn)) (sym c.in-File.is) (λ held now told. ∣ c.change_told-in-File.ensures.silent held.0 now told ∣₁)
+
+pub returns-in-Memory-clause-crash : goal.returns-in-Memory-clause-crash
+returns-in-Memory-clause-crash g c held before told db may = absurd may
+
+pub returns-in-File-clause-crash : goal.returns-in-File-clause-crash
+returns-in-File-clause-crash g c held before told db may =
+    let was = subst (λ (p : Place _ _). IsHeldAt p) c.in-File.is held in
+    let tells = subst (λ (p : Place _ _). TellsAt p before) c.in-File.is told in
+    c.change_told-in-File.ensures.crash may.0 was.1 before tells db may.1

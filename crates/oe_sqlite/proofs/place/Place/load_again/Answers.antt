@@ -8,25 +8,25 @@ use Rattle.oe_sqlite.specs.declared.place.Place.TheVariants.{Memory, File}
 use Rattle.oe_sqlite.proofs.place.Place.load_again.Goals as goal
 
 pub returns-in-Memory-clause-held : goal.returns-in-Memory-clause-held
-returns-in-Memory-clause-held g c = subst (λ (p : Place _ _). IsHeldAt p → IsHeldAt {g = g.D.Disk} (Memory c.load_again.new.conn)) (sym c.in-Memory.is) c.load_again.ensures.held
+returns-in-Memory-clause-held g c = subst (λ (p : Place _ _). IsHeldAt p → IsHeldAt {g = g.D.Disk} (Memory c.load_again.new.conn)) (sym c.in-Memory.is) (λ held. (c.load_again.ensures.held held.0, c.load_again.ensures.mode held.1))
 
 pub returns-in-Memory-clause-rows : goal.returns-in-Memory-clause-rows
-returns-in-Memory-clause-rows g c = subst (λ (p : Place _ _). IsHeldAt p → IfOk c.load_again.result (λ rows. (now : Kept) → TellsAt {g = g.D.Disk} (Memory c.load_again.new.conn) now → now ≡ rows)) (sym c.in-Memory.is) c.load_again.ensures.rows
+returns-in-Memory-clause-rows g c = subst (λ (p : Place _ _). IsHeldAt p → IfOk c.load_again.result (λ rows. (now : Kept) → TellsAt {g = g.D.Disk} (Memory c.load_again.new.conn) now → now ≡ rows)) (sym c.in-Memory.is) (λ held. c.load_again.ensures.rows held.0)
 
 pub returns-in-Memory-clause-stays : goal.returns-in-Memory-clause-stays
 returns-in-Memory-clause-stays g c = subst (λ (p : Place _ _). Stays TellsAt p (Memory c.load_again.new.conn)) (sym c.in-Memory.is) c.load_again.ensures.stays
 
 pub returns-in-Memory-clause-silent : goal.returns-in-Memory-clause-silent
-returns-in-Memory-clause-silent g c = subst (λ (p : Place _ _). IsHeldAt p → StaysSilent TellsAt p (Memory c.load_again.new.conn)) (sym c.in-Memory.is) (λ held now told. ∣ c.load_again.ensures.silent held now told ∣₁)
+returns-in-Memory-clause-silent g c = subst (λ (p : Place _ _). IsHeldAt p → StaysSilent TellsAt p (Memory c.load_again.new.conn)) (sym c.in-Memory.is) (λ held now told. ∣ c.load_again.ensures.silent held.0 now told ∣₁)
 
 pub returns-in-File-clause-held : goal.returns-in-File-clause-held
-returns-in-File-clause-held g c = subst (λ (p : Place _ _). IsHeldAt p → IsHeldAt (File c.load_again-in-File.new.conn)) (sym c.in-File.is) c.load_again-in-File.ensures.held
+returns-in-File-clause-held g c = subst (λ (p : Place _ _). IsHeldAt p → IsHeldAt (File c.load_again-in-File.new.conn)) (sym c.in-File.is) (λ held. (c.load_again-in-File.ensures.held held.0, c.load_again-in-File.ensures.mode held.1))
 
 pub returns-in-File-clause-rows : goal.returns-in-File-clause-rows
-returns-in-File-clause-rows g c = subst (λ (p : Place _ _). IsHeldAt p → IfOk c.load_again-in-File.result (λ rows. (now : Kept) → TellsAt (File c.load_again-in-File.new.conn) now → now ≡ rows)) (sym c.in-File.is) c.load_again-in-File.ensures.rows
+returns-in-File-clause-rows g c = subst (λ (p : Place _ _). IsHeldAt p → IfOk c.load_again-in-File.result (λ rows. (now : Kept) → TellsAt (File c.load_again-in-File.new.conn) now → now ≡ rows)) (sym c.in-File.is) (λ held. c.load_again-in-File.ensures.rows held.0)
 
 pub returns-in-File-clause-stays : goal.returns-in-File-clause-stays
 returns-in-File-clause-stays g c = subst (λ (p : Place _ _). Stays TellsAt p (File c.load_again-in-File.new.conn)) (sym c.in-File.is) c.load_again-in-File.ensures.stays
 
 pub returns-in-File-clause-silent : goal.returns-in-File-clause-silent
-returns-in-File-clause-silent g c = subst (λ (p : Place _ _). IsHeldAt p → StaysSilent TellsAt p (File c.load_again-in-File.new.conn)) (sym c.in-File.is) (λ held now told. ∣ c.load_again-in-File.ensures.silent held now told ∣₁)
+returns-in-File-clause-silent g c = subst (λ (p : Place _ _). IsHeldAt p → StaysSilent TellsAt p (File c.load_again-in-File.new.conn)) (sym c.in-File.is) (λ held now told. ∣ c.load_again-in-File.ensures.silent held.0 now told ∣₁)

@@ -6,10 +6,10 @@ use Rattle.kept_files.proofs.Found.{loads}
 use Rattle.oe_sqlite.proofs.place.Place.load_first.Goals as goal
 
 pub returns-in_ok-conn-in-Memory-clause-held : goal.returns-in_ok-conn-in-Memory-clause-held
-returns-in_ok-conn-in-Memory-clause-held g c = λ told clean up. (c.in_ok-conn-in-Memory.field-0.tables, c.in_ok-conn-in-Memory.ensures.told clean up told)
+returns-in_ok-conn-in-Memory-clause-held g c = λ told. ((λ clean up. (c.in_ok-conn-in-Memory.field-0.tables, c.in_ok-conn-in-Memory.ensures.told clean up told)), c.in_ok-conn-in-Memory.ensures.mode)
 
 pub returns-in_ok-conn-in-File-clause-held : goal.returns-in_ok-conn-in-File-clause-held
-returns-in_ok-conn-in-File-clause-held g c = λ told clean up. (c.in_ok-conn-in-File.field-0.tables, c.in_ok-conn-in-File.ensures.told clean up told)
+returns-in_ok-conn-in-File-clause-held g c = λ told. ((λ clean up. (c.in_ok-conn-in-File.field-0.tables, c.in_ok-conn-in-File.ensures.told clean up told)), c.in_ok-conn-in-File.ensures.mode)
 
 pub returns-in_ok-conn-in-File-clause-rows : goal.returns-in_ok-conn-in-File-clause-rows
 returns-in_ok-conn-in-File-clause-rows g c = λ told now there. sym there.2.are ∙ (c.in_ok-conn-in-File.ensures.told there.0 there.1 told).are
