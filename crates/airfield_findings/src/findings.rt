@@ -44,8 +44,10 @@ impl Findings {
         ensures pushed { OnOk result (self.new ≡ self.old ++ finding ∷ []) }
         ensures kept { OnErr result (self.new ≡ self.old) }
     {
-        self.items.extend_from_slice(&[finding])?;
-        Ok(())
+        match self.items.push(finding) {
+            Ok(()) => Ok(()),
+            Err(_) => Err(NoMemory),
+        }
     }
 
     /// How many findings there are.

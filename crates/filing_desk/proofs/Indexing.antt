@@ -19,7 +19,7 @@ abbrev is_of : Entry → ReceiptKey → Bool
 is_of e q = pointwise nat_eq e.change.caller q.caller && pointwise nat_eq e.change.key q.key
 
 abbrev key_of : Entry → ReceiptKey
-key_of e = record { caller = e.change.caller; key = e.change.key }
+key_of e = record { key = e.change.key; caller = e.change.caller }
 
 same_number : (x y : ℕ) → nat_eq x y ≡ true → x ≡ y
 same_number x y h = grind (arith, common_steps, h)
@@ -34,9 +34,15 @@ same_word (x ∷ xs) (y ∷ ys) h =
     let rest = same_word xs ys p.1 in
     λ i. one i ∷ rest i
 
--- the map compares keys as the entries' callers and keys are compared
+both_ways : (a b : Bool) → (a && b) ≡ (b && a)
+both_ways true true = refl
+both_ways true false = refl
+both_ways false true = refl
+both_ways false false = refl
+
+-- the map compares keys as the entries' callers and keys are compared, the keys first
 tested : (e : Entry) (q : ReceiptKey) → is_at (keys.ghosts.cmp (key_of e)) q ≡ is_of e q
-tested e q = sym (laws.matches_eq-law (key_of e) q)
+tested e q = sym (laws.matches_eq-law (key_of e) q) ∙ both_ways (pointwise nat_eq e.change.key q.key) (pointwise nat_eq e.change.caller q.caller)
 
 abbrev more : Bool → Entry → Option Entry → Option Entry
 more b e None = cond b (Some e) None

@@ -43,11 +43,11 @@ impl Model for Receipts {
 
 /// What the entry is found by.
 fn key_of(entry: &Entry) -> ReceiptKey
-    ensures { result ≡ record { caller = entry.now.change.caller; key = entry.now.change.key } }
+    ensures { result ≡ record { key = entry.now.change.key; caller = entry.now.change.caller } }
 {
     ReceiptKey {
-        caller: entry.change.caller,
         key: entry.change.key,
+        caller: entry.change.caller,
     }
 }
 
@@ -129,7 +129,7 @@ impl Receipts {
     pub fn find(&self, caller: Word, key: Word) -> Option<&Entry>
         ensures { option_copied result ≡ entry_of caller key self.now }
     {
-        match self.places.get(&ReceiptKey { caller, key }) {
+        match self.places.get(&ReceiptKey { key, caller }) {
             Some(&place) => self.entries.get(place),
             None => None,
         }

@@ -27,10 +27,10 @@ fn narrow(coordinate: i64) -> i32
 }
 
 /// Whether the coordinate lies from `low` to `high`. It takes no branch, which most points would have the processor guess wrong.
-fn is_between(low: i32, coordinate: i64, high: i32) -> bool
+fn is_between(low: i32, coordinate: i32, high: i32) -> bool
     ensures { result ≡ int_le low coordinate && int_le coordinate high }
 {
-    (low as i64 <= coordinate) & (coordinate <= high as i64)
+    (low <= coordinate) & (coordinate <= high)
 }
 
 impl Bounds {
@@ -53,6 +53,7 @@ impl Bounds {
     pub(crate) fn has(&self, point: &Point) -> bool
         ensures { result ≡ has_point (box_of self.now) point.now }
     {
-        is_between(self.x0, point.x, self.x1) & is_between(self.y0, point.y, self.y1)
+        is_between(self.x0, narrow(point.x), self.x1)
+            & is_between(self.y0, narrow(point.y), self.y1)
     }
 }
