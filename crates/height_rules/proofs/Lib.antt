@@ -1,3 +1,4 @@
 pub mod HeightFacts
+pub mod RootFacts
 pub mod NearFacts
 pub mod AreaFacts

@@ -1,13 +1,13 @@
 -- The limit near an airport: its lowest level, and its excess as the tests compute it.
-use Rattle.std.proofs.Common.{◌≡◌, ℕ, ℤ, pos, ◌-ℤ◌, ◌*ℤ◌, ◌*◌, ◌≤ℤ◌, ◌<◌, ◌≤◌, ◌^◌, arith, refl, sym, Option, Bool, true, false, cond, inl, inr}
-use Rattle.std.specs.Prelude.{int_lt, IfSome}
+use Rattle.std.proofs.Common.{◌≡◌, ℕ, ℤ, pos, ◌-ℤ◌, ◌*ℤ◌, ◌*◌, ◌≤ℤ◌, ◌<ℤ◌, ◌<◌, ◌≤◌, ◌^◌, arith, refl, sym, subst, Option, Bool, true, false, cond, inl, inr}
+use Rattle.std.specs.Prelude.{⊤, int_lt, IfSome}
 use Rattle.std.specs.Bool.{MatchBool}
 use Rattle.std.specs.Int.{int_max}
 use Rattle.std.specs.List.{list_any}
 use Rattle.std.proofs.lemmas.Bool.{cases_Bool, leb-false}
 use Rattle.std.proofs.lemmas.Int.{ints, by_lt_z}
-use Rattle.grid_exact.specs.Root.{signed_square, AtLeastRoot}
-use Rattle.grid_exact.specs.Excess.{IsExcess, is_at_least_root, most_excess}
+use Rattle.grid_exact.specs.Root.{signed_square, AboveRoot, AtLeastRoot}
+use Rattle.grid_exact.specs.Excess.{IsExcess, covering, flat_surface, is_at_least_root, most_excess}
 use Rattle.grid_exact.proofs.IntLaws.{signed_square_le}
 use Rattle.grid_exact.proofs.ExcessLemmas.{Tests, excess_of-IsExcess, excess_of-is, within_most}
 use Rattle.grid_exact.proofs.TestFacts.{above_in, above_out, all_true, at_least_in, at_least_out, first_true, le_in, le_out, lt_in, lt_out, second_true, third_true}
@@ -18,16 +18,16 @@ use Rattle.airfields.specs.declared.airfield.Airport.{Airport}
 use Rattle.height_rules.specs.Heights.{standards_top}
 use Rattle.height_rules.specs.Limits.{IsAtLimit, IsAboveLimit, inner_limit, is_inner, reach_of}
 use Rattle.height_rules.specs.declared.limit.TheConstants.{INNER_RADIUS, NAUTICAL_MILE, RISE_PER_MILE}
-use Rattle.height_rules.specs.declared.near_airport.TheConstants.{OUTER_HUNDREDTHS}
+use Rattle.height_rules.specs.declared.near_airport.TheConstants.{OUTER_HUNDREDTHS, OUTER_SQUARE}
 use Rattle.height_rules.proofs.HeightFacts.{IsTop, standards_is_top}
-use Rattle.height_rules.specs.Laws.{above_reaches, limit_rises}
+use Rattle.height_rules.specs.Laws.{above_reaches, reach_rises}
 use Rattle.height_rules.specs.NearAirport.{IsNear, near_surface, near_excess, is_near, is_at_limit, is_above_limit, square_distance, base_of}
 
 -- beyond three nautical miles no level less than 200 feet over the base is at the limit
-far_of : (d2 : ℕ) → is_inner d2 ≡ false → INNER_RADIUS * INNER_RADIUS < d2
+pub far_of : (d2 : ℕ) → is_inner d2 ≡ false → INNER_RADIUS * INNER_RADIUS < d2
 far_of d2 e = leb-false d2 (INNER_RADIUS * INNER_RADIUS) e
 
-floor_beyond : (d2 : ℕ) (base z : ℤ) → INNER_RADIUS * INNER_RADIUS < d2 → AtLeastRoot (reach_of base z) RISE_PER_MILE d2 → inner_limit base ≤ℤ z
+pub floor_beyond : (d2 : ℕ) (base z : ℤ) → INNER_RADIUS * INNER_RADIUS < d2 → AtLeastRoot (reach_of base z) RISE_PER_MILE d2 → inner_limit base ≤ℤ z
 floor_beyond d2 base z far k =
     by_lt_z z (inner_limit base)
     (λ l. absurd (let m : signed_square (reach_of base z) ≤ℤ signed_square (RISE_PER_MILE *ℤ pos INNER_RADIUS) = signed_square_le (reach_of base z) (RISE_PER_MILE *ℤ pos INNER_RADIUS) (omega (arith, ints)) in
@@ -42,13 +42,40 @@ floor_of d2 base z =
       | false ↦ λ e k. floor_beyond d2 base z (far_of d2 e) k
     ] refl
 
--- a top that is not above the base is not above the limit
-pub low_top : (d2 : ℕ) (base z : ℤ) → z ≤ℤ base → IsAboveLimit d2 base z → ⊥
-low_top d2 base z low h = let k = floor_of d2 base z (above_reaches d2 base z h) in omega (arith, ints, k, low)
+-- no level up to 200 feet over the base is above the limit
+not_over_beyond : (d2 : ℕ) (base z : ℤ) → INNER_RADIUS * INNER_RADIUS < d2 → z ≤ℤ inner_limit base → AboveRoot (reach_of base z) RISE_PER_MILE d2 → ⊥
+not_over_beyond d2 base z far l k =
+    let m : signed_square (reach_of base z) ≤ℤ signed_square (RISE_PER_MILE *ℤ pos INNER_RADIUS) = signed_square_le (reach_of base z) (RISE_PER_MILE *ℤ pos INNER_RADIUS) (omega (arith, ints)) in
+    omega (arith, ints, k.above, m, far)
 
--- where a level is not at the limit, none up to it is
-pub none_under : (d2 : ℕ) (base g z : ℤ) → (IsAtLimit d2 base (g -ℤ pos 1) → ⊥) → IsAtLimit d2 base z → g ≤ℤ z
-none_under d2 base g z missed h = by_lt_z (g -ℤ pos 1) z (λ l. omega (arith, ints, l)) (λ l. absurd (missed (limit_rises d2 base z (g -ℤ pos 1) l h)))
+pub not_over : (d2 : ℕ) (base z : ℤ) → z ≤ℤ inner_limit base → IsAboveLimit d2 base z → ⊥
+not_over d2 base z l =
+    elim (is_inner d2) as (λ b. is_inner d2 ≡ b → MatchBool b (inner_limit base <ℤ z) (AboveRoot (reach_of base z) RISE_PER_MILE d2) → ⊥) [
+      | true ↦ λ e k. omega (arith, ints, l, k)
+      | false ↦ λ e k. not_over_beyond d2 base z (far_of d2 e) l k
+    ] refl
+
+-- where a level does not reach the rising limit, none up to it does
+pub none_under : (d2 : ℕ) (base g z : ℤ) → (AtLeastRoot (reach_of base (g -ℤ pos 1)) RISE_PER_MILE d2 → ⊥) → AtLeastRoot (reach_of base z) RISE_PER_MILE d2 → g ≤ℤ z
+none_under d2 base g z missed h = by_lt_z (g -ℤ pos 1) z (λ l. omega (arith, ints, l)) (λ l. absurd (missed (reach_rises d2 base z (g -ℤ pos 1) l h)))
+
+-- the excess over the limit is that over its level part within three nautical miles, and that over its rising part farther away
+pub inner_excess : (d2 : ℕ) (base top : ℤ) (r : Option ℕ) → is_inner d2 ≡ true → IsExcess (flat_surface ⊤ (inner_limit base)) top r → IsExcess (covering (IsAboveLimit d2 base) (IsAtLimit d2 base)) top r
+inner_excess d2 base top r e h =
+    subst (λ (b : Bool). IsExcess (covering (λ z. MatchBool b (inner_limit base <ℤ z) (AboveRoot (reach_of base z) RISE_PER_MILE d2)) (λ z. MatchBool b (inner_limit base ≤ℤ z) (AtLeastRoot (reach_of base z) RISE_PER_MILE d2))) top r) (sym e) h
+
+pub outer_excess : (d2 : ℕ) (base top : ℤ) (r : Option ℕ) → is_inner d2 ≡ false → IsExcess (covering (λ z. AboveRoot (reach_of base z) RISE_PER_MILE d2) (λ z. AtLeastRoot (reach_of base z) RISE_PER_MILE d2)) top r → IsExcess (covering (IsAboveLimit d2 base) (IsAtLimit d2 base)) top r
+outer_excess d2 base top r e h =
+    subst (λ (b : Bool). IsExcess (covering (λ z. MatchBool b (inner_limit base <ℤ z) (AboveRoot (reach_of base z) RISE_PER_MILE d2)) (λ z. MatchBool b (inner_limit base ≤ℤ z) (AtLeastRoot (reach_of base z) RISE_PER_MILE d2))) top r) (sym e) h
+
+-- within 5.99 nautical miles by the square of the distance
+pub outer_in : (d2 : ℕ) → d2 ≤ OUTER_SQUARE → AtLeastRoot (OUTER_HUNDREDTHS *ℤ NAUTICAL_MILE) (pos 100) d2
+outer_in d2 h = record { at_least = omega (arith, ints, h) }
+
+pub outer_out : (d2 : ℕ) → AtLeastRoot (OUTER_HUNDREDTHS *ℤ NAUTICAL_MILE) (pos 100) d2 → d2 ≤ OUTER_SQUARE
+outer_out d2 h = omega (arith, ints, h.at_least)
+
+pub ruleset outer = (outer_in, outer_out)
 
 max_left : (x y : ℤ) → x ≤ℤ int_max x y
 max_left x y = elim (cases_Bool (int_lt y x)) [ inl t ↦ rw t (omega (arith, ints)) | inr t ↦ rw t (grind (arith, ints)) ]

@@ -1,10 +1,12 @@
 //! The limit near an airport, over one point.
 
-ghost use Rattle.std.specs.Prelude.{◌≡◌, ◌<◌, ◌≤◌, ◌^◌, ℤ, ◌≤ℤ◌, unsigned_abs};
+ghost use Rattle.std.specs.Prelude.{◌≡◌, ◌↔◌, ◌<◌, ◌≤◌, ◌*◌, ◌^◌, ℤ, pos, ◌*ℤ◌, ◌≤ℤ◌, ◌<ℤ◌, unsigned_abs, IsTrue};
 ghost use Rattle.grid_exact.specs.Level.{IsLevel};
-ghost use Rattle.height_rules.specs.Limits.{IsLow, IsAtLimit, IsAboveLimit, is_inner, reach_of};
+ghost use Rattle.grid_exact.specs.Root.{AtLeastRoot, AboveRoot};
+ghost use Rattle.height_rules.specs.Limits.{IsLow, is_inner, reach_of};
+ghost use Rattle.height_rules.specs.declared.limit.TheConstants.{INNER_RADIUS};
 
-use grid_exact::{Rising, Sloping, is_above_root, is_at_least_root};
+use grid_exact::{Rising, Sloping};
 
 /// A nautical mile, in tenths of a foot.
 pub const NAUTICAL_MILE: i64 = 60_761;
@@ -18,20 +20,37 @@ pub const INNER_HEIGHT: i64 = 2_000;
 /// How much higher it is for each further nautical mile, in tenths of a foot: 100 feet, 77.17(a)(2).
 pub const RISE_PER_MILE: i64 = 1_000;
 
-/// The limit of 77.17(a)(2) over a point at this square of the distance from the airport's reference point.
+/// The limit of 77.17(a)(2) over a point farther than three nautical miles from the airport's reference point, by the square of
+/// that distance. It rises there; nearer it is level, and nothing has to be worked out.
 #[derive(Clone, Copy)]
 pub(crate) struct NearLimit {
     pub(crate) base: i64,
-    pub(crate) square_distance: u128,
+    pub(crate) square_distance: u64,
     ghost low: { IsLow base },
-    ghost short: { square_distance ≤ 2 ^ 55 },
+    ghost short: { square_distance ≤ 2 ^ 40 },
+    ghost far: { INNER_RADIUS * INNER_RADIUS < square_distance },
+}
+
+/// Whether a point at this square of the distance is within three nautical miles.
+pub(crate) fn is_inside(square_distance: u64) -> bool
+    ensures { result ≡ is_inner square_distance }
+{
+    square_distance <= INNER_RADIUS * INNER_RADIUS
+}
+
+/// The square of a number of 64 bits, in one product.
+fn squared(number: u64) -> u128
+    ensures value { result ≡ number * number }
+{
+    number as u128 * number as u128
 }
 
 impl NearLimit {
     /// The limit over the higher of ground and airport, at this square of the distance.
-    pub(crate) fn new(base: i64, square_distance: u128) -> NearLimit
+    pub(crate) fn new(base: i64, square_distance: u64) -> NearLimit
         requires low { IsLow base }
-        requires short { square_distance ≤ 2 ^ 55 }
+        requires short { square_distance ≤ 2 ^ 40 }
+        requires far { INNER_RADIUS * INNER_RADIUS < square_distance }
         ensures base { result.base ≡ base }
         ensures square_distance { result.square_distance ≡ square_distance }
     {
@@ -42,19 +61,12 @@ impl NearLimit {
     }
 
     /// The lowest level that it has anywhere.
-    #[tactic(auto, using(crate::proofs::NearFacts::floor_of))]
+    #[tactic(auto, using(crate::proofs::NearFacts::floor_beyond))]
     pub(crate) fn lowest(&self) -> i64
         ensures level { IsLevel result }
-        ensures lowest { (z : ℤ) → IsAtLimit self.now.square_distance self.now.base z → result ≤ℤ z }
+        ensures lowest { (z : ℤ) → AtLeastRoot (reach_of self.now.base z) RISE_PER_MILE self.now.square_distance → result ≤ℤ z }
     {
         self.base + INNER_HEIGHT
-    }
-
-    /// Whether the point is within three nautical miles.
-    fn is_inside(&self) -> bool
-        ensures { result ≡ is_inner self.now.square_distance }
-    {
-        self.square_distance <= (INNER_RADIUS * INNER_RADIUS) as u128
     }
 
     /// The level over the base, brought to a distance, times the rise for each nautical mile.
@@ -65,42 +77,47 @@ impl NearLimit {
     {
         NAUTICAL_MILE * (level - (self.base + INNER_HEIGHT)) + RISE_PER_MILE * INNER_RADIUS as i64
     }
+
+    /// The square of the distance, times that of the rise for each nautical mile: what the square of a reach is compared with.
+    fn square_reach(&self) -> u128
+        ensures { result ≡ unsigned_abs RISE_PER_MILE * unsigned_abs RISE_PER_MILE * self.now.square_distance }
+    {
+        ((RISE_PER_MILE * RISE_PER_MILE) as u64 * self.square_distance) as u128
+    }
 }
 
 impl Rising for NearLimit {
-    ghost use Rattle.height_rules.specs.Laws.{limit_rises};
+    ghost use Rattle.height_rules.specs.Laws.{reach_rises};
+    ghost use Rattle.height_rules.specs.declared.limit.TheConstants.{RISE_PER_MILE};
 
-    ghost reaches = { λ l z. IsAtLimit l.square_distance l.base z };
+    ghost reaches = { λ l z. AtLeastRoot (reach_of l.base z) RISE_PER_MILE l.square_distance };
 
+    #[tactic(auto, using(crate::proofs::RootFacts::roots))]
     fn is_reached(&self, level: i64) -> bool {
-        if self.is_inside() {
-            return self.base + INNER_HEIGHT <= level;
+        let reach = self.reach(level);
+        if reach < 0 {
+            return false;
         }
-        is_at_least_root(
-            self.reach(level) as i128,
-            RISE_PER_MILE as i128,
-            self.square_distance,
-        )
+        self.square_reach() <= squared(reach as u64)
     }
 
-    ghost rises = { λ l y z h k. limit_rises l.square_distance l.base y z h k };
+    ghost rises = { λ l y z h k. reach_rises l.square_distance l.base y z h k };
 }
 
 impl Sloping for NearLimit {
-    ghost use Rattle.height_rules.specs.Laws.{above_reaches};
+    ghost use Rattle.height_rules.specs.Laws.{reach_above};
+    ghost use Rattle.height_rules.specs.declared.limit.TheConstants.{RISE_PER_MILE};
 
-    ghost exceeds = { λ l z. IsAboveLimit l.square_distance l.base z };
+    ghost exceeds = { λ l z. AboveRoot (reach_of l.base z) RISE_PER_MILE l.square_distance };
 
+    #[tactic(auto, using(crate::proofs::RootFacts::roots))]
     fn is_exceeded(&self, level: i64) -> bool {
-        if self.is_inside() {
-            return self.base + INNER_HEIGHT < level;
+        let reach = self.reach(level);
+        if reach < 0 {
+            return false;
         }
-        is_above_root(
-            self.reach(level) as i128,
-            RISE_PER_MILE as i128,
-            self.square_distance,
-        )
+        self.square_reach() < squared(reach as u64)
     }
 
-    ghost exceeds_reaches = { λ l z h. above_reaches l.square_distance l.base z h };
+    ghost exceeds_reaches = { λ l z h. reach_above (reach_of l.base z) l.square_distance h };
 }

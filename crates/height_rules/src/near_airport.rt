@@ -1,84 +1,94 @@
 //! Heights near an airport's reference point.
 
-ghost use Rattle.std.specs.Prelude.{◌≡◌, ◌↔◌, ◌≤◌, ◌^◌, ◌<ℤ◌, ◌*ℤ◌, pos, IsTrue, IfSome};
-ghost use Rattle.grid_exact.specs.Excess.{IsExcess};
+ghost use Rattle.std.specs.Prelude.{◌≡◌, ◌↔◌, ◌*◌, ◌≤◌, ◌^◌, ◌≤ℤ◌, ◌*ℤ◌, pos, IsTrue, IfSome};
+ghost use Rattle.grid_exact.specs.Excess.{IsExcess, covering};
 ghost use Rattle.grid_exact.specs.Level.{IsLevel};
 ghost use Rattle.grid_exact.specs.Root.{AtLeastRoot};
+ghost use Rattle.airfields.specs.declared.limits.TheConstants.{ELEVATION_LEAST};
 ghost use Rattle.height_rules.specs.Heights.{standards_top};
-ghost use Rattle.height_rules.specs.NearAirport.{IsNear, near_surface, near_excess, square_distance as square_distance_of, base_of};
-ghost use Rattle.height_rules.specs.Limits.{IsLow};
+ghost use Rattle.height_rules.specs.NearAirport.{near_surface, near_excess, square_distance as square_distance_of, base_of};
+ghost use Rattle.height_rules.specs.Limits.{IsAboveLimit, IsAtLimit, IsLow};
 ghost use Rattle.height_rules.specs.NearAreas.{HasLimit};
 
 use crate::area::has_limit;
-use crate::heights::{TOP_MOST, top_for_standards};
-use crate::limit::{NAUTICAL_MILE, NearLimit};
+use crate::heights::top_for_standards;
+use crate::limit::{INNER_HEIGHT, NAUTICAL_MILE, NearLimit, is_inside};
 use airfields::{Airport, Filing};
-use grid_exact::{Vector, is_at_least_root};
+use grid_exact::{Vector, flat_excess};
 
 /// The limit goes out to 5.99 nautical miles, 77.17(a)(2): so many hundredths of one.
 pub const OUTER_HUNDREDTHS: i64 = 599;
 
+/// The square of the greatest distance in whole tenths of a foot at which the limit is asked, rounded down.
+const OUTER_SQUARE: u64 = (OUTER_HUNDREDTHS * NAUTICAL_MILE * (OUTER_HUNDREDTHS * NAUTICAL_MILE)
+    / 10_000) as u64;
+
+/// The square of a number that is not too large.
+fn squared(number: u64) -> u64
+    requires { number ≤ 2 ^ 27 }
+    ensures value { result ≡ number * number }
+    ensures size { result ≤ 2 ^ 54 }
+{
+    number * number
+}
+
 /// The square of the distance between the structure and the airport's reference point.
-fn square_distance(airport: &Airport, filing: &Filing) -> u128
+fn square_distance(airport: &Airport, filing: &Filing) -> u64
     ensures value { result ≡ square_distance_of airport.now filing.now }
     ensures size { result ≤ 2 ^ 55 }
 {
-    Vector::between(&airport.arp, &filing.at).square_length()
+    let way = Vector::between(&airport.arp, &filing.at);
+    squared(way.x.unsigned_abs()) + squared(way.y.unsigned_abs())
 }
 
-/// Whether the structure is at most 5.99 nautical miles from the airport's reference point.
-fn is_within(airport: &Airport, filing: &Filing) -> bool
-    ensures { IsTrue result ↔ AtLeastRoot (OUTER_HUNDREDTHS *ℤ NAUTICAL_MILE) (pos 100) (square_distance_of airport.now filing.now) }
+/// Whether a point at this square of the distance is at most 5.99 nautical miles from the airport's reference point.
+#[tactic(auto, using(crate::proofs::NearFacts::outer))]
+fn is_within(square_distance: u64) -> bool
+    ensures reach { IsTrue result ↔ AtLeastRoot (OUTER_HUNDREDTHS *ℤ NAUTICAL_MILE) (pos 100) square_distance }
+    ensures size { IsTrue result → square_distance ≤ 2 ^ 40 }
 {
-    let outer = OUTER_HUNDREDTHS * NAUTICAL_MILE;
-    is_at_least_root(outer as i128, 100, square_distance(airport, filing))
-}
-
-/// Whether the limit is asked of this airport and structure, where it is of some structures near the airport.
-fn is_near(airport: &Airport, filing: &Filing) -> bool
-    requires limit { HasLimit airport.now }
-    ensures { IsTrue result ↔ IsNear airport.now filing.now }
-{
-    is_within(airport, filing)
+    square_distance <= OUTER_SQUARE
 }
 
 /// The higher of the ground at the site and the airport.
 fn base(airport: &Airport, filing: &Filing) -> i64
-    requires { airport.now.elevation <ℤ TOP_MOST }
     ensures value { result ≡ base_of airport.now filing.now }
-    ensures low { IsLow result }
+    ensures least { ELEVATION_LEAST ≤ℤ result }
 {
     filing.ground.max(airport.elevation)
 }
 
-/// The limit over the site of the structure.
-fn limit(airport: &Airport, filing: &Filing) -> NearLimit
-    requires { airport.now.elevation <ℤ TOP_MOST }
-    ensures base { result.base ≡ base_of airport.now filing.now }
-    ensures square_distance { result.square_distance ≡ square_distance_of airport.now filing.now }
+/// How far `top` is above the limit over a point at this square of the distance.
+fn excess_at(base: i64, square_distance: u64, top: i64) -> Option<u32>
+    requires low { IsLow base }
+    requires short { square_distance ≤ 2 ^ 40 }
+    requires top { IsLevel top }
+    ensures exact { IsExcess (covering (IsAboveLimit square_distance base) (IsAtLimit square_distance base)) top result }
+    ensures size { IfSome result (λ e. e ≤ 2 ^ 26) }
 {
-    NearLimit::new(base(airport, filing), square_distance(airport, filing))
+    if is_inside(square_distance) {
+        return flat_excess(base + INNER_HEIGHT, top);
+    }
+    NearLimit::new(base, square_distance).excess(top)
 }
 
-/// How far the structure is above the limit. An airport as high as the top has its limit above the top; it is left out first, since
-/// nothing else here bounds its elevation. A top under the lowest level of the limit is left out before any product is made.
+/// How far the structure is above the limit. A top that is not above the lowest level of the limit is left out before any distance
+/// is worked out; that also leaves out each airport whose elevation nothing else here bounds.
 fn excess_over_limit(airport: &Airport, filing: &Filing) -> Option<u32>
     requires limit { HasLimit airport.now }
     ensures exact { IsExcess (near_surface airport.now filing.now) (standards_top filing.now) result }
     ensures size { IfSome result (λ e. e ≤ 2 ^ 26) }
 {
     let top = top_for_standards(filing);
-    if airport.elevation >= top {
+    let base = base(airport, filing);
+    if top - INNER_HEIGHT <= base {
         return None;
     }
-    let limit = limit(airport, filing);
-    if top < limit.lowest() {
+    let square = square_distance(airport, filing);
+    if !is_within(square) {
         return None;
     }
-    if !is_near(airport, filing) {
-        return None;
-    }
-    limit.excess(top)
+    excess_at(base, square, top)
 }
 
 /// How far the structure is above the limit of 77.17(a)(2) of this airport, of which it is known that it has one: neither its category

@@ -1,13 +1,14 @@
-//! The least level that reaches the limit near an airport, looked for near a guess first.
+//! The least level that reaches the rising limit near an airport: a guess, where that is right.
 
-ghost use Rattle.std.specs.Prelude.{ℤ, pos, ◌≤◌, ◌^◌, ◌≤ℤ◌, IfSome};
+ghost use Rattle.std.specs.Prelude.{ℤ, pos, ◌↔◌, ◌≤◌, ◌^◌, ◌≤ℤ◌, IfSome, IsTrue};
 ghost use Rattle.grid_exact.specs.Excess.{IsExcess, covering};
 ghost use Rattle.grid_exact.specs.Level.{IsLevel};
-ghost use Rattle.height_rules.specs.Limits.{IsAboveLimit, IsAtLimit};
+ghost use Rattle.grid_exact.specs.Root.{AtLeastRoot, AboveRoot};
+ghost use Rattle.height_rules.specs.Limits.{reach_of};
 
 use crate::limit::{INNER_RADIUS, NAUTICAL_MILE, NearLimit, RISE_PER_MILE};
 use grid_exact::{Rising, Sloping, least_reached};
-use std::num::{nearest_i64_to_f64, nearest_u64_to_f64, saturating_f64_to_u32};
+use std::num::{nearest_i64_to_f64, saturating_f64_to_u32};
 
 impl NearLimit {
     /// About how far above its lowest level it is, rounded down, and one more.
@@ -15,10 +16,10 @@ impl NearLimit {
         ensures least { pos 0 ≤ℤ result }
         ensures most { result ≤ℤ pos (2 ^ 50) }
     {
-        let distance = nearest_u64_to_f64(self.square_distance as u64).sqrt();
-        let miles = (distance - nearest_u64_to_f64(INNER_RADIUS))
-            / nearest_i64_to_f64(NAUTICAL_MILE);
-        i64::from(saturating_f64_to_u32(miles * nearest_i64_to_f64(RISE_PER_MILE))) + 1
+        let distance = nearest_i64_to_f64(self.square_distance as i64).sqrt();
+        let rise = nearest_i64_to_f64(RISE_PER_MILE) / nearest_i64_to_f64(NAUTICAL_MILE);
+        let further = distance - nearest_i64_to_f64(INNER_RADIUS as i64);
+        i64::from(saturating_f64_to_u32(further * rise)) + 1
     }
 
     /// About the least level that reaches it, and none above `top`.
@@ -30,48 +31,37 @@ impl NearLimit {
         if guess < top { guess } else { top }
     }
 
-    /// A level that reaches it: the guess, where it does, and else `top`.
-    fn reached_level(&self, guess: i64, top: i64) -> i64
-        requires guess { IsLevel guess }
-        requires top { IsLevel top }
-        requires reached { IsAtLimit self.now.square_distance self.now.base top }
-        ensures level { IsLevel result }
-        ensures reached { IsAtLimit self.now.square_distance self.now.base result }
+    /// Whether the level is the least that reaches it.
+    fn is_least(&self, level: i64) -> bool
+        requires level { IsLevel level }
+        ensures reached { IsTrue result → AtLeastRoot (reach_of self.now.base level) RISE_PER_MILE self.now.square_distance }
+        ensures least { IsTrue result → (z : ℤ) → AtLeastRoot (reach_of self.now.base z) RISE_PER_MILE self.now.square_distance → level ≤ℤ z }
     {
-        if self.is_reached(guess) { guess } else { top }
-    }
-
-    /// A level under which none reaches it: the guess, where none below it does, and else the lowest.
-    fn least_possible(&self, guess: i64) -> i64
-        requires guess { IsLevel guess }
-        ensures level { IsLevel result }
-        ensures lowest { (z : ℤ) → IsAtLimit self.now.square_distance self.now.base z → result ≤ℤ z }
-    {
-        let lowest = self.lowest();
-        if guess <= lowest || self.is_reached(guess - 1) {
-            return lowest;
+        if level <= self.lowest() || self.is_reached(level - 1) {
+            return false;
         }
-        guess
+        self.is_reached(level)
     }
 
-    /// The least level that reaches it, where `top` does.
+    /// The least level that reaches it, where `top` does: the guess, where it is that.
     fn least_level(&self, top: i64) -> i64
         requires top { IsLevel top }
-        requires reached { IsAtLimit self.now.square_distance self.now.base top }
-        ensures reached { IsAtLimit self.now.square_distance self.now.base result }
-        ensures least { (z : ℤ) → IsAtLimit self.now.square_distance self.now.base z → result ≤ℤ z }
+        requires reached { AtLeastRoot (reach_of self.now.base top) RISE_PER_MILE self.now.square_distance }
+        ensures reached { AtLeastRoot (reach_of self.now.base result) RISE_PER_MILE self.now.square_distance }
+        ensures least { (z : ℤ) → AtLeastRoot (reach_of self.now.base z) RISE_PER_MILE self.now.square_distance → result ≤ℤ z }
         ensures level { IsLevel result }
     {
         let guess = self.guess(top);
-        let low = self.least_possible(guess);
-        let high = self.reached_level(guess, top);
-        least_reached(self, low, high)
+        if self.is_least(guess) {
+            return guess;
+        }
+        least_reached(self, self.lowest(), top)
     }
 
     /// How far `top` is above it, rounded down.
     pub(crate) fn excess(&self, top: i64) -> Option<u32>
         requires top { IsLevel top }
-        ensures excess { IsExcess (covering (IsAboveLimit self.now.square_distance self.now.base) (IsAtLimit self.now.square_distance self.now.base)) top result }
+        ensures excess { IsExcess (covering (λ z. AboveRoot (reach_of self.now.base z) RISE_PER_MILE self.now.square_distance) (λ z. AtLeastRoot (reach_of self.now.base z) RISE_PER_MILE self.now.square_distance)) top result }
         ensures size { IfSome result (λ e. e ≤ 2 ^ 26) }
     {
         if !self.is_exceeded(top) {
