@@ -4,3 +4,4 @@ pub mod TransitionFacts
 pub mod ExcessLaws
 pub mod AreaFacts
 pub mod ZoneFacts
+pub mod RootFacts

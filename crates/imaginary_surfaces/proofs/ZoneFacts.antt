@@ -1,5 +1,5 @@
 -- Which surfaces of a runway cover no point before, between or past the ends of its primary surface.
-use Rattle.std.proofs.Common.{◌≡◌, ℕ, ℤ, pos, ◌+ℤ◌, ◌-ℤ◌, ◌*ℤ◌, ◌≤ℤ◌, ◌<ℤ◌, neg_ℤ, arith, None}
+use Rattle.std.proofs.Common.{◌≡◌, ℤ, pos, ◌-ℤ◌, ◌≤ℤ◌, ◌<ℤ◌, neg_ℤ, arith, None}
 use Rattle.std.proofs.lemmas.Int.{ints}
 use Rattle.grid_exact.specs.Level.{IsLevel}
 use Rattle.grid_exact.specs.Lines.{along, square}

@@ -7,8 +7,9 @@ ghost use Rattle.grid_exact.specs.Root.{AtMostRoot};
 ghost use Rattle.imaginary_surfaces.specs.Approaches.{IsApproach, IsRise};
 
 use crate::measures::{HALF_WIDTH_SCALE, SECOND_SLOPE_DROP};
+use crate::roots::{is_above_root, is_at_most_root, short};
 use crate::search::excess_over;
-use grid_exact::{Axis, Offset, Slope, is_above_root, is_at_most_root, minus, product, scale};
+use grid_exact::{Axis, Offset, Slope, minus, product, scale};
 use runway_classes::{EndClass, WIDENING_SCALE};
 
 /// The approach surface of an end, 77.19(d): it begins at the end of the primary surface with that one's width, and goes outward
@@ -42,7 +43,7 @@ impl ApproachSurface {
     pub(crate) fn is_ahead(&self, at: &Offset) -> bool
         ensures { IsTrue result ↔ (pos 0 <ℤ at.now.along) }
     {
-        0 < at.along()
+        0 < short(at.along())
     }
 
     /// Whether a point is not past its outer end.
@@ -50,7 +51,7 @@ impl ApproachSurface {
     pub(crate) fn is_not_past(&self, at: &Offset) -> bool
         ensures { IsTrue result ↔ AtMostRoot at.now.along self.now.class.length at.now.square }
     {
-        is_at_most_root(at.along(), self.class.length as i128, at.square())
+        is_at_most_root(at.along(), self.class.length, at.square())
     }
 
     /// How far a point is to a side less what the half width has grown, in fortieths, times the vector's length.
@@ -65,11 +66,11 @@ impl ApproachSurface {
     }
 
     /// Half the width at the end of the primary surface, in fortieths.
-    pub(crate) fn half_width(&self) -> i128
+    pub(crate) fn half_width(&self) -> i64
         ensures value { result ≡ HALF_WIDTH_SCALE *ℤ self.now.width }
         ensures size { unsigned_abs result ≤ 2 ^ 18 }
     {
-        product(HALF_WIDTH_SCALE, self.width)
+        HALF_WIDTH_SCALE * self.width
     }
 
     /// Whether a point is within the half width there.
@@ -99,7 +100,7 @@ impl ApproachSurface {
     fn is_past_split(&self, at: &Offset) -> bool
         ensures { result ≡ is_past_split_of (approach_shape self.now) at.now }
     {
-        is_above_root(at.along(), self.class.split as i128, at.square())
+        is_above_root(at.along(), self.class.split, at.square())
     }
 
     /// The slope over a point.

@@ -9,11 +9,10 @@ ghost use Rattle.imaginary_surfaces.specs.Primaries.{IsWidth};
 
 use crate::approach::{ApproachSurface, Rise};
 use crate::measures::{APPROACH_FACTOR, HALF_WIDTH_SCALE, SCALED_REACH};
+use crate::roots::{is_at_least_root, is_at_most_root};
 use crate::search::excess_over;
 use crate::slope_end::excess_up_to;
-use grid_exact::{
-    Cap, Offset, Slope, is_at_least_root, is_at_most_root, minus, plus, product, scale,
-};
+use grid_exact::{Cap, Offset, Slope, minus, plus, product, scale};
 
 /// How far a top is above the approach surface of an end, and above the transitional surface beside it.
 #[derive(Clone, Copy)]
@@ -69,12 +68,11 @@ impl ApproachSurface {
     }
 
     /// Half the width at the end of the primary surface and the 5,000 feet that it may extend, in fortieths.
-    #[tactic(auto, using(grid_exact::proofs::Sizes::casts))]
-    fn far_side(&self) -> i128
+    fn far_side(&self) -> i64
         ensures value { result ≡ HALF_WIDTH_SCALE *ℤ self.now.width +ℤ SCALED_REACH }
         ensures size { unsigned_abs result ≤ 2 ^ 22 }
     {
-        plus(self.half_width(), SCALED_REACH as i128)
+        self.half_width() + SCALED_REACH
     }
 
     /// Whether a point is at most 5,000 feet from the edge of the approach surface.

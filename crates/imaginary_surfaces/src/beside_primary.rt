@@ -7,8 +7,9 @@ ghost use Rattle.grid_exact.specs.Root.{AtLeastRoot};
 
 use crate::measures::PRIMARY_FACTOR;
 use crate::primary::PrimarySurface;
+use crate::roots::is_at_least_root;
 use crate::slope_end::excess_up_to;
-use grid_exact::{Cap, Offset, Point, Slope, is_at_least_root, minus, product};
+use grid_exact::{Cap, Offset, Point, Slope, minus, product};
 
 impl PrimarySurface {
     ghost use Rattle.imaginary_surfaces.specs.Shapes.{primary_shape};
@@ -18,7 +19,7 @@ impl PrimarySurface {
     fn is_from_side(&self, at: &Offset) -> bool
         ensures { IsTrue result ↔ AtLeastRoot (pos (2 * at.now.aside)) self.now.width at.now.square }
     {
-        is_at_least_root(self.twice_aside(at), self.width as i128, at.square())
+        is_at_least_root(self.twice_aside(at), self.width, at.square())
     }
 
     /// Whether the transitional surface reaches a point.

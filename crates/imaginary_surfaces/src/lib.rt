@@ -11,6 +11,7 @@ mod laws;
 mod measures;
 mod prepare;
 mod primary;
+mod roots;
 mod search;
 mod skips;
 mod slope_end;

@@ -6,7 +6,8 @@ ghost use Rattle.grid_exact.specs.Level.{IsLevel};
 ghost use Rattle.grid_exact.specs.Root.{AtMostRoot};
 ghost use Rattle.imaginary_surfaces.specs.Primaries.{IsWidth};
 
-use grid_exact::{Axis, Offset, Point, flat_excess, is_at_most_root, scale};
+use crate::roots::{is_at_most_root, short};
+use grid_exact::{Axis, Offset, Point, flat_excess, scale};
 use runway_lines::Centerline;
 
 /// The primary surface of a runway, 77.19(c): a strip about the line between its two ends, at the elevation of the nearest point
@@ -27,14 +28,14 @@ impl PrimarySurface {
     pub(crate) fn is_past_start(&self, at: &Offset) -> bool
         ensures { IsTrue result ↔ (pos 0 ≤ℤ at.now.along) }
     {
-        0 <= at.along()
+        0 <= short(at.along())
     }
 
     /// Whether a point is not past the second end.
     pub(crate) fn is_before_end(&self, at: &Offset) -> bool
         ensures { IsTrue result ↔ (at.now.along ≤ℤ pos at.now.square) }
     {
-        at.along() <= at.square() as i128
+        short(at.along()) <= at.square() as i64
     }
 
     /// Twice how far a point is to a side of the line, times the vector's length.
@@ -49,7 +50,7 @@ impl PrimarySurface {
     fn is_not_beside(&self, at: &Offset) -> bool
         ensures { IsTrue result ↔ AtMostRoot (pos (2 * at.now.aside)) self.now.width at.now.square }
     {
-        is_at_most_root(self.twice_aside(at), self.width as i128, at.square())
+        is_at_most_root(self.twice_aside(at), self.width, at.square())
     }
 
     /// Whether it covers a point.

@@ -16,7 +16,7 @@ use crate::prepare::{approach, primary};
 use crate::primary::PrimarySurface;
 use airfields::Runway;
 use grid_exact::{Cap, Offset, Point};
-use runway_lines::End;
+use runway_lines::{End, center};
 use std::marker::Model;
 
 /// The imaginary surfaces of a runway, prepared for many points; seen as the runway.
@@ -45,11 +45,13 @@ impl Strip {
         requires proper { IsProper runway.now }
         ensures runway { result ≡ runway.now }
     {
+        let one = center(runway, End::One);
+        let two = center(runway, End::Two);
         Strip {
             runway: *runway,
-            primary: primary(runway),
-            approach1: approach(runway, End::One),
-            approach2: approach(runway, End::Two),
+            primary: primary(runway, &one, &two),
+            approach1: approach(runway, End::One, &one, &two),
+            approach2: approach(runway, End::Two, &two, &one),
         }
     }
 

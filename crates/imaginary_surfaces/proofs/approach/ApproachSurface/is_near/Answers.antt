@@ -1,4 +1,4 @@
-use Rattle.std.proofs.Common.{FitsSigned, to_z-of_z, arith}
+use Rattle.std.proofs.Common.{FitsSigned, w64, to_z-of_z, arith}
 use Rattle.std.specs.Int.{w128}
 use Rattle.std.proofs.lemmas.Int.{ints}
 use Rattle.imaginary_surfaces.proofs.approach.ApproachSurface.is_near.Goals as goal
@@ -6,5 +6,5 @@ use Rattle.imaginary_surfaces.proofs.approach.ApproachSurface.is_near.Goals as g
 pub returns : goal.returns
 returns c =
     let fo : FitsSigned w128 c.outside.result = omega (arith, ints) in
-    let ff : FitsSigned w128 c.far_side.result = omega (arith, ints) in
+    let ff : FitsSigned w64 c.far_side.result = omega (arith, ints) in
     rw (c.outside.ensures.value, c.far_side.ensures.value, c.square.ensures.value) at (simp to_z-of_z at c.is_at_most_root.ensures)

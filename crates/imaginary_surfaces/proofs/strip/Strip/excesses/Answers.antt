@@ -1,4 +1,4 @@
-use Rattle.std.proofs.Common.{arith, ap, true, false}
+use Rattle.std.proofs.Common.{arith, ap}
 use Rattle.std.proofs.lemmas.Int.{ints, by_lt_z}
 use Rattle.imaginary_surfaces.proofs.strip.Strip.excesses.Goals as goal
 
