@@ -1,6 +1,6 @@
 -- For proofs alone: what the prepared parts of a runway are.
 use Rattle.grid_exact.specs.Axes.{line_of}
-use Rattle.grid_exact.specs.declared.slope.Slope.{Slope}
+use Rattle.imaginary_surfaces.specs.declared.short_slope.ShortSlope.{ShortSlope}
 use Rattle.imaginary_surfaces.specs.Primaries.{Primary}
 use Rattle.imaginary_surfaces.specs.Approaches.{Approach}
 use Rattle.imaginary_surfaces.specs.Transitions.{Incline}
@@ -14,5 +14,5 @@ primary_shape p = record { line = line_of p.axis; width = p.width; profile = pro
 abbrev pub approach_shape : ApproachSurface → Approach
 approach_shape a = record { line = line_of a.axis; width = a.width; class = a.class; z = a.z; precision = a.precision }
 
-abbrev pub incline_of : Slope → Incline
+abbrev pub incline_of : ShortSlope → Incline
 incline_of s = record { left = s.a; factor = s.k; shift = s.c; square = s.n }

@@ -9,7 +9,8 @@ ghost use Rattle.imaginary_surfaces.specs.Approaches.{IsApproach, IsRise};
 use crate::measures::{HALF_WIDTH_SCALE, SECOND_SLOPE_DROP};
 use crate::roots::{is_above_root, is_at_most_root, short};
 use crate::search::excess_over;
-use grid_exact::{Axis, Offset, Slope, minus, product, scale};
+use crate::short_slope::ShortSlope;
+use grid_exact::{Axis, Offset, minus, product, scale};
 use runway_classes::{EndClass, WIDENING_SCALE};
 
 /// The approach surface of an end, 77.19(d): it begins at the end of the primary surface with that one's width, and goes outward
@@ -133,7 +134,7 @@ impl ApproachSurface {
         let rise = self.rise(at);
         let base = product(rise.slope, rise.base);
         excess_over(
-            &Slope::rising(at.along(), rise.slope, base, at.square()),
+            &ShortSlope::rising(at.along(), rise.slope, base, at.square()),
             top,
         )
     }

@@ -11,8 +11,9 @@ use crate::approach::{ApproachSurface, Rise};
 use crate::measures::{APPROACH_FACTOR, HALF_WIDTH_SCALE, SCALED_REACH};
 use crate::roots::{is_at_least_root, is_at_most_root};
 use crate::search::excess_over;
+use crate::short_slope::ShortSlope;
 use crate::slope_end::excess_up_to;
-use grid_exact::{Cap, Offset, Slope, minus, plus, product, scale};
+use grid_exact::{Cap, Offset, minus, plus, product, scale};
 
 /// How far a top is above the approach surface of an end, and above the transitional surface beside it.
 #[derive(Clone, Copy)]
@@ -107,7 +108,7 @@ impl ApproachSurface {
     }
 
     /// The slope of the transitional surface over a point that it reaches.
-    fn slope_beside(&self, at: &Offset) -> Slope
+    fn slope_beside(&self, at: &Offset) -> ShortSlope
         requires reaches { ReachesBesideApproach (approach_shape self.now) at.now }
         ensures left { result.a ≡ (incline_beside_approach (approach_shape self.now) at.now).left }
         ensures factor { result.k ≡ (incline_beside_approach (approach_shape self.now) at.now).factor }
@@ -116,7 +117,7 @@ impl ApproachSurface {
     {
         let rise = self.rise(at);
         let square = at.square(); // first, since the left side is positive only where this is
-        Slope::rising(
+        ShortSlope::rising(
             self.left_beside(at, &rise),
             rise.factor_beside(),
             rise.shift_beside(self.width),

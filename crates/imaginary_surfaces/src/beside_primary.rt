@@ -8,8 +8,9 @@ ghost use Rattle.grid_exact.specs.Root.{AtLeastRoot};
 use crate::measures::PRIMARY_FACTOR;
 use crate::primary::PrimarySurface;
 use crate::roots::is_at_least_root;
+use crate::short_slope::ShortSlope;
 use crate::slope_end::excess_up_to;
-use grid_exact::{Cap, Offset, Point, Slope, minus, product};
+use grid_exact::{Cap, Offset, Point, minus, product};
 
 impl PrimarySurface {
     ghost use Rattle.imaginary_surfaces.specs.Shapes.{primary_shape};
@@ -41,14 +42,14 @@ impl PrimarySurface {
     }
 
     /// The slope of the transitional surface over a point that it reaches.
-    fn slope_beside(&self, at: &Offset, x: &Point) -> Slope
+    fn slope_beside(&self, at: &Offset, x: &Point) -> ShortSlope
         requires reaches { ReachesBesidePrimary (primary_shape self.now) at.now }
         ensures left { result.a ≡ (incline_beside_primary (primary_shape self.now) at.now x.now).left }
         ensures factor { result.k ≡ (incline_beside_primary (primary_shape self.now) at.now x.now).factor }
         ensures shift { result.c ≡ (incline_beside_primary (primary_shape self.now) at.now x.now).shift }
         ensures square { result.n ≡ at.now.square }
     {
-        Slope::rising(
+        ShortSlope::rising(
             self.twice_aside(at),
             PRIMARY_FACTOR,
             self.shift_beside(at, x),

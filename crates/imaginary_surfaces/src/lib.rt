@@ -13,6 +13,7 @@ mod prepare;
 mod primary;
 mod roots;
 mod search;
+mod short_slope;
 mod skips;
 mod slope_end;
 mod strip;

@@ -13,7 +13,7 @@ pub(crate) fn short(a: i128) -> i64
 }
 
 /// The square of a number.
-fn square(a: u64) -> u128
+pub(crate) fn square(a: u64) -> u128
     requires { a ≤ 2 ^ 63 }
     ensures { result ≡ a * a }
 {

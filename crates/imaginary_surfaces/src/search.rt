@@ -4,18 +4,18 @@ ghost use Rattle.std.specs.Prelude.{ℤ, ◌^◌, ◌≤◌, ◌≤ℤ◌, IfSom
 ghost use Rattle.grid_exact.specs.Excess.{IsExcess, root_surface};
 ghost use Rattle.grid_exact.specs.Level.{IsLevel, Reaches};
 
-use grid_exact::{LEVEL_LIMIT, Rising, Slope, Sloping, least_reached};
-use std::num::{nearest_i64_to_f64, nearest_u64_to_f64, saturating_f64_to_u32};
+use crate::short_slope::ShortSlope;
+use grid_exact::{LEVEL_LIMIT, Rising, Sloping, least_reached};
+use std::num::{nearest_i64_to_f64, saturating_f64_to_u32};
 
 /// About how high the slope is: a guess, of which nothing is asked.
-fn about_height(slope: &Slope) -> f64 {
-    let square = slope.n.min(u128::from(u64::MAX)) as u64;
-    let run = nearest_i64_to_f64(slope.a as i64) / nearest_u64_to_f64(square).sqrt();
-    (run + nearest_i64_to_f64(slope.c as i64)) / nearest_i64_to_f64(slope.k as i64)
+fn about_height(slope: &ShortSlope) -> f64 {
+    let run = nearest_i64_to_f64(slope.a) / nearest_i64_to_f64(slope.n as i64).sqrt();
+    (run + nearest_i64_to_f64(slope.c)) / nearest_i64_to_f64(slope.k)
 }
 
 /// About the least level that reaches it, or one more, and none above `top`.
-fn guess(slope: &Slope, top: i64) -> i64
+fn guess(slope: &ShortSlope, top: i64) -> i64
     requires top { IsLevel top }
     ensures level { IsLevel result }
 {
@@ -25,7 +25,7 @@ fn guess(slope: &Slope, top: i64) -> i64
 }
 
 /// A level that reaches it: the guess, where it does, and else `top`.
-fn reached_level(slope: &Slope, guess: i64, top: i64) -> i64
+fn reached_level(slope: &ShortSlope, guess: i64, top: i64) -> i64
     requires guess { IsLevel guess }
     requires top { IsLevel top }
     requires reached { Reaches slope.now.a slope.now.k slope.now.c slope.now.n top }
@@ -36,7 +36,7 @@ fn reached_level(slope: &Slope, guess: i64, top: i64) -> i64
 }
 
 /// A level under which none reaches it: the guess, where the one below it does not, and else the lowest.
-fn least_possible(slope: &Slope, guess: i64) -> i64
+fn least_possible(slope: &ShortSlope, guess: i64) -> i64
     requires guess { IsLevel guess }
     ensures level { IsLevel result }
     ensures lowest { (z : ℤ) → Reaches slope.now.a slope.now.k slope.now.c slope.now.n z → result ≤ℤ z }
@@ -48,7 +48,7 @@ fn least_possible(slope: &Slope, guess: i64) -> i64
 }
 
 /// The least level that reaches it, where `top` does.
-fn least_level(slope: &Slope, top: i64) -> i64
+fn least_level(slope: &ShortSlope, top: i64) -> i64
     requires top { IsLevel top }
     requires reached { Reaches slope.now.a slope.now.k slope.now.c slope.now.n top }
     ensures level { IsLevel result }
@@ -62,7 +62,7 @@ fn least_level(slope: &Slope, top: i64) -> i64
 }
 
 /// How far `top` is above a slope, rounded down.
-pub(crate) fn excess_over(slope: &Slope, top: i64) -> Option<u32>
+pub(crate) fn excess_over(slope: &ShortSlope, top: i64) -> Option<u32>
     requires top { IsLevel top }
     ensures excess { IsExcess (root_surface ⊤ slope.now.a slope.now.k slope.now.c slope.now.n) top result }
     ensures size { IfSome result (λ e. e ≤ 2 ^ 26) }

@@ -5,11 +5,12 @@ ghost use Rattle.grid_exact.specs.Excess.{IsExcess, root_surface};
 ghost use Rattle.grid_exact.specs.Level.{IsLevel, Reaches};
 
 use crate::search::excess_over;
-use grid_exact::{LEVEL_LIMIT, Rising, Slope};
+use crate::short_slope::ShortSlope;
+use grid_exact::{LEVEL_LIMIT, Rising};
 
 /// Whether a slope is at most as high as this level, where the horizontal or the conical surface ends: 77.19(e). A level below the
 /// range of levels is not compared, since its product may not be computed; no slope is as low.
-fn is_up_to(slope: &Slope, level: i64) -> bool
+fn is_up_to(slope: &ShortSlope, level: i64) -> bool
     requires high { level ≤ℤ LEVEL_LIMIT }
     ensures { IsTrue result ↔ Reaches slope.now.a slope.now.k slope.now.c slope.now.n level }
 {
@@ -19,7 +20,7 @@ fn is_up_to(slope: &Slope, level: i64) -> bool
 /// How far `top` is above a slope that is at most as high as `limit`, or `None` where it is not above, or the slope is higher than
 /// the limit. A limit at or above the top is not compared, whatever its size: where the top is above the slope, the limit is not
 /// below it.
-pub(crate) fn excess_up_to(slope: &Slope, top: i64, limit: i64) -> Option<u32>
+pub(crate) fn excess_up_to(slope: &ShortSlope, top: i64, limit: i64) -> Option<u32>
     requires top { IsLevel top }
     ensures exact { IsExcess (root_surface (Reaches slope.now.a slope.now.k slope.now.c slope.now.n limit) slope.now.a slope.now.k slope.now.c slope.now.n) top result }
     ensures size { IfSome result (λ e. e ≤ 2 ^ 26) }
