@@ -11,8 +11,8 @@ use Rattle.horizontal_hull.specs.Arcs.{ArcShape}
 use Rattle.horizontal_hull.specs.Rises.{IsLeastRise, IsRise, in_risen}
 use Rattle.horizontal_hull.specs.Within.{Within}
 use Rattle.horizontal_hull.proofs.Grows.{InCapsule_grows}
-use Rattle.horizontal_hull.proofs.Tests.{InCapsule-test}
-use Rattle.horizontal_hull.proofs.WithinFacts.{within_beyond}
+use Rattle.horizontal_hull.proofs.Tests.{InCapsule-test, Within-test}
+use Rattle.horizontal_hull.proofs.WithinFacts.{in_triangles, within_apart, within_by_triangle}
 
 -- ---- one capsule
 pub in_risen_grows : (x : Point) (a b : ArcShape) (k n : ℕ) → k ≤ n → in_risen x k a b ≡ true → in_risen x n a b ≡ true
@@ -114,17 +114,25 @@ so_far_all {A = A} p xs i most rise l h = record {
 abbrev in_some_risen : List ArcShape → Point → ℕ → Bool
 in_some_risen arcs x k = some_two (in_risen x k) arcs
 
-risen_within : (arcs : List ArcShape) (x : Point) (k : ℕ) → (Within Closed arcs x 0 → ⊥) → (in_some_risen arcs x k ≡ true → Within Closed arcs x (CONICAL_SLOPE * k)) × (Within Closed arcs x (CONICAL_SLOPE * k) → in_some_risen arcs x k ≡ true)
-risen_within arcs x k n = within_beyond Closed arcs x (CONICAL_SLOPE * k) (in_some_risen arcs x k) n refl
+risen_within : (arcs : List ArcShape) (x : Point) (k : ℕ) → in_triangles arcs x ≡ false → (in_some_risen arcs x k ≡ true → Within Closed arcs x (CONICAL_SLOPE * k)) × (Within Closed arcs x (CONICAL_SLOPE * k) → in_some_risen arcs x k ≡ true)
+risen_within arcs x k n = within_apart Closed arcs x (CONICAL_SLOPE * k) (in_some_risen arcs x k) n refl
 
-pub rise_is : (arcs : List ArcShape) (x : Point) (rise : ℕ) → (Within Closed arcs x 0 → ⊥) → IsLeastRise (in_some_risen arcs x) (CONICAL_RISE + 1) rise → rise ≤ CONICAL_RISE → IsRise arcs x rise
+pub rise_is : (arcs : List ArcShape) (x : Point) (rise : ℕ) → in_triangles arcs x ≡ false → IsLeastRise (in_some_risen arcs x) (CONICAL_RISE + 1) rise → rise ≤ CONICAL_RISE → IsRise arcs x rise
 rise_is arcs x rise n h l = record {
   bound = l;
   reaches = (risen_within arcs x rise n).0 (h.reaches (omega (arith, l)));
   least = λ k w. h.least k ((risen_within arcs x k n).1 w);
 }
 
-pub no_rise : (arcs : List ArcShape) (x : Point) (rise : ℕ) → (Within Closed arcs x 0 → ⊥) → IsLeastRise (in_some_risen arcs x) (CONICAL_RISE + 1) rise → CONICAL_RISE < rise → Within Closed arcs x CONICAL_RUN → ⊥
+pub no_rise : (arcs : List ArcShape) (x : Point) (rise : ℕ) → in_triangles arcs x ≡ false → IsLeastRise (in_some_risen arcs x) (CONICAL_RISE + 1) rise → CONICAL_RISE < rise → Within Closed arcs x CONICAL_RUN → ⊥
 no_rise arcs x rise n h l w =
     let m : rise ≤ CONICAL_RISE = h.least CONICAL_RISE ((risen_within arcs x CONICAL_RISE n).1 w) in
     omega (arith, l, m)
+
+-- a triangle lies under the horizontal surface
+pub rise_in_triangle : (arcs : List ArcShape) (x : Point) (t : Bool) → t ≡ in_triangles arcs x → t ≡ true → IsRise arcs x 0
+rise_in_triangle arcs x t h f = record {
+  bound = omega arith;
+  reaches = (Within-test Closed arcs x (CONICAL_SLOPE * 0)).0 (sym (within_by_triangle Closed arcs x (CONICAL_SLOPE * 0) t h f));
+  least = λ k w. omega arith;
+}

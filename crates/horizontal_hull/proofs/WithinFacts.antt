@@ -15,7 +15,7 @@ use Rattle.horizontal_hull.proofs.Tests.{Within-test}
 abbrev in_capsules : Edge → List ArcShape → Point → ℕ → Bool
 in_capsules edge arcs x c = some_two (λ a b. in_capsule edge a b x c) arcs
 
-abbrev in_triangles : List ArcShape → Point → Bool
+abbrev pub in_triangles : List ArcShape → Point → Bool
 in_triangles arcs x = in_some_triangle (centers_of arcs) x
 
 pub within_by_triangle : (edge : Edge) (arcs : List ArcShape) (x : Point) (c : ℕ) (t : Bool) → t ≡ in_triangles arcs x → t ≡ true → true ≡ is_within edge arcs x c
@@ -50,10 +50,13 @@ only_capsules edge arcs x c f = or_false (in_capsules edge arcs x c) (in_triangl
 pub within_by_capsule : (edge : Edge) (arcs : List ArcShape) (x : Point) (c : ℕ) (p t : Bool) → t ≡ in_triangles arcs x → t ≡ false → p ≡ in_capsules edge arcs x c → p ≡ is_within edge arcs x c
 within_by_capsule edge arcs x c p t h f k = k ∙ sym (only_capsules edge arcs x c (sym h ∙ f))
 
-pub within_beyond : (edge : Edge) (arcs : List ArcShape) (x : Point) (c : ℕ) (p : Bool) → (Within Closed arcs x 0 → ⊥) → p ≡ in_capsules edge arcs x c → IsTrue p ↔ Within edge arcs x c
-within_beyond edge arcs x c p n h =
-    let e : p ≡ is_within edge arcs x c = h ∙ sym (only_capsules edge arcs x c (no_triangle Closed arcs x 0 n)) in
+pub within_apart : (edge : Edge) (arcs : List ArcShape) (x : Point) (c : ℕ) (p : Bool) → in_triangles arcs x ≡ false → p ≡ in_capsules edge arcs x c → IsTrue p ↔ Within edge arcs x c
+within_apart edge arcs x c p f h =
+    let e : p ≡ is_within edge arcs x c = h ∙ sym (only_capsules edge arcs x c f) in
     rw e (Within-test edge arcs x c)
+
+pub within_beyond : (edge : Edge) (arcs : List ArcShape) (x : Point) (c : ℕ) (p : Bool) → (Within Closed arcs x 0 → ⊥) → p ≡ in_capsules edge arcs x c → IsTrue p ↔ Within edge arcs x c
+within_beyond edge arcs x c p n h = within_apart edge arcs x c p (no_triangle Closed arcs x 0 n) h
 
 -- ---- where nothing is within
 pub not_within : (edge : Edge) (arcs : List ArcShape) (x : Point) (c : ℕ) → (Within edge arcs x c → ⊥) → false ≡ is_within edge arcs x c

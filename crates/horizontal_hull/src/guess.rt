@@ -38,12 +38,15 @@ fn beyond_tapered(a: &Arc, b: &Arc, x: &Point) -> f64 {
     (across * root - growth * along) / square - f64::from(a.radius())
 }
 
-/// A guess of how much higher than the horizontal surface the conical one is at a point, by two arcs alone.
+/// A guess of how much higher than the horizontal surface the conical one is at a point, by two arcs alone; 0 within them.
 pub(crate) fn guess_rise(a: &Arc, b: &Arc, x: &Point) -> u32 {
     let beyond = if a.radius() <= b.radius() {
         beyond_tapered(a, b, x)
     } else {
         beyond_tapered(b, a, x)
     };
+    if beyond <= 0.0 {
+        return 0;
+    }
     saturating_f64_to_u32(beyond / f64::from(CONICAL_SLOPE)).min(CONICAL_RISE - 1) + 1
 }

@@ -176,14 +176,17 @@ impl Hull {
         is_in_some_capsule(edge, self.arcs.as_slice(), x, c)
     }
 
-    /// How much higher than the horizontal surface the least level at or above the conical one is, at a point that the horizontal surface
-    /// does not cover; `None` where the conical one does not cover it either.
+    /// How much higher than the horizontal surface the least level at or above both surfaces is: 0 where the horizontal one covers the
+    /// point, and `None` where neither does.
     fn rise(&self, x: &Point) -> Option<u32>
-        requires beyond { ¬ Within Edge.Closed self.now.arcs x.now 0 }
         ensures { MatchOption result (¬ Within Edge.Closed self.now.arcs x.now CONICAL_RUN) (IsRise self.now.arcs x.now) }
     {
         if !self.reaches(x, CONICAL_RUN) {
             return None;
+        }
+        // First the polygon, which is asked faster.
+        if self.polygon.has(x) {
+            return Some(0);
         }
         let rise = least_rise(self.arcs.as_slice(), x);
         if CONICAL_RISE < rise {
@@ -205,13 +208,13 @@ impl Hull {
     pub fn standing(&self, x: &Point) -> Standing
         ensures { IsStanding self.now x.now result }
     {
-        if self.within(x, 0) {
+        let Some(rise) = self.rise(x) else {
+            return Standing::Beyond;
+        };
+        if rise == 0 {
             return Standing::Horizontal;
         }
-        match self.rise(x) {
-            None => Standing::Beyond,
-            Some(rise) => Standing::Conical(self.level_at(x, rise)),
-        }
+        Standing::Conical(self.level_at(x, rise))
     }
 
     /// The lowest whole level at or above the horizontal and the conical surface at a point that stands so, in tenths of a foot: 77.19(a)
