@@ -12,3 +12,5 @@ pub mod CloseFacts
 pub mod WithinFacts
 pub mod Rises
 pub mod Beside
+pub mod Sights
+pub mod SightSizes

@@ -1,5 +1,6 @@
 -- For proofs alone: the numbers that decide whether a point lies between the tangents of two arcs.
-use Rattle.std.specs.Prelude.{ℕ, ℤ, ◌≡◌, ◌+◌, ◌≤◌, ◌^◌, unsigned_abs}
+use Rattle.std.specs.Prelude.{ℕ, ℤ, pos, neg_ℤ, ◌≡◌, ◌+◌, ◌-◌, ◌*◌, ◌<◌, ◌≤◌, ◌^◌, ◌-ℤ◌, unsigned_abs}
+use Rattle.grid_exact.specs.Root.{AtMostRoot}
 use Rattle.grid_exact.specs.declared.point.Point.{Point}
 use Rattle.horizontal_hull.specs.declared.sizes.TheConstants.{ARC_MOST, OUTER_MOST}
 use Rattle.horizontal_hull.specs.Arcs.{ArcShape}
@@ -21,3 +22,17 @@ pub record IsBandOf (a b : ArcShape) (x : Point) (c : ℕ) (square : ℕ) (along
   pub across_is : across ≡ aside a b x
   pub growth_is : growth ≡ flare a b
   pub radius_is : radius ≡ a.radius + c
+
+-- the larger disc does not hold the smaller one, and the point is not before or past where the tangents touch the arcs
+abbrev pub IsBetween : ℕ → ℤ → ℕ → ℕ → Type 0
+IsBetween square along across growth =
+    (growth * growth < square)
+    × (AtMostRoot (neg_ℤ (pos (growth * across))) along (square - growth * growth) × AtMostRoot (pos (growth * across)) (pos square -ℤ along) (square - growth * growth))
+
+-- the sizes of both radii, of the square of the distance between the centers, and of how far the point lies along their line, times that
+-- distance and how much greater the second radius is
+pub record IsSight (first_radius second_radius square : ℕ) (lean : ℤ) : Type 0 where
+  pub first_size : first_radius ≤ ARC_MOST
+  pub second_size : second_radius ≤ ARC_MOST
+  pub square_size : square ≤ 2 ^ 41
+  pub lean_size : unsigned_abs lean ≤ 2 ^ 58

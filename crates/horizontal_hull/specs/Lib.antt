@@ -6,3 +6,4 @@ pub mod Areas
 pub mod Close
 pub mod Bands
 pub mod Rises
+pub mod Sights

@@ -2,7 +2,7 @@
 
 ghost use Rattle.std.specs.Prelude.{◌≡◌, ◌↔◌, ◌+◌, ◌-◌, ◌*◌, ◌^◌, ◌<◌, ◌≤◌, ◌+ℤ◌, ◌-ℤ◌, ◌*ℤ◌, neg_ℤ, pos, unsigned_abs, IsTrue};
 ghost use Rattle.grid_exact.specs.Root.{AtMostRoot};
-ghost use Rattle.horizontal_hull.specs.Bands.{IsBand, IsBandOf};
+ghost use Rattle.horizontal_hull.specs.Bands.{IsBand, IsBandOf, IsBetween};
 ghost use Rattle.horizontal_hull.specs.Capsules.{ReachesRoot};
 ghost use Rattle.horizontal_hull.specs.Close.{IsNearBoth};
 
@@ -54,8 +54,24 @@ impl Band {
         growth * growth < self.square
     }
 
+    /// The square of the distance between the centers.
+    pub(crate) fn square(&self) -> u64
+        ensures value { result ≡ self.now.square }
+        ensures size { result ≤ 2 ^ 41 }
+    {
+        self.square
+    }
+
+    /// How far the point lies beside the line, times that distance.
+    pub(crate) fn across(&self) -> u64
+        ensures value { result ≡ self.now.across }
+        ensures size { result ≤ 2 ^ 41 }
+    {
+        self.across
+    }
+
     /// The square of the length of a tangent; 0 where the larger disc holds the smaller one, and there is none.
-    fn tangent(&self) -> u64
+    pub(crate) fn tangent(&self) -> u64
         ensures value { result ≡ self.now.square - self.now.growth * self.now.growth }
         ensures size { result ≤ 2 ^ 41 }
     {
@@ -89,6 +105,30 @@ impl Band {
             self.square as i128 - self.along,
             self.tangent() as u128,
         )
+    }
+
+    /// Whether the larger disc does not hold the smaller one, and the point is not before or past where the tangents touch the arcs.
+    pub(crate) fn is_between(&self) -> bool
+        ensures { IsTrue result ↔ IsBetween self.now.square self.now.along self.now.across self.now.growth }
+    {
+        self.is_open() && (self.is_after() && self.is_before())
+    }
+
+    /// How far along the line the point lies, times the distance between the centers and how much greater the second radius is.
+    #[tactic(auto, using(crate::proofs::BandSizes::bands))]
+    pub(crate) fn lean(&self) -> i64
+        ensures value { result ≡ pos self.now.growth *ℤ self.now.along }
+        ensures size { unsigned_abs result ≤ 2 ^ 58 }
+    {
+        scale(self.growth as i64, self.along) as i64
+    }
+
+    /// The square of how far beside the line the point lies, times the square of that distance and of the length of a tangent.
+    pub(crate) fn reach(&self) -> u128
+        ensures { result ≡ self.now.across * self.now.across * (self.now.square - self.now.growth * self.now.growth) }
+    {
+        let across = self.across as u128;
+        across * across * self.tangent() as u128
     }
 
     /// How far beside the line a tangent passes, times the distance between the centers and times the length of the tangent.

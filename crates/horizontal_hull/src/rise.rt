@@ -7,9 +7,7 @@ ghost use Rattle.horizontal_hull.specs.Close.{AreClose, IsNearBoth};
 ghost use Rattle.horizontal_hull.specs.Rises.{IsLeastRise, in_risen};
 
 use crate::arc::Arc;
-use crate::capsule::is_in_capsule;
-use crate::edge::Edge;
-use crate::guess::guess_rise;
+use crate::seen::Seen;
 use crate::sizes::{CONICAL_RISE, CONICAL_SLOPE};
 use grid_exact::Point;
 
@@ -37,12 +35,16 @@ fn rise_of_two(a: &Arc, b: &Arc, x: &Point, most: u32) -> u32
     requires most { most ≤ CONICAL_RISE + 1 }
     ensures { IsLeastRise (λ k. in_risen x.now k a.now b.now) most result }
 {
-    let guess = guess_rise(a, b, x).min(most);
+    if most == 0 {
+        return 0;
+    }
+    let seen = Seen::of(a, b, x);
+    let guess = seen.guess_rise().min(most);
     let mut least = 0;
     let mut reached = most;
     while least < reached {
         let asked = probe(least, reached, guess);
-        if is_in_capsule(Edge::Closed, a, b, x, CONICAL_SLOPE * asked) {
+        if seen.is_within(CONICAL_SLOPE * asked) {
             reached = asked;
         } else {
             least = asked + 1;

@@ -5,7 +5,7 @@ use Rattle.horizontal_hull.proofs.rise.rise_of_two.Goals as goal
 
 pub loop-least-preserved : goal.loop-least-preserved
 loop-least-preserved c =
-    let f : in_risen c.args.x.now c.probe-asked.result c.args.a.now c.args.b.now ≡ false = sym c.is_in_capsule.ensures ∙ c.if-is_in_capsule.false in
+    let f : in_risen c.args.x.now c.probe-asked.result c.args.a.now c.args.b.now ≡ false = sym (c.is_within.ensures c.args.a.now c.args.b.now c.args.x.now c.of-seen.ensures) ∙ c.if-is_within.false in
     record {
       order = omega (arith, c.probe-asked.ensures.high);
       within = c.loop-least.invariant.within;

@@ -1,0 +1,171 @@
+//! A point as two arcs see it.
+
+ghost use Rattle.std.specs.Prelude.{◌≡◌, ◌↔◌, ◌+◌, ◌*◌, ◌^◌, ◌≤◌, ◌<◌, ◌+ℤ◌, IsTrue, pos, unsigned_abs};
+ghost use Rattle.grid_exact.specs.declared.point.Point.{Point};
+ghost use Rattle.horizontal_hull.specs.Arcs.{ArcShape};
+ghost use Rattle.horizontal_hull.specs.Bands.{IsSight};
+ghost use Rattle.horizontal_hull.specs.Capsules.{away, in_capsule};
+ghost use Rattle.horizontal_hull.specs.Close.{IsNearBoth};
+ghost use Rattle.horizontal_hull.specs.declared.edge.Edge.TheVariants.{Closed};
+
+use crate::arc::Arc;
+use crate::band::Band;
+use crate::sizes::{CONICAL_RISE, CONICAL_RUN, CONICAL_SLOPE};
+use grid_exact::Point;
+use std::num::{nearest_i64_to_f64, nearest_u64_to_f64, saturating_f64_to_u32};
+
+/// A point as two arcs see it, of which the second is not the smaller one: what is the same however much their radii are raised, so that it
+/// is computed once.
+#[derive(Clone, Copy)]
+pub(crate) struct Seen {
+    /// The square of how far it is from the first center.
+    pub(crate) first: u64,
+    /// The square of how far it is from the second one.
+    pub(crate) second: u64,
+    pub(crate) first_radius: u32,
+    pub(crate) second_radius: u32,
+    /// The square of the distance between the centers.
+    pub(crate) square: u64,
+    /// The square of the length of a tangent.
+    pub(crate) tangent: u64,
+    /// How far it lies beside the line of the centers, times their distance.
+    pub(crate) across: u64,
+    /// How far it lies along that line, times their distance and how much greater the second radius is.
+    pub(crate) lean: i64,
+    /// The square of `across`, times the square of the length of a tangent.
+    pub(crate) reach: u128,
+    /// Whether the larger disc does not hold the smaller one.
+    pub(crate) is_open: bool,
+    /// Whether besides it lies between where the tangents touch the arcs.
+    pub(crate) is_between: bool,
+    ghost sized: { IsSight first_radius second_radius square lean },
+}
+
+/// The square of how far a point is from the center of an arc.
+fn square_to(a: &Arc, x: &Point) -> u64
+    ensures { result ≡ away a.now x.now }
+{
+    a.to_point(x).square_length() as u64
+}
+
+/// How far beyond an arc a point is, by the square of how far it is from the center.
+fn beyond_disc(square: u64, radius: u32) -> f64 {
+    nearest_u64_to_f64(square).sqrt() - f64::from(radius)
+}
+
+impl Seen {
+    ghost use Rattle.horizontal_hull.specs.Sights.{InSight, IsSeen, IsSeenOf, IsUnder, width as width_of};
+
+    /// A point seen by two arcs, of which the second is not the smaller one.
+    fn ordered(a: &Arc, b: &Arc, x: &Point) -> Seen
+        requires near { IsNearBoth a.now b.now x.now }
+        requires order { a.now.radius ≤ b.now.radius }
+        ensures { IsSeen a.now b.now x.now result }
+    {
+        let band = Band::of(a, b, x, 0);
+        Seen {
+            first: square_to(a, x),
+            second: square_to(b, x),
+            first_radius: a.radius(),
+            second_radius: b.radius(),
+            square: band.square(),
+            tangent: band.tangent(),
+            across: band.across(),
+            lean: band.lean(),
+            reach: band.reach(),
+            is_open: band.is_open(),
+            is_between: band.is_between(),
+        }
+    }
+
+    /// A point seen by two arcs.
+    pub(crate) fn of(a: &Arc, b: &Arc, x: &Point) -> Seen
+        requires near { IsNearBoth a.now b.now x.now }
+        ensures { IsSeenOf a.now b.now x.now result }
+    {
+        if a.radius() <= b.radius() {
+            Seen::ordered(a, b, x)
+        } else {
+            Seen::ordered(b, a, x)
+        }
+    }
+
+    /// Whether it lies in the disc of the second arc.
+    fn is_in_second(&self, c: u32) -> bool
+        requires run { c ≤ CONICAL_RUN }
+        ensures { IsTrue result ↔ (self.now.second ≤ (self.now.second_radius + c) * (self.now.second_radius + c)) }
+    {
+        let radius = u64::from(self.second_radius + c);
+        self.second <= radius * radius
+    }
+
+    /// Whether it lies in the disc of the first arc.
+    fn is_in_first(&self, c: u32) -> bool
+        requires run { c ≤ CONICAL_RUN }
+        ensures { IsTrue result ↔ (self.now.first ≤ (self.now.first_radius + c) * (self.now.first_radius + c)) }
+    {
+        let radius = u64::from(self.first_radius + c);
+        self.first <= radius * radius
+    }
+
+    /// How far beside the line of the centers a tangent passes it, times the distance between the centers and the length of the tangent.
+    fn width(&self, c: u32) -> i64
+        requires run { c ≤ CONICAL_RUN }
+        ensures value { result ≡ width_of self.now c }
+        ensures size { unsigned_abs result < 2 ^ 62 }
+    {
+        (u64::from(self.first_radius + c) * self.square) as i64 + self.lean
+    }
+
+    /// Whether it is not beyond a tangent.
+    fn is_under(&self, c: u32) -> bool
+        requires run { c ≤ CONICAL_RUN }
+        ensures { IsTrue result ↔ IsUnder self.now c }
+    {
+        let width = self.width(c);
+        let size = width.unsigned_abs() as u128;
+        0 <= width && self.reach <= size * size
+    }
+
+    /// Whether it lies in the capsule of the arcs with radii raised by `c`, by what is seen.
+    fn is_in_sight(&self, c: u32) -> bool
+        requires run { c ≤ CONICAL_RUN }
+        ensures { IsTrue result ↔ InSight self.now c }
+    {
+        self.is_in_second(c)
+            || ((self.is_open && self.is_in_first(c)) || (self.is_between && self.is_under(c)))
+    }
+
+    /// Whether it lies in the capsule of the arcs with radii raised by `c`.
+    pub(crate) fn is_within(&self, c: u32) -> bool
+        requires run { c ≤ CONICAL_RUN }
+        ensures { (a b : ArcShape) (x : Point) → IsSeenOf a b x self.now → result ≡ in_capsule Closed a b x c }
+    {
+        self.is_in_sight(c)
+    }
+
+    /// How far it is beyond the arcs joined by their tangents, about.
+    fn beyond(&self) -> f64 {
+        if self.is_between {
+            let root = nearest_u64_to_f64(self.tangent).sqrt();
+            let ways = nearest_u64_to_f64(self.across) * root - nearest_i64_to_f64(self.lean);
+            return ways / nearest_u64_to_f64(self.square) - f64::from(self.first_radius);
+        }
+        let second = beyond_disc(self.second, self.second_radius);
+        if !self.is_open {
+            return second;
+        }
+        let first = beyond_disc(self.first, self.first_radius);
+        if first < second { first } else { second }
+    }
+
+    /// A guess of how much higher than the horizontal surface the conical one is, by these arcs alone; 0 within them. It says nearly always
+    /// what is found, so that little is asked; what is found does not rest on it.
+    pub(crate) fn guess_rise(&self) -> u32 {
+        let beyond = self.beyond();
+        if beyond <= 0.0 {
+            return 0;
+        }
+        saturating_f64_to_u32(beyond / f64::from(CONICAL_SLOPE)).min(CONICAL_RISE - 1) + 1
+    }
+}
