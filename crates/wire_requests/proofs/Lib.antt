@@ -5,3 +5,4 @@ pub mod OneRequest
 pub mod FormLaw
 pub mod LineFacts
 pub mod OneReading
+pub mod WrittenFacts

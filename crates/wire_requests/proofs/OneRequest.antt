@@ -1,5 +1,5 @@
 -- A request is known by its spelling.
-use Rattle.std.proofs.Common.{arith, ℕ, ◌≡◌, ℤ, List, [], ◌∷◌, Option, Bool, true, false, drop, refl, ap, sym, ◌∙◌, if◌then◌else◌}
+use Rattle.std.proofs.Common.{arith, ℕ, ◌≡◌, ℤ, List, ◌∷◌, Option, Bool, true, false, drop, refl, ap, sym, ◌∙◌, if◌then◌else◌}
 use Rattle.std.specs.Fmt.{decimal}
 use Rattle.std.specs.Str.{bytes_eq}
 use Rattle.grid_exact.specs.declared.point.Point.{Point}

@@ -14,6 +14,7 @@ mod queries;
 mod read;
 mod register;
 mod request;
+mod written;
 
 pub use case_values::{Act, Impact, Party, Submission};
 pub use form::{ActForm, Form};

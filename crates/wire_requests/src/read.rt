@@ -8,6 +8,7 @@ use crate::change::change;
 use crate::form::{Form, named_form};
 use crate::queries::{airfield, case, report, review, screen, verdict};
 use crate::request::{ReadRefusal, Request};
+use crate::written::question;
 use csv::ByteRecord;
 use grid_exact::LINE_LIMIT;
 use record_fields::{Fields, find_fields};
@@ -71,6 +72,9 @@ impl RecordReader {
         ensures found { IfOk result (λ r. IsRecord line.now r) }
         ensures malformed { IfErr result (λ e. IsRefusal line.now e) }
     {
+        if let Some(request) = question(line) {
+            return Ok(request);
+        }
         if line.len() > LINE_LIMIT {
             return Err(ReadRefusal::Malformed { field: 0 });
         }

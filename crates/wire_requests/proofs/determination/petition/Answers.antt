@@ -1,5 +1,5 @@
 use Rattle.std.proofs.Common.{refl}
-use Rattle.wire_cursor.proofs.ShapeFacts.{in_1, past_1, took_1}
+use Rattle.wire_cursor.proofs.ShapeFacts.{past_1, took_1}
 use Rattle.wire_cursor.proofs.ExitFacts.{stops_out}
 use Rattle.wire_requests.proofs.determination.petition.Goals as goal
 
