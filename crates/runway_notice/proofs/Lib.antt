@@ -1,3 +1,4 @@
+pub mod PartFacts
 pub mod DistanceFacts
 pub mod Order
 pub mod NearestFacts

@@ -38,7 +38,7 @@ impl<'a> Candidate<'a> {
         Candidate {
             runway,
             line,
-            at: Place::of(&line.offset(point)),
+            at: Place::of(&line.axis, point),
         }
     }
 

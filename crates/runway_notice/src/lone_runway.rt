@@ -65,7 +65,7 @@ impl LoneRunway {
         Candidate {
             runway: &self.runway,
             line: self.line,
-            at: Place::of(&self.line.offset(point)),
+            at: Place::of(&self.line.axis, point),
         }
     }
 

@@ -1,9 +1,55 @@
 //! Where a point lies by a runway, in numbers of 64 bits.
 
-ghost use Rattle.std.specs.Prelude.{◌≡◌, ◌↔◌, ◌<ℤ◌, pos, unsigned_abs, IsTrue};
-ghost use Rattle.grid_exact.specs.Lines.{IsOffset};
+ghost use Rattle.std.specs.Prelude.{◌≡◌, ◌↔◌, ◌+◌, ◌*◌, ◌^◌, ◌≤◌, ◌*ℤ◌, ◌<ℤ◌, pos, unsigned_abs, IsTrue};
+ghost use Rattle.grid_exact.specs.Axes.{line_of};
+ghost use Rattle.grid_exact.specs.Lines.{IsOffset, offset};
+ghost use Rattle.grid_exact.specs.Vector.{along_of, across_of, length_of};
 
-use grid_exact::Offset;
+use grid_exact::{Axis, Point, Vector};
+
+/// The product of two parts of vectors.
+#[tactic(auto, using(crate::proofs::PartFacts::short))]
+fn product(a: i64, b: i64) -> i64
+    requires left { unsigned_abs a ≤ 2 ^ 27 }
+    requires right { unsigned_abs b ≤ 2 ^ 27 }
+    ensures value { result ≡ a *ℤ b }
+    ensures size { unsigned_abs result ≤ 2 ^ 54 }
+{
+    a * b
+}
+
+/// The inner product.
+fn dot(a: &Vector, b: &Vector) -> i64
+    ensures value { result ≡ along_of a.now.x a.now.y b.now.x b.now.y }
+    ensures size { unsigned_abs result ≤ 2 ^ 55 }
+{
+    product(a.x, b.x) + product(a.y, b.y)
+}
+
+/// The cross product.
+fn cross(a: &Vector, b: &Vector) -> i64
+    ensures value { result ≡ across_of a.now.x a.now.y b.now.x b.now.y }
+    ensures size { unsigned_abs result ≤ 2 ^ 55 }
+{
+    product(a.x, b.y) - product(a.y, b.x)
+}
+
+/// The square of a part of a vector.
+#[tactic(auto, using(crate::proofs::PartFacts::short))]
+fn squared(part: u64) -> u64
+    requires { part ≤ 2 ^ 27 }
+    ensures value { result ≡ part * part }
+    ensures size { result ≤ 2 ^ 54 }
+{
+    part * part
+}
+
+/// The square of a vector's length.
+fn square_length(a: &Vector) -> u64
+    ensures value { result ≡ length_of a.now.x a.now.y }
+{
+    squared(a.x.unsigned_abs()) + squared(a.y.unsigned_abs())
+}
 
 /// Where a point lies by a line: an offset whose numbers have 64 bits. What is worked out of them so needs no longer arithmetic.
 #[derive(Clone, Copy)]
@@ -18,19 +64,17 @@ pub(crate) struct Place {
 }
 
 impl Place {
-    /// The same offset.
-    pub(crate) fn of(at: &Offset) -> Place
-        ensures along { result.along ≡ at.now.along }
-        ensures aside { result.aside ≡ at.now.aside }
-        ensures square { result.square ≡ at.now.square }
+    ghost use Rattle.runway_notice.specs.Places.{placed};
+
+    /// Where the point lies by the line.
+    pub(crate) fn of(line: &Axis, point: &Point) -> Place
+        ensures { placed result ≡ offset (line_of line.now) point.now }
     {
-        let along = at.along() as i64;
-        let aside = at.aside() as i64;
-        let square = at.square() as u64;
+        let way = line.from.to_point(point);
         Place {
-            along,
-            aside: aside.unsigned_abs(),
-            square,
+            along: dot(&way, &line.way),
+            aside: cross(&way, &line.way).unsigned_abs(),
+            square: square_length(&line.way),
         }
     }
 
