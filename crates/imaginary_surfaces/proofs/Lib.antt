@@ -5,3 +5,4 @@ pub mod ExcessLaws
 pub mod AreaFacts
 pub mod ZoneFacts
 pub mod RootFacts
+pub mod PlaceFacts

@@ -7,10 +7,11 @@ ghost use Rattle.grid_exact.specs.Root.{AtMostRoot};
 ghost use Rattle.imaginary_surfaces.specs.Approaches.{IsApproach, IsRise};
 
 use crate::measures::{HALF_WIDTH_SCALE, SECOND_SLOPE_DROP};
+use crate::place::Place;
 use crate::roots::{is_above_root, is_at_most_root, short};
 use crate::search::excess_over;
 use crate::short_slope::ShortSlope;
-use grid_exact::{Axis, Offset, minus, product, scale};
+use grid_exact::{Axis, minus, product, scale};
 use runway_classes::{EndClass, WIDENING_SCALE};
 
 /// The approach surface of an end, 77.19(d): it begins at the end of the primary surface with that one's width, and goes outward
@@ -41,7 +42,7 @@ impl ApproachSurface {
     ghost use Rattle.imaginary_surfaces.specs.Shapes.{approach_shape};
 
     /// Whether a point is ahead of the end.
-    pub(crate) fn is_ahead(&self, at: &Offset) -> bool
+    pub(crate) fn is_ahead(&self, at: &Place) -> bool
         ensures { IsTrue result ↔ (pos 0 <ℤ at.now.along) }
     {
         0 < short(at.along())
@@ -49,14 +50,14 @@ impl ApproachSurface {
 
     /// Whether a point is not past its outer end.
     #[tactic(auto, using(grid_exact::proofs::Sizes::fits))]
-    pub(crate) fn is_not_past(&self, at: &Offset) -> bool
+    pub(crate) fn is_not_past(&self, at: &Place) -> bool
         ensures { IsTrue result ↔ AtMostRoot at.now.along self.now.class.length at.now.square }
     {
         is_at_most_root(at.along(), self.class.length, at.square())
     }
 
     /// How far a point is to a side less what the half width has grown, in fortieths, times the vector's length.
-    pub(crate) fn outside(&self, at: &Offset) -> i128
+    pub(crate) fn outside(&self, at: &Place) -> i128
         ensures value { result ≡ outside_of (approach_shape self.now) at.now }
         ensures size { unsigned_abs result ≤ 2 ^ 52 }
     {
@@ -76,21 +77,21 @@ impl ApproachSurface {
 
     /// Whether a point is within the half width there.
     #[tactic(auto, using(grid_exact::proofs::Sizes::fits))]
-    fn is_not_beside(&self, at: &Offset) -> bool
+    fn is_not_beside(&self, at: &Place) -> bool
         ensures { IsTrue result ↔ AtMostRoot (outside_of (approach_shape self.now) at.now) (HALF_WIDTH_SCALE *ℤ self.now.width) at.now.square }
     {
         is_at_most_root(self.outside(at), self.half_width(), at.square())
     }
 
     /// Whether a point is ahead of the end, and not past its outer end.
-    pub(crate) fn is_along(&self, at: &Offset) -> bool
+    pub(crate) fn is_along(&self, at: &Place) -> bool
         ensures { IsTrue result ↔ IsAlong (approach_shape self.now) at.now }
     {
         self.is_ahead(at) && self.is_not_past(at)
     }
 
     /// Whether it covers a point along it.
-    fn covers(&self, at: &Offset) -> bool
+    fn covers(&self, at: &Place) -> bool
         requires along { IsAlong (approach_shape self.now) at.now }
         ensures { IsTrue result ↔ ApproachCovers (approach_shape self.now) at.now }
     {
@@ -98,14 +99,14 @@ impl ApproachSurface {
     }
 
     /// Whether a point is past where the second slope begins.
-    fn is_past_split(&self, at: &Offset) -> bool
+    fn is_past_split(&self, at: &Place) -> bool
         ensures { result ≡ is_past_split_of (approach_shape self.now) at.now }
     {
         is_above_root(at.along(), self.class.split, at.square())
     }
 
     /// The slope over a point.
-    pub(crate) fn rise(&self, at: &Offset) -> Rise
+    pub(crate) fn rise(&self, at: &Place) -> Rise
         ensures slope { result.slope ≡ slope_at (approach_shape self.now) at.now }
         ensures base { result.base ≡ base_at (approach_shape self.now) at.now }
     {
@@ -122,7 +123,7 @@ impl ApproachSurface {
     }
 
     /// How far `top` is above it at a point along it, or `None` where it is not above, or the surface does not cover the point.
-    pub(crate) fn excess_along(&self, at: &Offset, top: i64) -> Option<u32>
+    pub(crate) fn excess_along(&self, at: &Place, top: i64) -> Option<u32>
         requires along { IsAlong (approach_shape self.now) at.now }
         requires top { IsLevel top }
         ensures exact { IsExcess (approach_at (approach_shape self.now) at.now) top result }
@@ -139,7 +140,7 @@ impl ApproachSurface {
         )
     }
     /// The same at any point.
-    pub(crate) fn excess(&self, at: &Offset, top: i64) -> Option<u32>
+    pub(crate) fn excess(&self, at: &Place, top: i64) -> Option<u32>
         requires top { IsLevel top }
         ensures exact { IsExcess (approach_at (approach_shape self.now) at.now) top result }
         ensures size { IfSome result (λ e. e ≤ 2 ^ 26) }

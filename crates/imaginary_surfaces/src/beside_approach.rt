@@ -9,11 +9,12 @@ ghost use Rattle.imaginary_surfaces.specs.Primaries.{IsWidth};
 
 use crate::approach::{ApproachSurface, Rise};
 use crate::measures::{APPROACH_FACTOR, HALF_WIDTH_SCALE, SCALED_REACH};
+use crate::place::Place;
 use crate::roots::{is_at_least_root, is_at_most_root};
 use crate::search::excess_over;
 use crate::short_slope::ShortSlope;
 use crate::slope_end::excess_up_to;
-use grid_exact::{Cap, Offset, minus, plus, product, scale};
+use grid_exact::{Cap, minus, plus, product, scale};
 
 /// How far a top is above the approach surface of an end, and above the transitional surface beside it.
 #[derive(Clone, Copy)]
@@ -54,14 +55,14 @@ impl ApproachSurface {
 
     /// Whether a point is at least the half width there from the line.
     #[tactic(auto, using(grid_exact::proofs::Sizes::fits))]
-    fn is_from_side(&self, at: &Offset) -> bool
+    fn is_from_side(&self, at: &Place) -> bool
         ensures { IsTrue result ↔ AtLeastRoot (outside_of (approach_shape self.now) at.now) (HALF_WIDTH_SCALE *ℤ self.now.width) at.now.square }
     {
         is_at_least_root(self.outside(at), self.half_width(), at.square())
     }
 
     /// Whether the transitional surface reaches a point along the approach surface.
-    fn reaches_beside(&self, at: &Offset) -> bool
+    fn reaches_beside(&self, at: &Place) -> bool
         requires along { IsAlong (approach_shape self.now) at.now }
         ensures { IsTrue result ↔ ReachesBesideApproach (approach_shape self.now) at.now }
     {
@@ -78,14 +79,14 @@ impl ApproachSurface {
 
     /// Whether a point is at most 5,000 feet from the edge of the approach surface.
     #[tactic(auto, using(grid_exact::proofs::Sizes::fits))]
-    fn is_near(&self, at: &Offset) -> bool
+    fn is_near(&self, at: &Place) -> bool
         ensures { IsTrue result ↔ AtMostRoot (outside_of (approach_shape self.now) at.now) (HALF_WIDTH_SCALE *ℤ self.now.width +ℤ SCALED_REACH) at.now.square }
     {
         is_at_most_root(self.outside(at), self.far_side(), at.square())
     }
 
     /// Whether it goes beyond the limits of the conical surface at a point that it reaches.
-    fn goes_beyond(&self, at: &Offset) -> bool
+    fn goes_beyond(&self, at: &Place) -> bool
         ensures { IsTrue result ↔ GoesBeyond (approach_shape self.now) at.now }
     {
         self.precision && self.is_near(at)
@@ -93,7 +94,7 @@ impl ApproachSurface {
 
     /// The number that the slope of the transitional surface compares with a root: how far the point is along the line and outside
     /// the approach surface, each by its slope.
-    fn left_beside(&self, at: &Offset, rise: &Rise) -> i128
+    fn left_beside(&self, at: &Place, rise: &Rise) -> i128
         requires slope { rise.now.slope ≡ slope_at (approach_shape self.now) at.now }
         requires line { IsSquare at.now.square }
         requires reaches { ReachesBesideApproach (approach_shape self.now) at.now }
@@ -108,7 +109,7 @@ impl ApproachSurface {
     }
 
     /// The slope of the transitional surface over a point that it reaches.
-    fn slope_beside(&self, at: &Offset) -> ShortSlope
+    fn slope_beside(&self, at: &Place) -> ShortSlope
         requires reaches { ReachesBesideApproach (approach_shape self.now) at.now }
         ensures left { result.a ≡ (incline_beside_approach (approach_shape self.now) at.now).left }
         ensures factor { result.k ≡ (incline_beside_approach (approach_shape self.now) at.now).factor }
@@ -127,7 +128,7 @@ impl ApproachSurface {
 
     /// How far `top` is above the transitional surface at a point along the approach surface, or `None` where it is not above, or the
     /// surface does not cover the point.
-    pub(crate) fn excess_beside_along(&self, at: &Offset, top: i64, cap: &Cap) -> Option<u32>
+    pub(crate) fn excess_beside_along(&self, at: &Place, top: i64, cap: &Cap) -> Option<u32>
         requires along { IsAlong (approach_shape self.now) at.now }
         requires top { IsLevel top }
         ensures exact { IsExcess (beside_approach_at (approach_shape self.now) at.now cap.now) top result }
@@ -149,7 +150,7 @@ impl ApproachSurface {
     }
 
     /// The same at any point.
-    pub(crate) fn excess_beside(&self, at: &Offset, top: i64, cap: &Cap) -> Option<u32>
+    pub(crate) fn excess_beside(&self, at: &Place, top: i64, cap: &Cap) -> Option<u32>
         requires top { IsLevel top }
         ensures exact { IsExcess (beside_approach_at (approach_shape self.now) at.now cap.now) top result }
         ensures size { IfSome result (λ e. e ≤ 2 ^ 26) }
@@ -161,7 +162,7 @@ impl ApproachSurface {
     }
 
     /// How far `top` is above the approach surface and above the transitional surface beside it at a point.
-    pub(crate) fn excesses(&self, at: &Offset, top: i64, cap: &Cap) -> EndExcesses
+    pub(crate) fn excesses(&self, at: &Place, top: i64, cap: &Cap) -> EndExcesses
         requires top { IsLevel top }
         ensures over { IsExcess (approach_at (approach_shape self.now) at.now) top result.over }
         ensures over_size { IfSome result.over (λ e. e ≤ 2 ^ 26) }

@@ -9,6 +9,7 @@ mod beside_primary;
 mod excesses;
 mod laws;
 mod measures;
+mod place;
 mod prepare;
 mod primary;
 mod roots;

@@ -6,8 +6,9 @@ ghost use Rattle.grid_exact.specs.Level.{IsLevel};
 ghost use Rattle.grid_exact.specs.Lines.{offset as offset_of};
 
 use crate::excesses::StripExcesses;
+use crate::place::Place;
 use crate::strip::Strip;
-use grid_exact::{Area, Cap, Offset, Point};
+use grid_exact::{Area, Cap, Point};
 use runway_lines::End;
 
 impl Strip {
@@ -15,7 +16,7 @@ impl Strip {
     ghost use Rattle.imaginary_surfaces.specs.Strips.{IsStripExcesses, primary_of, approach_of, primary_excess, approach_excess, primary_transition_excess, approach_transition_excess};
 
     /// How far `top` is above the primary surface, where its area has the point.
-    fn primary_in(&self, area: &Area, at: &Offset, x: &Point, top: i64) -> Option<u32>
+    fn primary_in(&self, area: &Area, at: &Place, x: &Point, top: i64) -> Option<u32>
         requires at { at.now ≡ offset_of (primary_of self.now).line x.now }
         requires top { IsLevel top }
         requires skip { ¬ Has area.now x.now → primary_excess self.now x.now top ≡ None }
@@ -31,7 +32,7 @@ impl Strip {
     fn beside_primary_in(
         &self,
         area: &Area,
-        at: &Offset,
+        at: &Place,
         x: &Point,
         top: i64,
         cap: &Cap,
@@ -48,7 +49,7 @@ impl Strip {
     }
 
     /// How far it is above the approach surface of an end, where its area has the point.
-    fn approach_in(&self, end: End, area: &Area, at: &Offset, x: &Point, top: i64) -> Option<u32>
+    fn approach_in(&self, end: End, area: &Area, at: &Place, x: &Point, top: i64) -> Option<u32>
         requires at { at.now ≡ offset_of (approach_of self.now end).line x.now }
         requires top { IsLevel top }
         requires skip { ¬ Has area.now x.now → approach_excess self.now end x.now top ≡ None }
@@ -65,7 +66,7 @@ impl Strip {
         &self,
         end: End,
         area: &Area,
-        at: &Offset,
+        at: &Place,
         x: &Point,
         top: i64,
         cap: &Cap,

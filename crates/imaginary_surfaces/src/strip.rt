@@ -12,10 +12,11 @@ ghost use Rattle.imaginary_surfaces.specs.Strips.{primary_transition_surface, ap
 
 use crate::approach::ApproachSurface;
 use crate::excesses::StripExcesses;
+use crate::place::Place;
 use crate::prepare::{approach, primary};
 use crate::primary::PrimarySurface;
 use airfields::Runway;
-use grid_exact::{Cap, Offset, Point};
+use grid_exact::{Cap, Point};
 use runway_lines::{End, center};
 use std::marker::Model;
 
@@ -73,21 +74,21 @@ impl Strip {
     }
 
     /// Where a point lies by the line of the primary surface.
-    pub(crate) fn by_primary(&self, x: &Point) -> Offset
+    pub(crate) fn by_primary(&self, x: &Point) -> Place
         ensures { result ≡ offset_of (primary_of self.now).line x.now }
     {
-        self.primary.axis.offset(x)
+        Place::of(&self.primary.axis.offset(x))
     }
 
     /// Where a point lies by the line of the approach surface of this end.
-    pub(crate) fn by_approach(&self, end: End, x: &Point) -> Offset
+    pub(crate) fn by_approach(&self, end: End, x: &Point) -> Place
         ensures { result ≡ offset_of (approach_of self.now end).line x.now }
     {
-        self.approach(end).axis.offset(x)
+        Place::of(&self.approach(end).axis.offset(x))
     }
 
     /// How far `top` is above the primary surface at a point that lies so by its line.
-    pub(crate) fn over_primary(&self, at: &Offset, x: &Point, top: i64) -> Option<u32>
+    pub(crate) fn over_primary(&self, at: &Place, x: &Point, top: i64) -> Option<u32>
         requires at { at.now ≡ offset_of (primary_of self.now).line x.now }
         requires top { IsLevel top }
         ensures exact { IsExcess (primary_surface self.now x.now) top result }
@@ -97,7 +98,7 @@ impl Strip {
     }
 
     /// How far `top` is above the approach surface of an end at a point that lies so by its line; the clauses alone name the point.
-    pub(crate) fn over_approach(&self, end: End, at: &Offset, x: &Point, top: i64) -> Option<u32>
+    pub(crate) fn over_approach(&self, end: End, at: &Place, x: &Point, top: i64) -> Option<u32>
         requires at { at.now ≡ offset_of (approach_of self.now end).line x.now }
         requires top { IsLevel top }
         ensures exact { IsExcess (approach_surface self.now end x.now) top result }
@@ -107,7 +108,7 @@ impl Strip {
     }
 
     /// How far `top` is above the transitional surface beside the primary surface at a point that lies so by that one's line.
-    pub(crate) fn beside_primary(&self, at: &Offset, x: &Point, top: i64, cap: &Cap) -> Option<u32>
+    pub(crate) fn beside_primary(&self, at: &Place, x: &Point, top: i64, cap: &Cap) -> Option<u32>
         requires at { at.now ≡ offset_of (primary_of self.now).line x.now }
         requires top { IsLevel top }
         ensures exact { IsExcess (primary_transition_surface self.now x.now cap.now) top result }
@@ -121,7 +122,7 @@ impl Strip {
     pub(crate) fn beside_approach(
         &self,
         end: End,
-        at: &Offset,
+        at: &Place,
         x: &Point,
         top: i64,
         cap: &Cap,
@@ -190,10 +191,10 @@ impl Strip {
     {
         let at = self.by_primary(x);
         if !self.primary.is_past_start(&at) {
-            return self.excesses_before(x, top, cap);
+            return self.excesses_before(&at, x, top, cap);
         }
         if !self.primary.is_before_end(&at) {
-            return self.excesses_past(x, top, cap);
+            return self.excesses_past(&at, x, top, cap);
         }
         self.excesses_between(&at, x, top, cap)
     }

@@ -7,33 +7,42 @@ ghost use Rattle.grid_exact.specs.Lines.{along, offset as offset_of, square};
 
 use crate::beside_approach::EndExcesses;
 use crate::excesses::StripExcesses;
+use crate::place::Place;
 use crate::strip::Strip;
-use grid_exact::{Cap, Offset, Point};
+use grid_exact::{Cap, Point};
 use runway_lines::End;
 
 impl Strip {
     ghost use Rattle.airfields.specs.Runways.{IsProper};
-    ghost use Rattle.imaginary_surfaces.specs.Strips.{IsStripExcesses, primary_of, approach_excess, approach_transition_excess};
+    ghost use Rattle.imaginary_surfaces.specs.Strips.{IsStripExcesses, primary_of, approach_of, approach_excess, approach_transition_excess};
 
-    /// How far `top` is above the approach surface of an end at a point, and above the transitional surface beside it.
-    fn excesses_at(&self, end: End, x: &Point, top: i64, cap: &Cap) -> EndExcesses
+    /// How far `top` is above the approach surface of an end at a point that lies so by its line, and above the transitional surface
+    /// beside it; the clauses alone name the point.
+    fn excesses_at(&self, end: End, at: &Place, x: &Point, top: i64, cap: &Cap) -> EndExcesses
+        requires at { at.now ≡ offset_of (approach_of self.now end).line x.now }
         requires top { IsLevel top }
         ensures over { result.over ≡ approach_excess self.now end x.now top }
         ensures beside { result.beside ≡ approach_transition_excess self.now end x.now cap.now top }
         ensures proper { IsProper self.now }
     {
         let _ = &self.primary; // a proof knows the invariant of a value where it reads a field
-        let at = self.by_approach(end, x);
-        self.approach(end).excesses(&at, top, cap)
+        self.approach(end).excesses(at, top, cap)
     }
 
-    /// How far `top` is above each surface at a point before the first end of the primary surface.
-    pub(crate) fn excesses_before(&self, x: &Point, top: i64, cap: &Cap) -> StripExcesses
+    /// How far `top` is above each surface at a point before the first end of the primary surface that lies so by its line.
+    pub(crate) fn excesses_before(
+        &self,
+        at: &Place,
+        x: &Point,
+        top: i64,
+        cap: &Cap,
+    ) -> StripExcesses
+        requires at { at.now ≡ offset_of (primary_of self.now).line x.now }
         requires before { along (primary_of self.now).line x.now <ℤ pos 0 }
         requires top { IsLevel top }
         ensures value { IsStripExcesses self.now x.now top cap.now result }
     {
-        let ahead = self.excesses_at(End::One, x, top, cap);
+        let ahead = self.excesses_at(End::One, &at.turned(), x, top, cap);
         StripExcesses {
             primary: None,
             approach1: ahead.over,
@@ -45,12 +54,13 @@ impl Strip {
     }
 
     /// The same at a point past its second end.
-    pub(crate) fn excesses_past(&self, x: &Point, top: i64, cap: &Cap) -> StripExcesses
+    pub(crate) fn excesses_past(&self, at: &Place, x: &Point, top: i64, cap: &Cap) -> StripExcesses
+        requires at { at.now ≡ offset_of (primary_of self.now).line x.now }
         requires past { pos (square (primary_of self.now).line) <ℤ along (primary_of self.now).line x.now }
         requires top { IsLevel top }
         ensures value { IsStripExcesses self.now x.now top cap.now result }
     {
-        let ahead = self.excesses_at(End::Two, x, top, cap);
+        let ahead = self.excesses_at(End::Two, &at.moved(), x, top, cap);
         StripExcesses {
             primary: None,
             approach1: None,
@@ -64,7 +74,7 @@ impl Strip {
     /// The same at a point between its two ends that lies so by its line.
     pub(crate) fn excesses_between(
         &self,
-        at: &Offset,
+        at: &Place,
         x: &Point,
         top: i64,
         cap: &Cap,

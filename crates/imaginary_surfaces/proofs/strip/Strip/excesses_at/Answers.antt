@@ -18,10 +18,10 @@ returns-clause-over c =
     let top = c.args.top in
     let e = c.excesses.result.over in
     let ft : FitsSigned w64 top = c.ranges.top in
-    let h : IsExcess (approach_at (approach_shape c.approach.result.now) c.by_approach-at.result) top e = simp to_z-of_z at c.excesses.ensures.over in
+    let h : IsExcess (approach_at (approach_shape c.approach.result.now) c.args.at.now) top e = simp to_z-of_z at c.excesses.ensures.over in
     approach_listed r end c.args.x.now top e c.excesses.ensures.over_size
-    (subst (λ (o : Offset). IsExcess (approach_at (approach_of r end) o) top e) c.by_approach-at.ensures
-    (subst (λ (a : Approach). IsExcess (approach_at a c.by_approach-at.result) top e) c.approach.ensures.shape h))
+    (subst (λ (o : Offset). IsExcess (approach_at (approach_of r end) o) top e) c.requires.at
+    (subst (λ (a : Approach). IsExcess (approach_at a c.args.at.now) top e) c.approach.ensures.shape h))
 
 pub returns-clause-beside : goal.returns-clause-beside
 returns-clause-beside c =
@@ -31,10 +31,10 @@ returns-clause-beside c =
     let cap = c.args.cap.now in
     let e = c.excesses.result.beside in
     let ft : FitsSigned w64 top = c.ranges.top in
-    let h : IsExcess (beside_approach_at (approach_shape c.approach.result.now) c.by_approach-at.result cap) top e = simp to_z-of_z at c.excesses.ensures.beside in
+    let h : IsExcess (beside_approach_at (approach_shape c.approach.result.now) c.args.at.now cap) top e = simp to_z-of_z at c.excesses.ensures.beside in
     approach_transition_listed r end c.args.x.now cap top e c.excesses.ensures.beside_size
-    (subst (λ (o : Offset). IsExcess (beside_approach_at (approach_of r end) o cap) top e) c.by_approach-at.ensures
-    (subst (λ (a : Approach). IsExcess (beside_approach_at a c.by_approach-at.result cap) top e) c.approach.ensures.shape h))
+    (subst (λ (o : Offset). IsExcess (beside_approach_at (approach_of r end) o cap) top e) c.requires.at
+    (subst (λ (a : Approach). IsExcess (beside_approach_at a c.args.at.now cap) top e) c.approach.ensures.shape h))
 
 pub returns-clause-proper : goal.returns-clause-proper
 returns-clause-proper c = subst (λ (r : Runway). IsProper r) c.self.view_is c.self.invariant.proper

@@ -2,6 +2,7 @@ use Rattle.std.proofs.Common.{FitsSigned, w64, to_z-of_z, arith, sym}
 use Rattle.std.proofs.lemmas.Int.{ints}
 use Rattle.runway_lines.specs.declared.end.End.TheVariants.{Two}
 use Rattle.imaginary_surfaces.proofs.ZoneFacts.{along_second, before_start, not_ahead}
+use Rattle.imaginary_surfaces.proofs.PlaceFacts.{by_first}
 use Rattle.imaginary_surfaces.proofs.strip.Strip.excesses_before.Goals as goal
 
 pub returns : goal.returns
@@ -24,3 +25,8 @@ returns c =
         beside_approach2 = sym other.beside;
       };
     }
+
+pub excesses_at-ahead-requires-clause-at : goal.excesses_at-ahead-requires-clause-at
+excesses_at-ahead-requires-clause-at c =
+    let e = c.turned.ensures in
+    by_first c.args.self.now c.args.x.now c.args.at.now c.turned.result c.requires.at e.along e.aside e.square

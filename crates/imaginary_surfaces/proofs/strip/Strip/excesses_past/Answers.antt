@@ -2,6 +2,7 @@ use Rattle.std.proofs.Common.{FitsSigned, w64, to_z-of_z, arith, sym}
 use Rattle.std.proofs.lemmas.Int.{ints}
 use Rattle.runway_lines.specs.declared.end.End.TheVariants.{One}
 use Rattle.imaginary_surfaces.proofs.ZoneFacts.{along_first, not_ahead, past_end}
+use Rattle.imaginary_surfaces.proofs.PlaceFacts.{by_second}
 use Rattle.imaginary_surfaces.proofs.strip.Strip.excesses_past.Goals as goal
 
 pub returns : goal.returns
@@ -24,3 +25,8 @@ returns c =
         beside_approach2 = simp to_z-of_z at c.excesses_at-ahead.ensures.beside;
       };
     }
+
+pub excesses_at-ahead-requires-clause-at : goal.excesses_at-ahead-requires-clause-at
+excesses_at-ahead-requires-clause-at c =
+    let e = c.moved.ensures in
+    by_second c.args.self.now c.args.x.now c.args.at.now c.moved.result c.requires.at e.along e.aside e.square

@@ -1,0 +1,97 @@
+//! Where a point lies by a line, in numbers of 64 bits.
+
+ghost use Rattle.std.specs.Prelude.{◌≡◌, ◌^◌, ◌≤◌, ◌<ℤ◌, ◌-ℤ◌, neg_ℤ, pos, unsigned_abs};
+ghost use Rattle.grid_exact.specs.Lines.{IsOffset, IsReach, IsSquare};
+
+use crate::roots::short;
+use grid_exact::Offset;
+use std::marker::Model;
+
+/// Where a point lies by a line: an offset whose numbers have 64 bits.
+#[derive(Clone, Copy)]
+pub(crate) struct Place {
+    along: i64,
+    aside: u64,
+    square: u64,
+}
+
+impl Model for Place {
+    ghost use Rattle.grid_exact.specs.Lines.{Offset as OffsetOf, IsOffset};
+
+    ghost Value = { OffsetOf };
+
+    ghost view = { λ p. record { along = p.along; aside = p.aside; square = p.square } };
+
+    ghost invariant = { λ p. IsOffset p.along p.aside p.square };
+
+    ghost inverse = { λ v. record { along = v.along; aside = v.aside; square = v.square } };
+}
+
+impl Place {
+    /// The same offset.
+    pub(crate) fn of(at: &Offset) -> Place
+        ensures { result ≡ at.now }
+    {
+        let along = short(at.along());
+        let aside = short(at.aside());
+        let square = at.square() as u64;
+        Place {
+            along,
+            aside: aside.unsigned_abs(),
+            square,
+        }
+    }
+
+    /// By the line from the same start that goes the other way.
+    #[tactic(auto, using(crate::proofs::PlaceFacts::places))]
+    pub(crate) fn turned(&self) -> Place
+        ensures along { result.along ≡ neg_ℤ self.now.along }
+        ensures aside { result.aside ≡ self.now.aside }
+        ensures square { result.square ≡ self.now.square }
+    {
+        Place {
+            along: -self.along,
+            aside: self.aside,
+            square: self.square,
+        }
+    }
+
+    /// By the line that goes on from the end of this one, of a point past it.
+    #[tactic(auto, using(crate::proofs::PlaceFacts::places))]
+    pub(crate) fn moved(&self) -> Place
+        requires past { pos self.now.square <ℤ self.now.along }
+        ensures along { result.along ≡ self.now.along -ℤ pos self.now.square }
+        ensures aside { result.aside ≡ self.now.aside }
+        ensures square { result.square ≡ self.now.square }
+    {
+        Place {
+            along: self.along - self.square as i64,
+            aside: self.aside,
+            square: self.square,
+        }
+    }
+
+    /// How far the point is from the start in the line's direction, times the line's length.
+    pub(crate) fn along(&self) -> i128
+        ensures value { result ≡ self.now.along }
+        ensures reach { IsReach (unsigned_abs self.now.along) self.now.square }
+    {
+        self.along as i128
+    }
+
+    /// How far the point is to a side of the line, times the line's length.
+    pub(crate) fn aside(&self) -> i128
+        ensures value { result ≡ pos self.now.aside }
+        ensures reach { IsReach self.now.aside self.now.square }
+    {
+        self.aside as i128
+    }
+
+    /// The square of the line's length.
+    pub(crate) fn square(&self) -> u128
+        ensures value { result ≡ self.now.square }
+        ensures line { IsSquare self.now.square }
+    {
+        self.square as u128
+    }
+}
