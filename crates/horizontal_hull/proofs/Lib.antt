@@ -14,3 +14,4 @@ pub mod Rises
 pub mod Beside
 pub mod Sights
 pub mod SightSizes
+pub mod Abreast

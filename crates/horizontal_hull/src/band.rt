@@ -1,6 +1,6 @@
 //! What lies between the tangents of two arcs.
 
-ghost use Rattle.std.specs.Prelude.{◌≡◌, ◌↔◌, ◌+◌, ◌-◌, ◌*◌, ◌^◌, ◌<◌, ◌≤◌, ◌+ℤ◌, ◌-ℤ◌, ◌*ℤ◌, neg_ℤ, pos, unsigned_abs, IsTrue};
+ghost use Rattle.std.specs.Prelude.{◌≡◌, ◌↔◌, ◌+◌, ◌-◌, ◌*◌, ◌^◌, ◌<◌, ◌≤◌, ◌+ℤ◌, ◌-ℤ◌, ◌*ℤ◌, ◌≤ℤ◌, neg_ℤ, pos, unsigned_abs, IsTrue};
 ghost use Rattle.grid_exact.specs.Root.{AtMostRoot};
 ghost use Rattle.horizontal_hull.specs.Bands.{IsBand, IsBandOf, IsBetween};
 ghost use Rattle.horizontal_hull.specs.Capsules.{ReachesRoot};
@@ -111,7 +111,18 @@ impl Band {
     pub(crate) fn is_between(&self) -> bool
         ensures { IsTrue result ↔ IsBetween self.now.square self.now.along self.now.across self.now.growth }
     {
+        if self.growth == 0 {
+            return self.is_abreast();
+        }
         self.is_open() && (self.is_after() && self.is_before())
+    }
+
+    /// Whether the centers are apart, and the point is not before the first or past the second one. It is the same for equal radii, which
+    /// the arcs of each runway have, and is asked faster.
+    fn is_abreast(&self) -> bool
+        ensures { IsTrue result ↔ ((0 < self.now.square) × ((pos 0 ≤ℤ self.now.along) × (self.now.along ≤ℤ pos self.now.square))) }
+    {
+        0 < self.square && (0 <= self.along && self.along <= self.square as i128)
     }
 
     /// How far along the line the point lies, times the distance between the centers and how much greater the second radius is.
