@@ -1,6 +1,7 @@
 //! What lies between the tangents of two arcs.
 
 ghost use Rattle.std.specs.Prelude.{◌≡◌, ◌↔◌, ◌+◌, ◌-◌, ◌*◌, ◌^◌, ◌<◌, ◌≤◌, ◌+ℤ◌, ◌-ℤ◌, ◌*ℤ◌, ◌≤ℤ◌, neg_ℤ, pos, unsigned_abs, IsTrue};
+ghost use Rattle.grid_exact.specs.Products.{cross, dot};
 ghost use Rattle.grid_exact.specs.Root.{AtMostRoot};
 ghost use Rattle.horizontal_hull.specs.Bands.{IsBand, IsBandOf, IsBetween};
 ghost use Rattle.horizontal_hull.specs.Capsules.{ReachesRoot};
@@ -9,7 +10,7 @@ ghost use Rattle.horizontal_hull.specs.Close.{IsNearBoth};
 use crate::arc::Arc;
 use crate::edge::Edge;
 use crate::sizes::CONICAL_RUN;
-use grid_exact::{Point, is_above_root, is_at_least_root, is_at_most_root, plus, scale};
+use grid_exact::{Point, Vector, is_above_root, is_at_least_root, is_at_most_root, plus, scale};
 
 /// A point beside the line from the center of an arc to the center of another one, whose radius is not the smaller.
 #[derive(Clone, Copy)]
@@ -17,7 +18,7 @@ pub(crate) struct Band {
     /// The square of the distance between the centers.
     square: u64,
     /// How far the point lies along the line, times that distance.
-    along: i128,
+    along: i64,
     /// How far it lies beside the line, times that distance.
     across: u64,
     /// How much greater the second radius is.
@@ -25,6 +26,20 @@ pub(crate) struct Band {
     /// The first radius, raised.
     radius: u32,
     ghost sized: { IsBand square along across growth radius },
+}
+
+/// How far a way leads along another one, times the length of that. It is so small that 64 bits hold it, in which more is asked faster.
+fn along_of(way: &Vector, seen: &Vector) -> i64
+    ensures { result ≡ dot way.now seen.now }
+{
+    way.dot(seen) as i64
+}
+
+/// How far it leads beside it.
+fn across_of(way: &Vector, seen: &Vector) -> u64
+    ensures { result ≡ unsigned_abs (cross way.now seen.now) }
+{
+    (way.cross(seen) as i64).unsigned_abs()
 }
 
 impl Band {
@@ -39,8 +54,8 @@ impl Band {
         let seen = a.to_point(x);
         Band {
             square: way.square_length() as u64,
-            along: way.dot(&seen),
-            across: way.cross(&seen).unsigned_abs() as u64,
+            along: along_of(&way, &seen),
+            across: across_of(&way, &seen),
             growth: b.radius() - a.radius(),
             radius: a.radius() + c,
         }
@@ -92,7 +107,11 @@ impl Band {
     pub(crate) fn is_after(&self) -> bool
         ensures { IsTrue result ↔ AtMostRoot (neg_ℤ (pos (self.now.growth * self.now.across))) self.now.along (self.now.square - self.now.growth * self.now.growth) }
     {
-        is_at_most_root(-(self.tilt() as i128), self.along, self.tangent() as u128)
+        is_at_most_root(
+            -(self.tilt() as i128),
+            self.along as i128,
+            self.tangent() as u128,
+        )
     }
 
     /// Whether the point is not past where the tangents touch the second arc.
@@ -102,7 +121,7 @@ impl Band {
     {
         is_at_most_root(
             self.tilt() as i128,
-            self.square as i128 - self.along,
+            self.square as i128 - self.along as i128,
             self.tangent() as u128,
         )
     }
@@ -122,7 +141,7 @@ impl Band {
     fn is_abreast(&self) -> bool
         ensures { IsTrue result ↔ ((0 < self.now.square) × ((pos 0 ≤ℤ self.now.along) × (self.now.along ≤ℤ pos self.now.square))) }
     {
-        0 < self.square && (0 <= self.along && self.along <= self.square as i128)
+        0 < self.square && (0 <= self.along && self.along <= self.square as i64)
     }
 
     /// How far along the line the point lies, times the distance between the centers and how much greater the second radius is.
@@ -131,7 +150,7 @@ impl Band {
         ensures value { result ≡ pos self.now.growth *ℤ self.now.along }
         ensures size { unsigned_abs result ≤ 2 ^ 58 }
     {
-        scale(self.growth as i64, self.along) as i64
+        self.growth as i64 * self.along
     }
 
     /// The square of how far beside the line the point lies, times the square of that distance and of the length of a tangent.
@@ -150,7 +169,7 @@ impl Band {
     {
         plus(
             (self.radius as u64 * self.square) as i128,
-            scale(self.growth as i64, self.along),
+            scale(self.growth as i64, self.along as i128),
         )
     }
 

@@ -1,4 +1,4 @@
-use Rattle.std.proofs.Common.{◌≡◌, arith}
+use Rattle.std.proofs.Common.{arith}
 use Rattle.horizontal_hull.proofs.Abreast.{abreast_between}
 use Rattle.horizontal_hull.proofs.band.Band.is_between.Goals as goal
 

@@ -1,5 +1,4 @@
-use Rattle.std.proofs.Common.{◌≤◌, unsigned_abs, FitsSigned, to_z-of_z, arith}
-use Rattle.std.specs.Int.{w128}
+use Rattle.std.proofs.Common.{◌≤◌, ◌^◌, unsigned_abs, FitsSigned, w64, to_z-of_z, arith}
 use Rattle.std.proofs.lemmas.Int.{ints}
 use Rattle.horizontal_hull.specs.declared.sizes.TheConstants.{CENTERS_APART, POINT_APART}
 use Rattle.horizontal_hull.proofs.BandSizes.{along_size, across_size, square_size}
@@ -14,14 +13,14 @@ invariant_of-result c =
     let ey : unsigned_abs way.y ≤ CENTERS_APART = rw c.to_arc-way.ensures.y near.way_y in
     let vx : unsigned_abs seen.x ≤ POINT_APART = rw c.to_point-seen.ensures.x near.first_x in
     let vy : unsigned_abs seen.y ≤ POINT_APART = rw c.to_point-seen.ensures.y near.first_y in
-    let fd : FitsSigned w128 c.dot.result = omega (arith, ints, c.dot.ensures.size) in
-    let fc : FitsSigned w128 c.cross.result = omega (arith, ints, c.cross.ensures.size) in
+    let size : unsigned_abs c.along_of.result ≤ 2 ^ 41 = rw c.along_of.ensures (along_size way.x way.y seen.x seen.y ex ey vx vy) in
+    let fits : FitsSigned w64 c.along_of.result = omega (arith, ints, size) in
     record {
-      sized = simp to_z-of_z (record {
+      sized = record {
         square_size = rw c.square_length.ensures.value (square_size way.x way.y ex ey);
-        along_size = rw c.dot.ensures.value (along_size way.x way.y seen.x seen.y ex ey vx vy);
-        across_size = rw (simp to_z-of_z at c.unsigned_abs.ensures.value, c.cross.ensures.value) (across_size way.x way.y seen.x seen.y ex ey vx vy);
+        along_size = simp to_z-of_z size;
+        across_size = rw c.across_of.ensures (across_size way.x way.y seen.x seen.y ex ey vx vy);
         growth_size = omega (arith, near.second_radius, c.radius.ensures);
         radius_size = omega (arith, near.first_radius, c.radius-3.ensures, c.requires.run);
-      });
+      };
     }
