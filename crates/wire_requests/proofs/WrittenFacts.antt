@@ -55,6 +55,18 @@ pub below_zero : (n : ℕ) → 0 < n → 45 ∷ decimal n ≡ signed_decimal (ne
 below_zero zero some = absurd (omega (arith, some))
 below_zero (suc n) some = let e : n ≡ suc n - 1 = omega arith in ap (λ m. signed_decimal (negsuc m)) e
 
+-- a dash before a comma
+pub dash : (text : List ℕ) → 2 ≤ length text → get_or text 0 0 ≡ 45 → get_or text 1 0 ≡ 44 → text ≡ codes "-" ++ 44 ∷ drop 2 text
+dash [] some e f = absurd (omega (arith, some))
+dash (a ∷ []) some e f = absurd (omega (arith, some))
+dash (a ∷ b ∷ bs) some e f = rw (e, f) refl
+
+-- a dash alone
+pub alone : (text : List ℕ) → length text ≡ 1 → get_or text 0 0 ≡ 45 → text ≡ codes "-"
+alone [] one e = absurd (omega (arith, one))
+alone (a ∷ []) one e = rw e refl
+alone (a ∷ b ∷ bs) one e = absurd (omega (arith, one))
+
 -- each field of a structure is what its form wants there
 site_fits : (s : Site) (before : List ℕ) → IsValidSite s → HasShape site_shape before (site_fields s)
 site_fits s before h =

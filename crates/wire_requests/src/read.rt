@@ -72,9 +72,17 @@ impl RecordReader {
         ensures found { IfOk result (λ r. IsRecord line.now r) }
         ensures malformed { IfErr result (λ e. IsRefusal line.now e) }
     {
-        if let Some(request) = question(line) {
-            return Ok(request);
+        match question(line) {
+            Some(query) => Ok(Request::Query(query)),
+            None => self.record(line),
         }
+    }
+
+    // The same for any line, by the list of its fields.
+    fn record(&mut self, line: &[u8]) -> Result<Request, ReadRefusal>
+        ensures found { IfOk result (λ r. IsRecord line.now r) }
+        ensures malformed { IfErr result (λ e. IsRefusal line.now e) }
+    {
         if line.len() > LINE_LIMIT {
             return Err(ReadRefusal::Malformed { field: 0 });
         }
@@ -101,5 +109,5 @@ pub fn read_record(alloc: Global, line: &[u8]) -> Result<Request, ReadRefusal>
     ensures found { IfOk result (λ r. IsRecord line.now r) }
     ensures malformed { IfErr result (λ e. IsRefusal line.now e) }
 {
-    RecordReader::new(alloc).read(line)
+    RecordReader::new(alloc).record(line)
 }

@@ -4,17 +4,18 @@
 //! last, each number together with the comma behind it; what is not so written is left to the reader of records, which also tells what
 //! is wrong with it.
 
-ghost use Rattle.std.specs.Prelude.{◌≡◌, ◌∷◌, ◌++◌, ◌+◌, ◌<◌, take, drop, get_or, length, true, codes, IfSome};
+ghost use Rattle.std.specs.Prelude.{◌≡◌, ◌∷◌, ◌++◌, ◌+◌, ◌<◌, take, drop, get_or, length, true, false, codes, if◌then◌else◌, IfSome};
 ghost use Rattle.std.specs.Str.Parse.{AllDigits, digits_value};
 ghost use Rattle.std.specs.Char.{digit_value};
 ghost use Rattle.std.specs.Fmt.{decimal, signed_decimal};
 ghost use Rattle.whole_number.specs.Whole.{HasNineDigits};
-ghost use Rattle.wire_values.specs.Words.{IsBetween};
+ghost use Rattle.wire_values.specs.Words.{IsBetween, flags_text, name_text, IsAirfieldName};
 ghost use Rattle.wire_values.specs.Commas.{joined};
 ghost use Rattle.wire_cursor.specs.Groups.{site_fields, IsValidSite};
 ghost use Rattle.wire_requests.specs.Requests.{IsRecord};
+ghost use Rattle.wire_requests.specs.declared.request.Request.TheVariants as requests;
 
-use crate::request::{Query, Request};
+use crate::request::Query;
 use airfields::{ELEVATION_LEAST, ELEVATION_MOST, FieldId, Filing, Flags, HEIGHT_LIMIT, StructureKind};
 use grid_exact::{COORDINATE_LIMIT, Point};
 use wire_values::FieldValue;
@@ -181,67 +182,104 @@ impl<'a> Text<'a> {
         let part = self.part()?;
         V::parse(part)
     }
-}
 
-// The structure that a text is the canonical line of.
-fn structure(text: &[u8]) -> Option<Filing>
-    ensures read { IfSome result (λ s. text.now ≡ joined (site_fields s)) }
-    ensures valid { IfSome result (λ s. IsValidSite s) }
-{
-    let mut text = Text { rest: text };
-    let x = text.number(-COORDINATE_LIMIT, COORDINATE_LIMIT)?;
-    let y = text.number(-COORDINATE_LIMIT, COORDINATE_LIMIT)?;
-    let terrain = text.number(ELEVATION_LEAST, ELEVATION_MOST)?;
-    let height = text.number(0, HEIGHT_LIMIT)?;
-    let kind: StructureKind = text.word()?;
-    let mobile = text.number(0, kind.mobile_most())?;
-    let flags: Flags = text.word()?;
-    let on: Option<FieldId> = FieldValue::parse(text.rest)?;
-    Some(Filing {
-        at: Point { x, y },
-        ground: terrain,
-        height,
-        kind,
-        mobile,
-        flags,
-        on,
-    })
-}
+    // Whether a dash stands before the next comma; both are then taken. Most structures have no flags, so that this spares the search.
+    #[tactic(auto, using(crate::proofs::WrittenFacts::dash))]
+    fn dash(&mut self) -> bool
+        ensures taken { result ≡ true → self.old.rest.now ≡ codes "-" ++ 44 ∷ self.new.rest.now }
+        ensures left { result ≡ false → self.new.rest.now ≡ self.old.rest.now }
+    {
+        let text = self.rest;
+        if text.len() < 2 {
+            return false;
+        }
+        if text[0] == b'-' && text[1] == b',' {
+            let (_, after) = text.split_at(2);
+            self.rest = after;
+            return true;
+        }
+        false
+    }
 
-// Whether a word is that of a screening.
-fn is_screen(word: &[u8]) -> bool
-    ensures { result ≡ true → word.now ≡ codes "screen" }
-{
-    match word {
-        b"screen" => true,
-        _ => false,
+    // The flags up to the next comma; both are then taken.
+    fn flags(&mut self) -> Option<Flags>
+        ensures { IfSome result (λ f. self.old.rest.now ≡ flags_text f ++ 44 ∷ self.new.rest.now) }
+    {
+        if self.dash() {
+            return Some(Flags {
+                shielded: false,
+                device: false,
+                other_rule: false,
+                increases: false,
+                controlled: false,
+                temporary: false,
+            });
+        }
+        self.word()
+    }
+
+    // The airfield that all the text that is left names, or none where it is a dash.
+    #[tactic(auto, using(crate::proofs::WrittenFacts::alone))]
+    fn airfield(&self) -> Option<Option<FieldId>>
+        ensures read { IfSome result (λ on. self.now.rest.now ≡ name_text on) }
+        ensures good { IfSome result (λ on. IsAirfieldName on) }
+    {
+        if self.rest.len() == 1 && self.rest[0] == b'-' {
+            return Some(None);
+        }
+        FieldValue::parse(self.rest)
+    }
+
+    // The structure that all the text that is left is the canonical line of.
+    #[inline(always)]
+    fn structure(&mut self) -> Option<Filing>
+        ensures read { IfSome result (λ s. self.old.rest.now ≡ joined (site_fields s)) }
+        ensures valid { IfSome result (λ s. IsValidSite s) }
+    {
+        let x = self.number(-COORDINATE_LIMIT, COORDINATE_LIMIT)?;
+        let y = self.number(-COORDINATE_LIMIT, COORDINATE_LIMIT)?;
+        let terrain = self.number(ELEVATION_LEAST, ELEVATION_MOST)?;
+        let height = self.number(0, HEIGHT_LIMIT)?;
+        let kind: StructureKind = self.word()?;
+        let mobile = self.number(0, kind.mobile_most())?;
+        let flags = self.flags()?;
+        let on = self.airfield()?;
+        Some(Filing {
+            at: Point { x, y },
+            ground: terrain,
+            height,
+            kind,
+            mobile,
+            flags,
+            on,
+        })
     }
 }
 
-// Whether a word is that of a question for a verdict.
-fn is_verdict(word: &[u8]) -> bool
-    ensures { result ≡ true → word.now ≡ codes "verdict" }
+// Whether a word asks for the findings of a structure, or for what they come to; `None` where it is another.
+fn asks_for_all(word: &[u8]) -> Option<bool>
+    ensures { IfSome result (λ all. word.now ≡ (if all then codes "screen" else codes "verdict")) }
 {
     match word {
-        b"verdict" => true,
-        _ => false,
+        b"screen" => Some(true),
+        b"verdict" => Some(false),
+        _ => None,
     }
 }
 
 /// The question about a structure whose canonical line this is, and `None` where it is not read here.
+#[inline(always)]
 #[tactic(auto, using(crate::proofs::WrittenFacts::screening, crate::proofs::WrittenFacts::verdict))]
-pub(crate) fn question(line: &[u8]) -> Option<Request>
-    ensures { IfSome result (λ r. IsRecord line.now r) }
+pub(crate) fn question(line: &[u8]) -> Option<Query>
+    ensures { IfSome result (λ q. IsRecord line.now (requests.Query q)) }
 {
     let mut text = Text { rest: line };
     let word = text.part()?;
-    if is_screen(word) {
-        let filing = structure(text.rest)?;
-        return Some(Request::Query(Query::Screen(filing)));
+    let all = asks_for_all(word)?;
+    let filing = text.structure()?;
+    if all {
+        Some(Query::Screen(filing))
+    } else {
+        Some(Query::Verdict(filing))
     }
-    if is_verdict(word) {
-        let filing = structure(text.rest)?;
-        return Some(Request::Query(Query::Verdict(filing)));
-    }
-    None
 }
