@@ -9,4 +9,4 @@ mod setbacks;
 
 pub use centerline::Centerline;
 pub use end::End;
-pub use lines::{between, center, class, end_class, outward};
+pub use lines::{center, class, end_class};

@@ -1,15 +1,14 @@
 //! The lines of a runway and its class.
 
 ghost use Rattle.std.specs.Prelude.{◌≡◌};
-ghost use Rattle.grid_exact.specs.Axes.{line_of};
 ghost use Rattle.runway_classes.specs.Class.{IsSized, HasSizes};
 ghost use Rattle.airfields.specs.Runways.{IsProper};
-ghost use Rattle.runway_lines.specs.Ends.{other as other_of, center_x, center_y, line_between, class_of, end_class_of};
+ghost use Rattle.runway_lines.specs.Ends.{center_x, center_y, class_of, end_class_of};
 
 use crate::end::End;
 use crate::setbacks::extended;
 use airfields::Runway;
-use grid_exact::{Axis, Start};
+use grid_exact::Start;
 use runway_classes::{EndClass, RunwayClass, classify};
 
 /// The center of the primary surface's end, at this end of a runway.
@@ -24,32 +23,6 @@ pub fn center(runway: &Runway, end: End) -> Start
     }
     let there = end.other().of(runway).at;
     extended(&here, &there, runway.square_length() as u128)
-}
-
-/// From the center at the first end of a runway to the one at its second end.
-pub fn between(runway: &Runway) -> Axis
-    requires proper { IsProper runway.now }
-    ensures line { line_of result ≡ line_between runway.now End.One End.One End.Two }
-{
-    let from = center(runway, End::One);
-    let to = center(runway, End::Two);
-    Axis {
-        from,
-        way: from.to_start(&to),
-    }
-}
-
-/// From the center at this end of a runway, outward by as much as the other center is away.
-pub fn outward(runway: &Runway, end: End) -> Axis
-    requires proper { IsProper runway.now }
-    ensures line { line_of result ≡ line_between runway.now end (other_of end) end }
-{
-    let from = center(runway, end);
-    let far = center(runway, end.other());
-    Axis {
-        from,
-        way: far.to_start(&from),
-    }
 }
 
 /// The class of a runway.
