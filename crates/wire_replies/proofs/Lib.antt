@@ -1,1 +1,2 @@
 mod DateFacts
+pub mod PageFacts

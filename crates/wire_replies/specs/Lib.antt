@@ -10,3 +10,4 @@ pub mod Cases
 pub mod Refusals
 pub mod Rows
 pub mod Replies
+pub mod Pages

@@ -1,147 +1,156 @@
 //! The texts of findings.
 
-ghost use Rattle.std.specs.Prelude.{◌≡◌, ◌++◌, OnOk, OnErr, codes, string_bytes};
+ghost use Rattle.std.specs.Prelude.{◌≡◌, ◌+◌, ◌≤◌, ◌++◌, length, OnOk, OnErr, codes, string_bytes};
 ghost use Rattle.std.specs.Fmt.{decimal};
 ghost use Rattle.grid_exact.specs.Texts.{Extends};
 ghost use Rattle.wire_values.specs.Words.{name_text};
 ghost use Rattle.wire_replies.specs.Entries as spec;
+ghost use Rattle.wire_replies.specs.Pages.{IsPiece};
 
-use crate::fields::{append_next_number, append_number};
+use crate::page::Page;
 use airfield_findings::{Finding, Rule, SurfaceKey};
 use airfields::RunwayName;
 use grid_exact::NoMemory;
-use wire_values::{FieldValue, append_text};
 
-// A comma, the word of a rule and a space.
-fn rule_head(rule: Rule) -> &'static str
-    ensures { result.now ≡ codes "," ++ spec.rule_word rule ++ codes " " }
+// A comma, the word of a rule and a space, padded to eight bytes, and how long they are.
+fn rule_head(rule: Rule) -> ([u8; 8], usize)
+    ensures { IsPiece result.0 result.1 (codes "," ++ spec.rule_word rule ++ codes " ") }
 {
     match rule {
-        Rule::H499 => ",17a1 ",
-        Rule::Near => ",17a2 ",
-        Rule::Horizontal => ",19a ",
-        Rule::Conical => ",19b ",
-        Rule::Primary => ",19c ",
-        Rule::Approach => ",19d ",
-        Rule::Transition => ",19e ",
-        Rule::PadPrimary => ",23p ",
-        Rule::PadApproach => ",23a ",
-        Rule::PadTransition => ",23t ",
-        Rule::NoticeA => ",9a ",
-        Rule::NoticeB1 => ",9b1 ",
-        Rule::NoticeB2 => ",9b2 ",
-        Rule::NoticeB3 => ",9b3 ",
-        Rule::NoticeD => ",9d ",
-        Rule::WayA => ",9c-a ",
-        Rule::WayB1 => ",9c-b1 ",
-        Rule::WayB2 => ",9c-b2 ",
-        Rule::WayB3 => ",9c-b3 ",
+        Rule::H499 => (*b",17a1 \0\0", 6),
+        Rule::Near => (*b",17a2 \0\0", 6),
+        Rule::Horizontal => (*b",19a \0\0\0", 5),
+        Rule::Conical => (*b",19b \0\0\0", 5),
+        Rule::Primary => (*b",19c \0\0\0", 5),
+        Rule::Approach => (*b",19d \0\0\0", 5),
+        Rule::Transition => (*b",19e \0\0\0", 5),
+        Rule::PadPrimary => (*b",23p \0\0\0", 5),
+        Rule::PadApproach => (*b",23a \0\0\0", 5),
+        Rule::PadTransition => (*b",23t \0\0\0", 5),
+        Rule::NoticeA => (*b",9a \0\0\0\0", 4),
+        Rule::NoticeB1 => (*b",9b1 \0\0\0", 5),
+        Rule::NoticeB2 => (*b",9b2 \0\0\0", 5),
+        Rule::NoticeB3 => (*b",9b3 \0\0\0", 5),
+        Rule::NoticeD => (*b",9d \0\0\0\0", 4),
+        Rule::WayA => (*b",9c-a \0\0", 6),
+        Rule::WayB1 => (*b",9c-b1 \0", 7),
+        Rule::WayB2 => (*b",9c-b2 \0", 7),
+        Rule::WayB3 => (*b",9c-b3 \0", 7),
     }
 }
 
-// Appends the airfield of an entry.
-fn append_airfield(text: &mut String, rule: Rule, key: &SurfaceKey) -> Result<(), NoMemory>
-    ensures ok { OnOk result (string_bytes text.new ≡ string_bytes text.old ++ spec.airfield_text rule key.now) }
-    ensures part { OnErr result (Extends (string_bytes text.old) (string_bytes text.new)) }
+// Puts the airfield of an entry.
+#[inline(always)]
+fn put_airfield(page: &mut Page, rule: Rule, key: &SurfaceKey)
+    requires room { length page.old + 8 ≤ 1024 }
+    ensures put { page.new ≡ page.old ++ spec.airfield_text rule key.now }
+    ensures few { length page.new ≤ length page.old + 8 }
 {
     match rule {
-        Rule::H499 | Rule::NoticeA | Rule::WayA => append_text(text, "-"),
-        _ => key.field.append(text),
+        Rule::H499 | Rule::NoticeA | Rule::WayA => page.put_byte(b'-'),
+        _ => match &key.field {
+            Some(name) => page.put_field(name),
+            None => page.put_byte(b'-'),
+        },
     }
 }
 
-// Appends the name of a runway, or a dash.
-fn append_runway(text: &mut String, runway: &Option<RunwayName>) -> Result<(), NoMemory>
-    ensures ok { OnOk result (string_bytes text.new ≡ string_bytes text.old ++ name_text runway.now) }
-    ensures part { OnErr result (Extends (string_bytes text.old) (string_bytes text.new)) }
+// Puts the name of a runway, or a dash.
+#[inline(always)]
+fn put_runway(page: &mut Page, runway: &Option<RunwayName>)
+    requires room { length page.old + 8 ≤ 1024 }
+    ensures put { page.new ≡ page.old ++ name_text runway.now }
+    ensures few { length page.new ≤ length page.old + 8 }
 {
     match runway {
-        Some(name) => name.append(text),
-        None => append_text(text, "-"),
+        Some(name) => page.put_runway(name),
+        None => page.put_byte(b'-'),
     }
 }
 
-// Appends the runway of a key and its end or side, a dot between.
-#[tactic(auto, using(grid_exact::proofs::Extending::extending))]
-fn append_runway_part(text: &mut String, key: &SurfaceKey) -> Result<(), NoMemory>
-    ensures ok { OnOk result (string_bytes text.new ≡ string_bytes text.old ++ spec.runway_part_text key.now) }
-    ensures part { OnErr result (Extends (string_bytes text.old) (string_bytes text.new)) }
+// Puts the runway of a key, a space before and behind it.
+fn put_spaced_runway(page: &mut Page, key: &SurfaceKey)
+    requires room { length page.old + 64 ≤ 1024 }
+    ensures put { page.new ≡ page.old ++ (codes " " ++ name_text key.now.runway ++ codes " ") }
+    ensures few { length page.new ≤ length page.old + 64 }
 {
-    append_runway(text, &key.runway)?;
-    append_text(text, ".")?;
-    append_number(text, u64::from(key.part))
+    page.put_byte(b' ');
+    put_runway(page, &key.runway);
+    page.put_byte(b' ');
 }
 
-// Appends the runway of a key, a space before and behind it.
-#[tactic(auto, using(grid_exact::proofs::Extending::extending))]
-fn append_spaced_runway(text: &mut String, key: &SurfaceKey) -> Result<(), NoMemory>
-    ensures ok { OnOk result (string_bytes text.new ≡ string_bytes text.old ++ (codes " " ++ name_text key.now.runway ++ codes " ")) }
-    ensures part { OnErr result (Extends (string_bytes text.old) (string_bytes text.new)) }
+// Puts the runway of a key and its end or side, a dot between, and a space before and behind them.
+fn put_spaced_runway_part(page: &mut Page, key: &SurfaceKey)
+    requires room { length page.old + 64 ≤ 1024 }
+    ensures put { page.new ≡ page.old ++ (codes " " ++ spec.runway_part_text key.now ++ codes " ") }
+    ensures few { length page.new ≤ length page.old + 64 }
 {
-    append_text(text, " ")?;
-    append_runway(text, &key.runway)?;
-    append_text(text, " ")
+    page.put_byte(b' ');
+    put_runway(page, &key.runway);
+    page.put_byte(b'.');
+    page.put_number(u64::from(key.part));
+    page.put_byte(b' ');
 }
 
-// Appends the runway of a key and its end or side, a space before and behind them.
-#[tactic(auto, using(grid_exact::proofs::Extending::extending))]
-fn append_spaced_runway_part(text: &mut String, key: &SurfaceKey) -> Result<(), NoMemory>
-    ensures ok { OnOk result (string_bytes text.new ≡ string_bytes text.old ++ (codes " " ++ spec.runway_part_text key.now ++ codes " ")) }
-    ensures part { OnErr result (Extends (string_bytes text.old) (string_bytes text.new)) }
+// Puts the end or side of a key, a space before and behind it.
+fn put_spaced_part(page: &mut Page, key: &SurfaceKey)
+    requires room { length page.old + 64 ≤ 1024 }
+    ensures put { page.new ≡ page.old ++ (codes " " ++ decimal key.now.part ++ codes " ") }
+    ensures few { length page.new ≤ length page.old + 64 }
 {
-    append_text(text, " ")?;
-    append_runway_part(text, key)?;
-    append_text(text, " ")
+    page.put_byte(b' ');
+    page.put_number(u64::from(key.part));
+    page.put_byte(b' ');
 }
 
-// Appends the end or side of a key, a space before and behind it.
-#[tactic(auto, using(grid_exact::proofs::Extending::extending))]
-fn append_spaced_part(text: &mut String, key: &SurfaceKey) -> Result<(), NoMemory>
-    ensures ok { OnOk result (string_bytes text.new ≡ string_bytes text.old ++ (codes " " ++ decimal key.now.part ++ codes " ")) }
-    ensures part { OnErr result (Extends (string_bytes text.old) (string_bytes text.new)) }
+// Puts the dash of an entry that tells no surface, a space before and behind it.
+#[inline(always)]
+fn put_spaced_dash(page: &mut Page)
+    requires room { length page.old + 8 ≤ 1024 }
+    ensures put { page.new ≡ page.old ++ codes " - " }
+    ensures few { length page.new ≤ length page.old + 8 }
 {
-    append_text(text, " ")?;
-    append_number(text, u64::from(key.part))?;
-    append_text(text, " ")
+    page.put_piece(*b" - \0\0\0\0\0", 3);
 }
 
-// Appends the surface of an entry, a space before and behind it. Most have none, and their dash is one piece with the spaces.
-fn append_surface(text: &mut String, rule: Rule, key: &SurfaceKey) -> Result<(), NoMemory>
-    ensures ok { OnOk result (string_bytes text.new ≡ string_bytes text.old ++ (codes " " ++ spec.surface_text rule key.now ++ codes " ")) }
-    ensures part { OnErr result (Extends (string_bytes text.old) (string_bytes text.new)) }
+// Puts the surface of an entry, a space before and behind it. Most have none, and their dash is one piece with the spaces.
+#[inline(always)]
+fn put_surface(page: &mut Page, rule: Rule, key: &SurfaceKey)
+    requires room { length page.old + 64 ≤ 1024 }
+    ensures put { page.new ≡ page.old ++ (codes " " ++ spec.surface_text rule key.now ++ codes " ") }
+    ensures few { length page.new ≤ length page.old + 64 }
 {
     match rule {
         Rule::Primary | Rule::NoticeB1 | Rule::NoticeB2 | Rule::WayB1 | Rule::WayB2 => {
-            append_spaced_runway(text, key)
+            put_spaced_runway(page, key);
         }
-        Rule::Approach | Rule::Transition => append_spaced_runway_part(text, key),
-        Rule::PadApproach | Rule::PadTransition => append_spaced_part(text, key),
-        _ => append_text(text, " - "),
+        Rule::Approach | Rule::Transition => put_spaced_runway_part(page, key),
+        Rule::PadApproach | Rule::PadTransition => put_spaced_part(page, key),
+        _ => put_spaced_dash(page),
     }
 }
 
-// Appends an entry, a comma before it.
-#[tactic(auto, using(grid_exact::proofs::Extending::extending))]
-fn append_entry(text: &mut String, finding: &Finding) -> Result<(), NoMemory>
-    ensures ok { OnOk result (string_bytes text.new ≡ string_bytes text.old ++ (codes "," ++ spec.entry_text finding.now)) }
-    ensures part { OnErr result (Extends (string_bytes text.old) (string_bytes text.new)) }
+// Puts an entry, a comma before it.
+#[inline(always)]
+fn put_entry(page: &mut Page, finding: &Finding)
+    requires room { length page.old + 128 ≤ 1024 }
+    ensures put { page.new ≡ page.old ++ (codes "," ++ spec.entry_text finding.now) }
 {
-    append_text(text, rule_head(finding.rule))?;
-    append_airfield(text, finding.rule, &finding.key)?;
-    append_surface(text, finding.rule, &finding.key)?;
-    append_number(text, u64::from(finding.excess))
+    let (word, len) = rule_head(finding.rule);
+    page.put_piece(word, len);
+    put_airfield(page, finding.rule, &finding.key);
+    put_surface(page, finding.rule, &finding.key);
+    page.put_number(u64::from(finding.excess));
 }
 
-// Appends the entries of a list.
-#[tactic(auto, using(grid_exact::proofs::Extending::extending))]
-fn append_entries(text: &mut String, list: &[Finding]) -> Result<(), NoMemory>
-    ensures ok { OnOk result (string_bytes text.new ≡ string_bytes text.old ++ spec.entries_text list.now) }
-    ensures part { OnErr result (Extends (string_bytes text.old) (string_bytes text.new)) }
+// Puts a comma and how many entries a list has.
+#[inline(always)]
+fn put_count(page: &mut Page, count: u64)
+    requires room { length page.old + 128 ≤ 1024 }
+    ensures put { page.new ≡ page.old ++ (codes "," ++ decimal count) }
 {
-    for finding in list {
-        append_entry(text, finding)?;
-    }
-    Ok(())
+    page.put_byte(b',');
+    page.put_number(count);
 }
 
 /// Appends a list: how many entries it has, and the entries, a comma before each.
@@ -154,6 +163,11 @@ pub fn append_list(text: &mut String, list: &[Finding]) -> Result<(), NoMemory>
     ensures ok { OnOk result (string_bytes text.new ≡ string_bytes text.old ++ spec.list_text list.now) }
     ensures part { OnErr result (Extends (string_bytes text.old) (string_bytes text.new)) }
 {
-    append_next_number(text, list.len() as u64)?;
-    append_entries(text, list)
+    let mut page = Page::new();
+    put_count(&mut page, list.len() as u64);
+    for finding in list {
+        page.make_room(text)?;
+        put_entry(&mut page, finding);
+    }
+    page.flush(text)
 }

@@ -12,6 +12,7 @@ mod dates;
 mod entries;
 mod fields;
 mod outcomes;
+mod page;
 mod refusals;
 mod replies;
 mod reply;
