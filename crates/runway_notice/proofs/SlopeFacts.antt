@@ -1,5 +1,5 @@
 -- The excess over the slope from one runway, as the tests compute it.
-use Rattle.std.proofs.Common.{◌≡◌, ◌*◌, ◌≤◌, ◌^◌, ℕ, ℤ, pos, negsuc, ◌-ℤ◌, ◌*ℤ◌, ◌≤ℤ◌, ◌<ℤ◌, int_le, unsigned_abs, true, arith}
+use Rattle.std.proofs.Common.{◌≡◌, ◌*◌, ◌≤◌, ◌<◌, ◌^◌, ℕ, ℤ, pos, negsuc, ◌-ℤ◌, ◌*ℤ◌, ◌≤ℤ◌, ◌<ℤ◌, int_le, unsigned_abs, true, subst, arith}
 use Rattle.std.specs.Prelude.{nat_le, nat_lt}
 use Rattle.std.proofs.lemmas.Bool.{and_from, and_parts, le-leb, leb-true, lt-ltb, ltb-true}
 use Rattle.std.proofs.lemmas.Int.{ints, by_lt_z}
@@ -71,7 +71,7 @@ slope_tests a r x =
     }
 
 -- ---- no level below the runway is at or above its slope, and no runway is below all levels
-ratio_rises : (s : Sub) → pos 0 <ℤ ratio_of s
+pub ratio_rises : (s : Sub) → pos 0 <ℤ ratio_of s
 ratio_rises B1 = omega (arith, ints)
 ratio_rises B2 = omega (arith, ints)
 
@@ -80,6 +80,14 @@ from_base ratio base z p h =
     by_lt_z z base
     (λ l. absurd (let m : (ratio *ℤ (z -ℤ base)) ≤ℤ (ratio *ℤ negsuc 0) = mul-le_left ratio (z -ℤ base) (negsuc 0) p (omega (arith, ints, l)) in omega (arith, ints, h, m, p)))
     (λ l. l)
+
+-- what is not above the base is not above the slope
+pub not_over : (d : Fraction) (ratio base z : ℤ) → pos 0 <ℤ ratio → z ≤ℤ base → IsAboveRootOf d (run_of ratio base z) → ⊥
+not_over d ratio base z p l h =
+    let m : run_of ratio base z ≤ℤ (ratio *ℤ pos 0) = mul-le_left ratio (z -ℤ base) (pos 0) p (omega (arith, ints, l)) in
+    let e : run_of ratio base z ≡ pos 0 = omega (arith, ints, m, h.not_negative) in
+    let k : d.part < unsigned_abs (pos 0) * unsigned_abs (pos 0) * d.whole = subst (λ (b : ℤ). d.part < unsigned_abs b * unsigned_abs b * d.whole) e h.square in
+    omega (arith, k)
 
 elevation_size : (x : Point) (r : Runway) → IsProper r → unsigned_abs (elevation_of x r) ≤ 2 ^ 19
 unfolding profile_of

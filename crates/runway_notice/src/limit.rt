@@ -13,8 +13,6 @@ pub(crate) struct SlopeLimit {
     pub(crate) distance: SquareDistance,
     pub(crate) base: i64,
     pub(crate) ratio: i64,
-    /// About how far above `base` it is over the point, rounded down: a guess, of which nothing is asked.
-    pub(crate) about_rise: u32,
     ghost rises: { IsSlopeFrom base ratio },
 }
 

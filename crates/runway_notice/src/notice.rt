@@ -1,13 +1,12 @@
 //! Notice by the slope from the nearest runway of an airport.
 
-ghost use Rattle.std.specs.Prelude.{◌≡◌, true};
+ghost use Rattle.std.specs.Prelude.{◌≡◌, ◌≤◌, ◌^◌, true, unsigned_abs};
 ghost use Rattle.grid_exact.specs.Level.{IsLevel};
 ghost use Rattle.airfields.specs.Airfields.{IsHeldAirport};
 ghost use Rattle.airfields.specs.Categories.{is_described};
 ghost use Rattle.runway_notice.specs.Areas.{is_far as is_far_from};
 ghost use Rattle.runway_notice.specs.Candidates.{IsCandidate};
 ghost use Rattle.runway_notice.specs.Measures.{fraction};
-ghost use Rattle.runway_notice.specs.Nearest.{distance_of, elevation_of};
 ghost use Rattle.runway_notice.specs.Slopes.{ratio_of, sub_of as sub_of_runways};
 ghost use Rattle.runway_notice.specs.Surfaces.{slope_excess};
 ghost use Rattle.runway_notice.specs.Notices.{IsNoticeSlope, notice_slope};
@@ -17,6 +16,7 @@ use crate::guesses::Guesses;
 use crate::limit::SlopeLimit;
 use crate::nearest::nearest;
 use crate::slope::{RANGE_B1, Slope, Sub};
+use crate::square_distance::SquareDistance;
 use airfields::{Airport, RUNWAY_REACH, Runways};
 use grid_exact::Point;
 
@@ -39,22 +39,22 @@ fn is_far(arp: &Point, point: &Point) -> bool
     point.x.abs_diff(arp.x) > SLOPE_REACH || point.y.abs_diff(arp.y) > SLOPE_REACH
 }
 
-/// The slope from the runway over the point.
-fn limit(runway: &Candidate, guesses: &Guesses, sub: Sub, point: &Point) -> SlopeLimit
-    requires candidate { IsCandidate point.now runway.now }
-    ensures distance { fraction result.distance ≡ distance_of point.now runway.now.runway.now }
-    ensures base { result.base ≡ elevation_of point.now runway.now.runway.now }
+/// The slope from the elevation `base` over a point at this distance.
+fn limit(distance: SquareDistance, base: i64, sub: Sub) -> SlopeLimit
+    requires size { unsigned_abs base ≤ 2 ^ 19 }
+    ensures distance { fraction result.distance ≡ fraction distance }
+    ensures base { result.base ≡ base }
     ensures ratio { result.ratio ≡ ratio_of sub }
 {
     SlopeLimit {
-        distance: runway.distance(),
-        base: runway.elevation(point, guesses),
+        distance,
+        base,
         ratio: sub.ratio(),
-        about_rise: sub.rise_at(runway.about_distance(point, guesses)),
     }
 }
 
-/// How far `top` is above the slope from a runway of the airport at the point.
+/// How far `top` is above the slope from a runway of the airport at the point. A top that is not above the runway is left out before
+/// any distance is compared.
 pub(crate) fn excess_over(
     airport: &Airport,
     runway: &Candidate,
@@ -69,10 +69,15 @@ pub(crate) fn excess_over(
     requires top { IsLevel top }
     ensures { result ≡ slope_excess airport.now runway.now.runway.now point.now top }
 {
-    if !runway.distance().is_at_most(sub.range()) {
+    let base = runway.elevation(point, guesses);
+    if top <= base {
         return None;
     }
-    limit(runway, guesses, sub, point).excess(top)
+    let distance = runway.distance();
+    if !distance.is_at_most(sub.range()) {
+        return None;
+    }
+    limit(distance, base, sub).excess(runway, guesses, sub, point, top)
 }
 
 /// The slope that `top` is above, as `excess_notice` answers it. It stands apart so that what `excess_notice` says besides is proved

@@ -1,64 +1,63 @@
-//! The least level that reaches a slope over a point, looked for near a guess first.
+//! The least level that reaches a slope over a point: a guess, where that is right.
 
-ghost use Rattle.std.specs.Prelude.{ℤ, ◌≤◌, ◌^◌, ◌≤ℤ◌, IfSome};
+ghost use Rattle.std.specs.Prelude.{ℤ, ◌≤◌, ◌^◌, ◌≤ℤ◌, IfSome, IsTrue};
 ghost use Rattle.grid_exact.specs.Excess.{IsExcess, covering};
 ghost use Rattle.grid_exact.specs.Level.{IsLevel};
 ghost use Rattle.runway_notice.specs.Distances.{IsAboveRootOf, IsAtLeastRootOf, run_of};
 ghost use Rattle.runway_notice.specs.Measures.{fraction};
 
+use crate::candidate::Candidate;
+use crate::guesses::Guesses;
 use crate::limit::SlopeLimit;
-use grid_exact::{Rising, Sloping, least_reached};
+use crate::slope::Sub;
+use grid_exact::{Point, Rising, Sloping, least_reached};
 
 impl SlopeLimit {
-    /// About the least level that reaches it, or one more, and none above `top`.
-    fn guess(&self, top: i64) -> i64
+    /// The least level that reaches it by a guess of how far above `base` it is, rounded down, and none above `top`.
+    fn guess(&self, about_rise: u32, top: i64) -> i64
         requires top { IsLevel top }
         ensures level { IsLevel result }
     {
-        let guess = self.base + i64::from(self.about_rise) + 1;
+        let guess = self.base + i64::from(about_rise) + 1;
         if guess < top { guess } else { top }
     }
 
-    /// A level that reaches it: the guess, where it does, and else `top`.
-    fn reached_level(&self, guess: i64, top: i64) -> i64
-        requires guess { IsLevel guess }
-        requires top { IsLevel top }
-        requires reached { IsAtLeastRootOf (fraction self.now.distance) (run_of self.now.ratio self.now.base top) }
-        ensures level { IsLevel result }
-        ensures reached { IsAtLeastRootOf (fraction self.now.distance) (run_of self.now.ratio self.now.base result) }
+    /// Whether the level is the least that reaches it.
+    fn is_least(&self, level: i64) -> bool
+        requires level { IsLevel level }
+        ensures reached { IsTrue result → IsAtLeastRootOf (fraction self.now.distance) (run_of self.now.ratio self.now.base level) }
+        ensures least { IsTrue result → (z : ℤ) → IsAtLeastRootOf (fraction self.now.distance) (run_of self.now.ratio self.now.base z) → level ≤ℤ z }
     {
-        if self.is_reached(guess) { guess } else { top }
-    }
-
-    /// A level under which none reaches it: the guess, where none below it does, and else the lowest.
-    fn least_possible(&self, guess: i64) -> i64
-        requires guess { IsLevel guess }
-        ensures level { IsLevel result }
-        ensures lowest { (z : ℤ) → IsAtLeastRootOf (fraction self.now.distance) (run_of self.now.ratio self.now.base z) → result ≤ℤ z }
-    {
-        let lowest = self.lowest();
-        if guess <= lowest || self.is_reached(guess - 1) {
-            return lowest;
+        if level <= self.lowest() || self.is_reached(level - 1) {
+            return false;
         }
-        guess
+        self.is_reached(level)
     }
 
-    /// The least level that reaches it, where `top` does.
-    fn least_level(&self, top: i64) -> i64
+    /// The least level that reaches it, where `top` does: the guess, where it is that.
+    fn least_level(&self, about_rise: u32, top: i64) -> i64
         requires top { IsLevel top }
         requires reached { IsAtLeastRootOf (fraction self.now.distance) (run_of self.now.ratio self.now.base top) }
         ensures reached { IsAtLeastRootOf (fraction self.now.distance) (run_of self.now.ratio self.now.base result) }
         ensures least { (z : ℤ) → IsAtLeastRootOf (fraction self.now.distance) (run_of self.now.ratio self.now.base z) → result ≤ℤ z }
         ensures level { IsLevel result }
     {
-        let guess = self.guess(top);
-        let low = self.least_possible(guess);
-        let high = self.reached_level(guess, top);
-        least_reached(self, low, high)
+        let guess = self.guess(about_rise, top);
+        if self.is_least(guess) {
+            return guess;
+        }
+        least_reached(self, self.lowest(), top)
     }
 
-    /// How far `top` is above it, rounded down.
-    pub(crate) fn excess(&self, top: i64) -> Option<u32>
+    /// How far `top` is above it, rounded down. Where it is, the level is guessed from about how far the point is from the runway.
+    pub(crate) fn excess(
+        &self,
+        runway: &Candidate,
+        guesses: &Guesses,
+        sub: Sub,
+        point: &Point,
+        top: i64,
+    ) -> Option<u32>
         requires top { IsLevel top }
         ensures excess { IsExcess (covering (λ z. IsAboveRootOf (fraction self.now.distance) (run_of self.now.ratio self.now.base z)) (λ z. IsAtLeastRootOf (fraction self.now.distance) (run_of self.now.ratio self.now.base z))) top result }
         ensures size { IfSome result (λ e. e ≤ 2 ^ 26) }
@@ -66,6 +65,7 @@ impl SlopeLimit {
         if !self.is_exceeded(top) {
             return None;
         }
-        Some((top - self.least_level(top)) as u32)
+        let about_rise = sub.rise_at(runway.about_distance(point, guesses));
+        Some((top - self.least_level(about_rise, top)) as u32)
     }
 }

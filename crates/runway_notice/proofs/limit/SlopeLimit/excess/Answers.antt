@@ -31,3 +31,10 @@ returns-clause-excess c =
     let fd : FitsSigned w64 (c.args.top -ℤ c.least_level.result) = omega (arith, ints, c.least_level.ensures.level, c.requires.top) in
     simp to_z-of_z (exceeds_by (λ (z : ℤ). IsAboveRootOf (fraction l.distance) (run_of l.ratio l.base z)) (λ (z : ℤ). IsAtLeastRootOf (fraction l.distance) (run_of l.ratio l.base z)) c.args.top c.least_level.result
     (λ z h. above_reaches (fraction l.distance) (run_of l.ratio l.base z) h) (above c) c.least_level.ensures.reached c.least_level.ensures.least)
+
+pub returns-clause-size : goal.returns-clause-size
+returns-clause-size c =
+    let ft : FitsSigned w64 c.args.top = c.ranges.top in
+    let fl : FitsSigned w64 c.least_level.result = omega (arith, ints, c.least_level.ensures.level) in
+    let fd : FitsSigned w64 (c.args.top -ℤ c.least_level.result) = omega (arith, ints, c.least_level.ensures.level, c.requires.top) in
+    simp to_z-of_z (omega (arith, ints, c.least_level.ensures.level, c.requires.top, ordered c))
