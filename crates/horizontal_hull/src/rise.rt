@@ -30,6 +30,7 @@ fn probe(least: u32, reached: u32, guess: u32) -> u32
 }
 
 /// The least rise, below `most`, of the capsule of two arcs that has a point.
+#[inline(always)]
 fn rise_of_two(a: &Arc, b: &Arc, x: &Point, most: u32) -> u32
     requires near { IsNearBoth a.now b.now x.now }
     requires most { most ≤ CONICAL_RISE + 1 }
@@ -71,6 +72,10 @@ pub(crate) fn least_rise(arcs: &[Arc], x: &Point) -> u32
     requires close { AreClose arcs.now x.now }
     ensures { IsLeastRise (λ k. some_two (in_risen x.now k) arcs.now) (CONICAL_RISE + 1) result }
 {
+    // An airport with one runway has but two.
+    if let [a, b] = arcs {
+        return rise_of_two(a, b, x, CONICAL_RISE + 1);
+    }
     let mut rise = CONICAL_RISE + 1;
     for (i, a) in arcs.iter().enumerate() {
         rise = rise_with(a, &arcs[i + 1..], x, rise);

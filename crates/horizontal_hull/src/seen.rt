@@ -12,7 +12,7 @@ use crate::arc::Arc;
 use crate::band::Band;
 use crate::sizes::{CONICAL_RISE, CONICAL_RUN, CONICAL_SLOPE};
 use grid_exact::Point;
-use std::num::{nearest_i64_to_f64, nearest_u64_to_f64, saturating_f64_to_u32};
+use std::num::{nearest_i64_to_f64, saturating_f64_to_u32};
 
 /// A point as two arcs see it, of which the second is not the smaller one: what is the same however much their radii are raised, so that it
 /// is computed once.
@@ -38,25 +38,29 @@ pub(crate) struct Seen {
     pub(crate) is_open: bool,
     /// Whether besides it lies between where the tangents touch the arcs.
     pub(crate) is_between: bool,
-    ghost sized: { IsSight first_radius second_radius square lean },
+    ghost sized: { IsSight first second first_radius second_radius square tangent across lean },
 }
 
 /// The square of how far a point is from the center of an arc.
 fn square_to(a: &Arc, x: &Point) -> u64
-    ensures { result ≡ away a.now x.now }
+    ensures value { result ≡ away a.now x.now }
+    ensures size { result ≤ 2 ^ 55 }
 {
     a.to_point(x).square_length() as u64
 }
 
 /// How far beyond an arc a point is, by the square of how far it is from the center.
-fn beyond_disc(square: u64, radius: u32) -> f64 {
-    nearest_u64_to_f64(square).sqrt() - f64::from(radius)
+fn beyond_disc(square: u64, radius: u32) -> f64
+    requires { square ≤ 2 ^ 55 }
+{
+    nearest_i64_to_f64(square as i64).sqrt() - f64::from(radius)
 }
 
 impl Seen {
     ghost use Rattle.horizontal_hull.specs.Sights.{InSight, IsSeen, IsSeenOf, IsUnder, width as width_of};
 
     /// A point seen by two arcs, of which the second is not the smaller one.
+    #[inline(always)]
     fn ordered(a: &Arc, b: &Arc, x: &Point) -> Seen
         requires near { IsNearBoth a.now b.now x.now }
         requires order { a.now.radius ≤ b.now.radius }
@@ -147,9 +151,10 @@ impl Seen {
     /// How far it is beyond the arcs joined by their tangents, about.
     fn beyond(&self) -> f64 {
         if self.is_between {
-            let root = nearest_u64_to_f64(self.tangent).sqrt();
-            let ways = nearest_u64_to_f64(self.across) * root - nearest_i64_to_f64(self.lean);
-            return ways / nearest_u64_to_f64(self.square) - f64::from(self.first_radius);
+            let root = nearest_i64_to_f64(self.tangent as i64).sqrt();
+            let ways = nearest_i64_to_f64(self.across as i64) * root
+                - nearest_i64_to_f64(self.lean);
+            return ways / nearest_i64_to_f64(self.square as i64) - f64::from(self.first_radius);
         }
         let second = beyond_disc(self.second, self.second_radius);
         if !self.is_open {

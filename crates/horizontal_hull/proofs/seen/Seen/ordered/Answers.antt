@@ -7,8 +7,8 @@ returns c =
     let band = c.of-band.ensures in
     let fits : FitsSigned w64 c.lean.result = omega (arith, ints, c.lean.ensures.size) in
     record {
-      first_is = c.square_to.ensures;
-      second_is = c.square_to-2.ensures;
+      first_is = c.square_to.ensures.value;
+      second_is = c.square_to-2.ensures.value;
       first_radius_is = c.radius.ensures;
       second_radius_is = c.radius-2.ensures;
       square_is = c.square.ensures.value ∙ band.square_is;
