@@ -1,6 +1,7 @@
 //! The tapered capsule of two arcs.
 
 ghost use Rattle.std.specs.Prelude.{◌≡◌, ◌↔◌, ◌*◌, ◌<◌, ◌≤◌, ◌<ℤ◌, ◌⊎◌, IsTrue, neg_ℤ, pos};
+ghost use Rattle.horizontal_hull.specs.declared.edge.Edge.{Edge};
 ghost use Rattle.horizontal_hull.specs.Capsules.{InBand, InDisc, InTapered, flare, in_capsule, span};
 ghost use Rattle.horizontal_hull.specs.Close.{IsBeside, IsNearBoth};
 
@@ -109,5 +110,41 @@ pub(crate) fn is_in_capsule(edge: Edge, a: &Arc, b: &Arc, x: &Point, c: u32) -> 
         is_in_tapered(edge, a, b, x, c)
     } else {
         is_in_tapered(edge, b, a, x, c)
+    }
+}
+
+/// Whether the larger of two arcs, the second, does not hold the smaller one.
+fn is_apart(a: &Arc, b: &Arc) -> bool
+    requires first_radius { a.now.radius ≤ ARC_MOST }
+    requires second_radius { b.now.radius ≤ ARC_MOST }
+    requires order { a.now.radius ≤ b.now.radius }
+    ensures { IsTrue result ↔ (flare a.now b.now * flare a.now b.now < span a.now b.now) }
+{
+    let growth = (b.radius() - a.radius()) as u64;
+    growth * growth < a.to_arc(b).square_length() as u64
+}
+
+/// Whether a point lies in the disc of the second of two arcs, which is not the smaller one, or in that of the first one where the second
+/// does not hold it: then it lies in their tapered capsule.
+#[inline(always)]
+fn is_in_two_discs(a: &Arc, b: &Arc, x: &Point) -> bool
+    requires first_radius { a.now.radius ≤ ARC_MOST }
+    requires second_radius { b.now.radius ≤ ARC_MOST }
+    requires order { a.now.radius ≤ b.now.radius }
+    ensures { IsTrue result → InTapered Edge.Closed a.now b.now x.now 0 }
+{
+    is_in_disc(Edge::Closed, b, x, 0) || (is_in_disc(Edge::Closed, a, x, 0) && is_apart(a, b))
+}
+
+/// Whether a point lies in the disc of one of two arcs, so that no more has to be asked of their capsule.
+#[inline(always)]
+pub(crate) fn is_in_discs(a: &Arc, b: &Arc, x: &Point) -> bool
+    requires near { IsNearBoth a.now b.now x.now }
+    ensures { IsTrue result → IsTrue (in_capsule Edge.Closed a.now b.now x.now 0) }
+{
+    if a.radius() <= b.radius() {
+        is_in_two_discs(a, b, x)
+    } else {
+        is_in_two_discs(b, a, x)
     }
 }

@@ -7,6 +7,7 @@ ghost use Rattle.horizontal_hull.specs.Close.{AreClose, IsNearBoth};
 ghost use Rattle.horizontal_hull.specs.Rises.{IsLeastRise, in_risen};
 
 use crate::arc::Arc;
+use crate::capsule::is_in_discs;
 use crate::seen::Seen;
 use crate::sizes::{CONICAL_RISE, CONICAL_SLOPE};
 use grid_exact::Point;
@@ -37,6 +38,10 @@ fn rise_of_two(a: &Arc, b: &Arc, x: &Point, most: u32) -> u32
     ensures { IsLeastRise (λ k. in_risen x.now k a.now b.now) most result }
 {
     if most == 0 {
+        return 0;
+    }
+    // First the discs, which are asked faster.
+    if is_in_discs(a, b, x) {
         return 0;
     }
     let seen = Seen::of(a, b, x);

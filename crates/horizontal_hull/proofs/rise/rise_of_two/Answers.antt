@@ -12,3 +12,6 @@ loop-least-preserved c =
       reaches = c.loop-least.invariant.reaches;
       missed = λ k h. (let l = missed_below c.args.x.now c.args.a.now c.args.b.now c.probe-asked.result k f h in omega (arith, l));
     }
+
+pub returns-then-is_in_discs : goal.returns-then-is_in_discs
+returns-then-is_in_discs c = record { bound = omega arith; reaches = λ l. c.is_in_discs.ensures c.if-is_in_discs.true; least = λ k h. omega arith }
