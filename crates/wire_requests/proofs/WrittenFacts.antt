@@ -71,9 +71,19 @@ alone (a ∷ b ∷ bs) one e = absurd (omega (arith, one))
 site_fits : (s : Site) (before : List ℕ) → IsValidSite s → HasShape site_shape before (site_fields s)
 site_fits s before h =
     let g = s.at.on_grid in
-    let most = subst (λ m. s.mobile ≤ℤ m) (sym (limit_of_kind s.kind)) h.0.mobile_most in
-    ((s.at.x, refl, (g.west, g.east)), ((s.at.y, refl, (g.south, g.north)), ((s.terrain, refl, (h.0.terrain_least, h.0.terrain_most)), ((s.height, refl, (h.0.height_least, h.0.height_most)),
-        ((s.kind, refl), ((s.mobile, refl, (h.0.mobile_least, most)), ((s.flags, refl), ((s.on, refl, h.1), tt))))))))
+    let most = subst (λ m. s.mobile ≤ℤ m) (sym (limit_of_kind s.kind)) h.0.mobile_most in (
+      (s.at.x, refl, (g.west, g.east)),
+      (
+        (s.at.y, refl, (g.south, g.north)),
+        (
+          (s.terrain, refl, (h.0.terrain_least, h.0.terrain_most)),
+          (
+            (s.height, refl, (h.0.height_least, h.0.height_most)),
+            ((s.kind, refl), ((s.mobile, refl, (h.0.mobile_least, most)), ((s.flags, refl), ((s.on, refl, h.1), tt)))),
+          ),
+        ),
+      ),
+    )
 
 -- so a structure after the word of a form is a record
 pub screening : (s : Site) (line word rest : List ℕ) → line ≡ word ++ 44 ∷ rest → word ≡ codes "screen" → rest ≡ joined (site_fields s) → IsValidSite s → IsRecord line (requests.Query (queries.Screen s))

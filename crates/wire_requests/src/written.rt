@@ -16,7 +16,9 @@ ghost use Rattle.wire_requests.specs.Requests.{IsRecord};
 ghost use Rattle.wire_requests.specs.declared.request.Request.TheVariants as requests;
 
 use crate::request::Query;
-use airfields::{ELEVATION_LEAST, ELEVATION_MOST, FieldId, Filing, Flags, HEIGHT_LIMIT, StructureKind};
+use airfields::{
+    ELEVATION_LEAST, ELEVATION_MOST, FieldId, Filing, Flags, HEIGHT_LIMIT, StructureKind,
+};
 use grid_exact::{COORDINATE_LIMIT, Point};
 use wire_values::FieldValue;
 
