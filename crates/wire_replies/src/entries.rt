@@ -6,6 +6,7 @@ ghost use Rattle.grid_exact.specs.Texts.{Extends};
 ghost use Rattle.wire_values.specs.Words.{name_text};
 ghost use Rattle.wire_replies.specs.Entries as spec;
 ghost use Rattle.wire_replies.specs.Pages.{IsPiece};
+ghost use Rattle.wire_replies.specs.declared.page.TheConstants.{ROOM, SIZE};
 
 use crate::page::Page;
 use airfield_findings::{Finding, Rule, SurfaceKey};
@@ -42,7 +43,7 @@ fn rule_head(rule: Rule) -> ([u8; 8], usize)
 // Puts the airfield of an entry.
 #[inline(always)]
 fn put_airfield(page: &mut Page, rule: Rule, key: &SurfaceKey)
-    requires room { length page.old + 8 ≤ 1024 }
+    requires room { length page.old + 8 ≤ SIZE }
     ensures put { page.new ≡ page.old ++ spec.airfield_text rule key.now }
     ensures few { length page.new ≤ length page.old + 8 }
 {
@@ -58,7 +59,7 @@ fn put_airfield(page: &mut Page, rule: Rule, key: &SurfaceKey)
 // Puts the name of a runway, or a dash.
 #[inline(always)]
 fn put_runway(page: &mut Page, runway: &Option<RunwayName>)
-    requires room { length page.old + 8 ≤ 1024 }
+    requires room { length page.old + 8 ≤ SIZE }
     ensures put { page.new ≡ page.old ++ name_text runway.now }
     ensures few { length page.new ≤ length page.old + 8 }
 {
@@ -70,7 +71,7 @@ fn put_runway(page: &mut Page, runway: &Option<RunwayName>)
 
 // Puts the runway of a key, a space before and behind it.
 fn put_spaced_runway(page: &mut Page, key: &SurfaceKey)
-    requires room { length page.old + 64 ≤ 1024 }
+    requires room { length page.old + 64 ≤ SIZE }
     ensures put { page.new ≡ page.old ++ (codes " " ++ name_text key.now.runway ++ codes " ") }
     ensures few { length page.new ≤ length page.old + 64 }
 {
@@ -81,7 +82,7 @@ fn put_spaced_runway(page: &mut Page, key: &SurfaceKey)
 
 // Puts the runway of a key and its end or side, a dot between, and a space before and behind them.
 fn put_spaced_runway_part(page: &mut Page, key: &SurfaceKey)
-    requires room { length page.old + 64 ≤ 1024 }
+    requires room { length page.old + 64 ≤ SIZE }
     ensures put { page.new ≡ page.old ++ (codes " " ++ spec.runway_part_text key.now ++ codes " ") }
     ensures few { length page.new ≤ length page.old + 64 }
 {
@@ -94,7 +95,7 @@ fn put_spaced_runway_part(page: &mut Page, key: &SurfaceKey)
 
 // Puts the end or side of a key, a space before and behind it.
 fn put_spaced_part(page: &mut Page, key: &SurfaceKey)
-    requires room { length page.old + 64 ≤ 1024 }
+    requires room { length page.old + 64 ≤ SIZE }
     ensures put { page.new ≡ page.old ++ (codes " " ++ decimal key.now.part ++ codes " ") }
     ensures few { length page.new ≤ length page.old + 64 }
 {
@@ -106,7 +107,7 @@ fn put_spaced_part(page: &mut Page, key: &SurfaceKey)
 // Puts the dash of an entry that tells no surface, a space before and behind it.
 #[inline(always)]
 fn put_spaced_dash(page: &mut Page)
-    requires room { length page.old + 8 ≤ 1024 }
+    requires room { length page.old + 8 ≤ SIZE }
     ensures put { page.new ≡ page.old ++ codes " - " }
     ensures few { length page.new ≤ length page.old + 8 }
 {
@@ -116,7 +117,7 @@ fn put_spaced_dash(page: &mut Page)
 // Puts the surface of an entry, a space before and behind it. Most have none, and their dash is one piece with the spaces.
 #[inline(always)]
 fn put_surface(page: &mut Page, rule: Rule, key: &SurfaceKey)
-    requires room { length page.old + 64 ≤ 1024 }
+    requires room { length page.old + 64 ≤ SIZE }
     ensures put { page.new ≡ page.old ++ (codes " " ++ spec.surface_text rule key.now ++ codes " ") }
     ensures few { length page.new ≤ length page.old + 64 }
 {
@@ -133,7 +134,7 @@ fn put_surface(page: &mut Page, rule: Rule, key: &SurfaceKey)
 // Puts an entry, a comma before it.
 #[inline(always)]
 fn put_entry(page: &mut Page, finding: &Finding)
-    requires room { length page.old + 128 ≤ 1024 }
+    requires room { length page.old + ROOM ≤ SIZE }
     ensures put { page.new ≡ page.old ++ (codes "," ++ spec.entry_text finding.now) }
 {
     let (word, len) = rule_head(finding.rule);
@@ -146,7 +147,7 @@ fn put_entry(page: &mut Page, finding: &Finding)
 // Puts a comma and how many entries a list has.
 #[inline(always)]
 fn put_count(page: &mut Page, count: u64)
-    requires room { length page.old + 128 ≤ 1024 }
+    requires room { length page.old + ROOM ≤ SIZE }
     ensures put { page.new ≡ page.old ++ (codes "," ++ decimal count) }
 {
     page.put_byte(b',');

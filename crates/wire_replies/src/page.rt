@@ -5,6 +5,7 @@ ghost use Rattle.std.specs.Fmt.{decimal};
 ghost use Rattle.std.specs.List.{list_all};
 ghost use Rattle.grid_exact.specs.Texts.{Extends};
 ghost use Rattle.wire_replies.specs.Pages.{is_seven_bit};
+ghost use Rattle.wire_replies.specs.declared.page.TheConstants.{ROOM, SIZE};
 
 use airfields::{FieldId, RunwayName};
 use grid_exact::NoMemory;
@@ -13,10 +14,10 @@ use std::marker::Model;
 use wire_values::append_text;
 
 // How many bytes a page has.
-const SIZE: usize = 1024;
+pub(crate) const SIZE: usize = 1024;
 
 // How many bytes of it the parts of one entry may take.
-const ROOM: usize = 128;
+pub(crate) const ROOM: usize = 128;
 
 // Some bytes of text, at the front of their room.
 #[derive(Drop)]
@@ -28,12 +29,13 @@ pub(crate) struct Page {
 impl Model for Page {
     ghost use Rattle.std.specs.Prelude.{ℕ, List, ◌≤◌, take};
     ghost use Rattle.std.specs.Str.{IsUtf8};
+    ghost use Rattle.wire_replies.specs.declared.page.TheConstants.{SIZE};
 
     ghost Value = { List ℕ };
 
     ghost view = { λ p. take p.len p.bytes };
 
-    ghost invariant = { λ p. (p.len ≤ 1024) × IsUtf8 (take p.len p.bytes) };
+    ghost invariant = { λ p. (p.len ≤ SIZE) × IsUtf8 (take p.len p.bytes) };
 }
 
 // How many digits a number of at most five has.
@@ -66,7 +68,7 @@ impl Page {
     // Puts a text.
     #[inline(always)]
     fn put(&mut self, part: &str)
-        requires { length self.old + length part.now ≤ 1024 }
+        requires { length self.old + length part.now ≤ SIZE }
         ensures { self.new ≡ self.old ++ part.now }
     {
         let end = self.len + part.len();
@@ -77,7 +79,7 @@ impl Page {
     // Puts an ASCII byte.
     #[inline(always)]
     pub(crate) fn put_byte(&mut self, byte: u8)
-        requires room { length self.old + 1 ≤ 1024 }
+        requires room { length self.old + 1 ≤ SIZE }
         requires ascii { byte < 128 }
         ensures put { self.new ≡ self.old ++ byte ∷ [] }
         ensures few { length self.new ≤ length self.old + 1 }
@@ -89,7 +91,7 @@ impl Page {
     // Puts a word of `len` bytes, which is copied as one number of eight, whatever its length is.
     #[inline(always)]
     pub(crate) fn put_piece(&mut self, word: [u8; 8], len: usize)
-        requires room { length self.old + 8 ≤ 1024 }
+        requires room { length self.old + 8 ≤ SIZE }
         requires few { len ≤ 8 }
         requires text { list_all is_seven_bit (take len word) ≡ true }
         ensures put { self.new ≡ self.old ++ take len word }
@@ -102,7 +104,7 @@ impl Page {
     // Puts the name of an airfield.
     #[inline(always)]
     pub(crate) fn put_field(&mut self, name: &FieldId)
-        requires { length self.old + 8 ≤ 1024 }
+        requires { length self.old + 8 ≤ SIZE }
         ensures put { self.new ≡ self.old ++ name.now }
         ensures few { length self.new ≤ length self.old + 8 }
     {
@@ -112,7 +114,7 @@ impl Page {
     // Puts the name of a runway.
     #[inline(always)]
     pub(crate) fn put_runway(&mut self, name: &RunwayName)
-        requires { length self.old + 8 ≤ 1024 }
+        requires { length self.old + 8 ≤ SIZE }
         ensures put { self.new ≡ self.old ++ name.now }
         ensures few { length self.new ≤ length self.old + 8 }
     {
@@ -122,7 +124,7 @@ impl Page {
     // Puts a number of at most five digits, which most are.
     #[inline(always)]
     fn put_short(&mut self, number: u64)
-        requires room { length self.old + 20 ≤ 1024 }
+        requires room { length self.old + 20 ≤ SIZE }
         requires short { number < 100000 }
         ensures put { self.new ≡ self.old ++ decimal number }
         ensures few { length self.new ≤ length self.old + 20 }
@@ -135,7 +137,7 @@ impl Page {
     // Puts a number of any length.
     #[inline(never)]
     fn put_long(&mut self, number: u64)
-        requires room { length self.old + 20 ≤ 1024 }
+        requires room { length self.old + 20 ≤ SIZE }
         ensures put { self.new ≡ self.old ++ decimal number }
         ensures few { length self.new ≤ length self.old + 20 }
     {
@@ -146,7 +148,7 @@ impl Page {
     // Puts a number.
     #[inline(always)]
     pub(crate) fn put_number(&mut self, number: u64)
-        requires room { length self.old + 20 ≤ 1024 }
+        requires room { length self.old + 20 ≤ SIZE }
         ensures put { self.new ≡ self.old ++ decimal number }
         ensures few { length self.new ≤ length self.old + 20 }
     {
@@ -178,7 +180,7 @@ impl Page {
     pub(crate) fn make_room(&mut self, text: &mut String) -> Result<(), NoMemory>
         ensures ok { OnOk result (string_bytes text.new ++ self.new ≡ string_bytes text.old ++ self.old) }
         ensures grown { Extends (string_bytes text.old) (string_bytes text.new) }
-        ensures room { OnOk result (length self.new + 128 ≤ 1024) }
+        ensures room { OnOk result (length self.new + ROOM ≤ SIZE) }
     {
         if self.len > SIZE - ROOM {
             self.flush(text)?;
