@@ -33,9 +33,10 @@ pub struct PreparedAirport {
     surfaces: Bounds,
     /// The box of 77.9(b), where notice is asked about the airport.
     notice: Bounds,
+    /// The airport stands next to them, since its reference point and elevation are asked for first.
+    airport: Airport,
     /// The runway that notice is measured from, ready, where the airport has no other.
     lone: Option<LoneRunway>,
-    airport: Airport,
     hull: Hull,
     strips: Vec<Strip>,
 }
