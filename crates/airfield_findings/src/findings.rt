@@ -44,10 +44,11 @@ impl Findings {
         ensures pushed { OnOk result (self.new ≡ self.old ++ finding ∷ []) }
         ensures kept { OnErr result (self.new ≡ self.old) }
     {
-        match self.items.push(finding) {
-            Ok(()) => Ok(()),
-            Err(_) => Err(NoMemory),
-        }
+        // by way of an array, since a parameter that holds options gets no proof when it is pushed
+        let [item] = [finding];
+        self.items.reserve(1)?;
+        self.items.push_reserved(item);
+        Ok(())
     }
 
     /// How many findings there are.
