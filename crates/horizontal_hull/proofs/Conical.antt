@@ -1,5 +1,5 @@
 -- The conical surface rises outward, and the tests that compute what the specifications say of it.
-use Rattle.std.proofs.Common.{◌≡◌, ◌↔◌, Some, ◌*◌, ◌<◌, ℤ, pos, ◌+ℤ◌, ◌-ℤ◌, ◌≤ℤ◌, ◌<ℤ◌, unsigned_abs, arith}
+use Rattle.std.proofs.Common.{◌≡◌, ◌↔◌, Some, ℕ, ◌*◌, ◌<◌, ◌≤◌, ℤ, pos, ◌+ℤ◌, ◌-ℤ◌, ◌≤ℤ◌, ◌<ℤ◌, unsigned_abs, arith, subst}
 use Rattle.std.specs.Prelude.{IsTrue, int_le, not}
 use Rattle.std.proofs.lemmas.Int.{ints}
 use Rattle.grid_exact.specs.declared.point.Point.{Point}
@@ -8,6 +8,7 @@ use Rattle.grid_exact.proofs.ExcessLemmas.{IsExcess-covered, Tests, exceeds_by}
 use Rattle.horizontal_hull.specs.declared.edge.Edge.TheVariants.{Closed, Open}
 use Rattle.horizontal_hull.specs.declared.sizes.TheConstants.{CONICAL_RISE, CONICAL_RUN, CONICAL_SLOPE}
 use Rattle.horizontal_hull.specs.Arcs.{Dome}
+use Rattle.horizontal_hull.specs.Rises.{IsRise}
 use Rattle.horizontal_hull.specs.Within.{AboveConical, AtConical, ConicalCovers, IsLeastConical, Within, conical, conical_covers, is_above_conical, is_at_conical, is_within, run_to}
 use Rattle.center_polygon.proofs.SomeFacts.{and_test, not_test}
 use Rattle.center_polygon.proofs.Deciding.{int_le_test}
@@ -38,6 +39,14 @@ AtConical_edge d x h = record { not_below = omega (arith, ints); within = rw (ru
 -- ---- the least level
 pub least_range : (d : Dome) (x : Point) (z : ℤ) → Within Closed d.arcs x CONICAL_RUN → IsLeastConical d x z → (d.level ≤ℤ z) × (z ≤ℤ (d.level +ℤ pos CONICAL_RISE))
 least_range d x z h least = (least.reaches.not_below, least.least (d.level +ℤ pos CONICAL_RISE) (AtConical_edge d x h))
+
+pub rise_conical : (d : Dome) (x : Point) (rise : ℕ) (z : ℤ) → z ≡ d.level +ℤ pos rise → IsRise d.arcs x rise → IsLeastConical d x z
+rise_conical d x rise z e h =
+    let run : rise ≡ unsigned_abs (z -ℤ d.level) = omega (arith, ints, e) in
+    record {
+      reaches = record { not_below = omega (arith, ints, e); within = subst (λ n. Within Closed d.arcs x (CONICAL_SLOPE * n)) run h.reaches };
+      least = λ y k. (let m : rise ≤ unsigned_abs (y -ℤ d.level) = h.least (unsigned_abs (y -ℤ d.level)) k.within in omega (arith, ints, e, m, k.not_below));
+    }
 
 pub under_top : (d : Dome) (x : Point) (top level : ℤ) → IsLeastConical d x level → AboveConical d x top → level ≤ℤ top
 under_top d x top level least above = least.least top (AboveConical-At d x top above)

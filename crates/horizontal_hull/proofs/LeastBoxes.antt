@@ -1,5 +1,5 @@
--- The least box that holds some discs, and points in the boxes of an airport's surfaces.
-use Rattle.std.proofs.Common.{◌≡◌, ◌↔◌, inl, inr, Bool, true, false, IsTrue, ℕ, ◌+◌, ◌<◌, ◌≤◌, pos, ◌+ℤ◌, ◌-ℤ◌, List, [], length, take, get_or, arith, subst, sym}
+-- The least box that holds some discs, and points in the box of an airport's surfaces.
+use Rattle.std.proofs.Common.{◌≡◌, ◌↔◌, inl, inr, ℕ, ◌+◌, ◌<◌, pos, ◌+ℤ◌, ◌-ℤ◌, List, [], ◌∷◌, length, take, get_or, arith, subst, sym}
 use Rattle.std.specs.List.{All}
 use Rattle.std.proofs.lemmas.Int.{ints}
 use Rattle.std.proofs.lemmas.List.Elements.{All-more, All-weaker}
@@ -8,14 +8,13 @@ use Rattle.grid_exact.specs.declared.point.Point.{Point}
 use Rattle.grid_exact.specs.Area.{Has}
 use Rattle.center_polygon.specs.Triangles.{InSomeTriangle}
 use Rattle.outline_boxes.specs.Boxes.{Encloses, HoldsBoth, IsLeastBox}
-use Rattle.horizontal_hull.specs.declared.areas.HullAreas.{HullAreas}
 use Rattle.horizontal_hull.specs.declared.edge.Edge.{Edge}
 use Rattle.horizontal_hull.specs.declared.sizes.TheConstants.{BOX_REACH, CONICAL_RUN}
 use Rattle.horizontal_hull.specs.Arcs.{ArcShape}
-use Rattle.horizontal_hull.specs.Areas.{AreHullAreas, HoldsDiscs, disc_box}
-use Rattle.horizontal_hull.specs.Close.{AreClose, IsNearReference}
+use Rattle.horizontal_hull.specs.Areas.{HoldsDiscs, disc_box}
+use Rattle.horizontal_hull.specs.Close.{AreClose, IsNearReference, IsOuter}
 use Rattle.horizontal_hull.specs.Within.{Within}
-use Rattle.horizontal_hull.proofs.Reach.{Within_in_box, Within_in_outer}
+use Rattle.horizontal_hull.proofs.Reach.{Within_in_outer}
 
 encloses_same : (a : Area) → Encloses a a
 encloses_same a = record { west = omega (arith, ints); east = omega (arith, ints); south = omega (arith, ints); north = omega (arith, ints) }
@@ -63,47 +62,22 @@ disc_around arp a h = record {
   north = omega (arith, ints, h.y, h.radius);
 }
 
-pub close_in_box : (arp : Point) (arcs : List ArcShape) (box : Area) (x : Point) → All (IsNearReference arp) arcs → IsLeastBox (HoldsDiscs arcs CONICAL_RUN) box → Has box x → AreClose arcs x
+close_in_box : (arp : Point) (arcs : List ArcShape) (box : Area) (x : Point) → All (IsNearReference arp) arcs → IsLeastBox (HoldsDiscs arcs CONICAL_RUN) box → Has box x → AreClose arcs x
 close_in_box arp arcs box x near least h =
     let e = least.least (around arp) (All-weaker (IsNearReference arp) (λ a. Encloses (around arp) (disc_box CONICAL_RUN a)) (disc_around arp) arcs near) in
     record { arp = arp; near = near; x_size = omega (arith, ints, e.west, e.east, h.west, h.east); y_size = omega (arith, ints, e.south, e.north, h.south, h.north) }
 
--- ---- the test of one of both boxes
-pub record IsAsked (arcs : List ArcShape) (x : Point) (c : ℕ) (r : Bool) : Type 0 where
-  pub close : IsTrue r → AreClose arcs x
-  pub all : (edge : Edge) → Within edge arcs x c → IsTrue r
-
+-- ---- the box outside which neither surface lies
 nothing_within : (edge : Edge) (x : Point) (c : ℕ) → Within edge [] x c → ⊥
 unfolding Within InSomeTriangle
 nothing_within edge x c w = elim w [ inl h ↦ h | inr h ↦ h ]
 
-pub asked_nothing : (arcs : List ArcShape) (x : Point) (c : ℕ) → arcs ≡ [] → IsAsked arcs x c false
-asked_nothing arcs x c e = record { close = λ t. absurd (let f : false ≡ true = t in cc); all = λ edge w. absurd (nothing_within edge x c (subst (λ (l : List ArcShape). Within edge l x c) e w)) }
+pub outer_nothing : (arcs : List ArcShape) (box : Area) → length arcs ≡ 0 → ((x : Point) → Has box x → ⊥) → IsOuter arcs box
+outer_nothing [] box e n = record { close = λ x h. absurd (n x h); all = λ edge x c l w. absurd (nothing_within edge x c w) }
+outer_nothing (a ∷ arcs) box e n = absurd (omega (arith, e))
 
--- the box of the horizontal surface lies in the other one
-inner_in_outer : (arcs : List ArcShape) (a : HullAreas) → AreHullAreas arcs a → Encloses a.conical a.horizontal
-inner_in_outer arcs a h =
-    h.horizontal_least.least a.conical (All-weaker (λ z. Encloses a.conical (disc_box CONICAL_RUN z)) (λ z. Encloses a.conical (disc_box 0 z)) (smaller a.conical) arcs h.conical_least.holds)
-  where
-    smaller : (box : Area) (z : ArcShape) → Encloses box (disc_box CONICAL_RUN z) → Encloses box (disc_box 0 z)
-    smaller box z e = record { west = omega (arith, ints, e.west); east = omega (arith, ints, e.east); south = omega (arith, ints, e.south); north = omega (arith, ints, e.north) }
-
-wider_has : (a b : Area) (x : Point) → Encloses a b → Has b x → Has a x
-wider_has a b x e h = record {
-  west = omega (arith, ints, e.west, h.west);
-  east = omega (arith, ints, e.east, h.east);
-  south = omega (arith, ints, e.south, h.south);
-  north = omega (arith, ints, e.north, h.north);
-}
-
-pub asked_inner : (arp : Point) (arcs : List ArcShape) (a : HullAreas) (x : Point) (c : ℕ) (r : Bool) → All (IsNearReference arp) arcs → AreHullAreas arcs a → c ≡ 0 → (IsTrue r ↔ Has a.horizontal x) → IsAsked arcs x c r
-asked_inner arp arcs a x c r near h z t = record {
-  close = λ y. close_in_box arp arcs a.conical x near h.conical_least (wider_has a.conical a.horizontal x (inner_in_outer arcs a h) (t.0 y));
-  all = λ edge w. t.1 (Within_in_box a.horizontal edge arcs x 0 h.horizontal_least.holds (subst (λ n. Within edge arcs x n) z w));
-}
-
-pub asked_outer : (arp : Point) (arcs : List ArcShape) (a : HullAreas) (x : Point) (c : ℕ) (r : Bool) → All (IsNearReference arp) arcs → AreHullAreas arcs a → c ≤ CONICAL_RUN → (IsTrue r ↔ Has a.conical x) → IsAsked arcs x c r
-asked_outer arp arcs a x c r near h l t = record {
-  close = λ y. close_in_box arp arcs a.conical x near h.conical_least (t.0 y);
-  all = λ edge w. t.1 (Within_in_outer a.conical edge arcs x c h.conical_least.holds l w);
+pub outer_least : (arp : Point) (arcs : List ArcShape) (least box : Area) → All (IsNearReference arp) arcs → IsLeastBox (HoldsDiscs arcs CONICAL_RUN) least → ((x : Point) → Has box x ↔ Has least x) → IsOuter arcs box
+outer_least arp arcs least box near h same = record {
+  close = λ x y. close_in_box arp arcs least x near h ((same x).0 y);
+  all = λ edge x c l w. (same x).1 (Within_in_outer least edge arcs x c h.holds l w);
 }

@@ -15,3 +15,4 @@ pub mod Beside
 pub mod Sights
 pub mod SightSizes
 pub mod Abreast
+pub mod BoxFacts

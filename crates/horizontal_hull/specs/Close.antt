@@ -1,13 +1,15 @@
 -- For proofs alone: how near to one another the arcs of one airport and the points are that lie within them.
-use Rattle.std.specs.Prelude.{ℕ, ℤ, pos, neg_ℤ, ◌+◌, ◌-ℤ◌, ◌≤◌, ◌<ℤ◌, ◌≡◌, ◌⊎◌, ◌^◌, [], List, Option, unsigned_abs}
+use Rattle.std.specs.Prelude.{ℕ, ℤ, pos, neg_ℤ, ◌+◌, ◌-ℤ◌, ◌≤◌, ◌<ℤ◌, ◌≡◌, ◌⊎◌, ◌^◌, List, unsigned_abs}
 use Rattle.std.specs.List.{All}
-use Rattle.std.specs.Option.{MatchOption}
+use Rattle.grid_exact.specs.Area.{Has}
+use Rattle.grid_exact.specs.declared.area.Area.{Area}
 use Rattle.grid_exact.specs.declared.point.Point.{Point}
 use Rattle.center_polygon.specs.Spots.{Spot}
-use Rattle.horizontal_hull.specs.declared.areas.HullAreas.{HullAreas}
+use Rattle.horizontal_hull.specs.declared.edge.Edge.{Edge}
+use Rattle.horizontal_hull.specs.declared.small_box.SmallBox.{SmallBox}
 use Rattle.horizontal_hull.specs.Arcs.{ArcShape, centers_of}
-use Rattle.horizontal_hull.specs.Areas.{AreHullAreas}
-use Rattle.horizontal_hull.specs.declared.sizes.TheConstants.{ARC_MOST, BOX_REACH, CENTERS_APART, CENTER_REACH, POINT_APART}
+use Rattle.horizontal_hull.specs.Within.{Within}
+use Rattle.horizontal_hull.specs.declared.sizes.TheConstants.{ARC_MOST, BOX_REACH, CENTERS_APART, CENTER_REACH, CONICAL_RUN, POINT_APART}
 
 -- an arc of an airport with this reference point
 pub record IsNearReference (arp : Point) (a : ArcShape) : Type 0 where
@@ -15,20 +17,27 @@ pub record IsNearReference (arp : Point) (a : ArcShape) : Type 0 where
   pub y : unsigned_abs (a.y -ℤ arp.y) ≤ CENTER_REACH
   pub radius : a.radius ≤ ARC_MOST
 
--- what a hull is made of: arcs near some reference point, their centers, their boxes, and a small level
-pub record IsHull (arcs : List ArcShape) (centers : List Spot) (areas : Option HullAreas) (level : ℤ) : Type 0 where
-  pub arp : Point
-  pub near : All (IsNearReference arp) arcs
-  pub centers_are : centers ≡ centers_of arcs
-  pub areas_are : MatchOption areas (arcs ≡ []) (AreHullAreas arcs)
-  pub level_size : unsigned_abs level ≤ 2 ^ 18
-
 -- arcs of one airport, and a point that its surfaces can reach
 pub record AreClose (arcs : List ArcShape) (x : Point) : Type 0 where
   pub arp : Point
   pub near : All (IsNearReference arp) arcs
   pub x_size : unsigned_abs (x.x -ℤ arp.x) ≤ BOX_REACH
   pub y_size : unsigned_abs (x.y -ℤ arp.y) ≤ BOX_REACH
+
+-- the box that is kept small
+abbrev pub box_of : SmallBox → Area
+box_of b = record { x0 = b.x0; y0 = b.y0; x1 = b.x1; y1 = b.y1 }
+
+-- a box that has each point of the grid over which a surface of the arcs lies, and none that is not close to them
+pub record IsOuter (arcs : List ArcShape) (box : Area) : Type 0 where
+  pub close : (x : Point) → Has box x → AreClose arcs x
+  pub all : (edge : Edge) (x : Point) (c : ℕ) → c ≤ CONICAL_RUN → Within edge arcs x c → Has box x
+
+-- what a hull is made of: arcs, their outer box, their centers, and a small level
+pub record IsHull (arcs : List ArcShape) (box : Area) (centers : List Spot) (level : ℤ) : Type 0 where
+  pub outer : IsOuter arcs box
+  pub centers_are : centers ≡ centers_of arcs
+  pub level_size : unsigned_abs level ≤ 2 ^ 18
 
 -- two arcs of one airport, and a point near them
 pub record IsNearBoth (a b : ArcShape) (x : Point) : Type 0 where

@@ -3,10 +3,14 @@
 ghost use Rattle.std.specs.Prelude.{◌≡◌, ◌<◌, ◌≤◌, [], length};
 ghost use Rattle.std.specs.Option.{MatchOption};
 ghost use Rattle.outline_boxes.specs.Boxes.{IsLeastBox};
+ghost use Rattle.std.specs.List.{All};
+ghost use Rattle.grid_exact.specs.declared.point.Point.{Point};
 ghost use Rattle.horizontal_hull.specs.Areas.{AreHullAreas, HoldsDiscs, disc_box as disc_box_of};
+ghost use Rattle.horizontal_hull.specs.Close.{IsNearReference, IsOuter, box_of};
 
 use crate::arc::Arc;
 use crate::sizes::CONICAL_RUN;
+use crate::small_box::SmallBox;
 use grid_exact::Area;
 use outline_boxes::joined;
 
@@ -55,4 +59,14 @@ pub(crate) fn areas(arcs: &[Arc]) -> Option<HullAreas>
         horizontal: least_box(arcs, 0),
         conical: least_box(arcs, CONICAL_RUN),
     })
+}
+
+/// The box outside which neither surface lies, kept small; it has no point without arcs.
+pub(crate) fn outer_box(arcs: &[Arc]) -> SmallBox
+    ensures { (arp : Point) → All (IsNearReference arp) arcs.now → IsOuter arcs.now (box_of result) }
+{
+    if arcs.is_empty() {
+        return SmallBox::nowhere();
+    }
+    SmallBox::of(&least_box(arcs, CONICAL_RUN))
 }

@@ -17,10 +17,11 @@ ghost use Rattle.horizontal_hull.specs.Standings.{IsStanding};
 ghost use Rattle.horizontal_hull.specs.Within.{ConicalCovers, IsCap, IsLeastConical, Within, cap_of, conical, conical_excess, horizontal, horizontal_excess, is_within as is_within_of};
 
 use crate::arc::Arc;
-use crate::areas::{HullAreas, areas};
+use crate::areas::{HullAreas, areas, outer_box};
 use crate::edge::Edge;
 use crate::rise::least_rise;
 use crate::sizes::{CONICAL_RISE, CONICAL_RUN, CONICAL_SLOPE, HORIZONTAL_RISE};
+use crate::small_box::SmallBox;
 use crate::some::is_in_some_capsule;
 use crate::standing::Standing;
 use airfields::{Airport, Runway};
@@ -36,22 +37,24 @@ use std::marker::Model;
 /// there, and no top is above either surface.
 #[derive(Drop)]
 pub struct Hull {
+    /// The box outside which neither surface lies. It stands first, since each structure asks for it, and for more only where it has the
+    /// structure's point.
+    outer: SmallBox,
+    level: i64,
     arcs: Vec<Arc>,
     /// The polygon of the arcs' centers.
     polygon: CenterPolygon,
-    areas: Option<HullAreas>,
-    level: i64,
 }
 
 impl Model for Hull {
     ghost use Rattle.horizontal_hull.specs.Arcs.{Dome};
-    ghost use Rattle.horizontal_hull.specs.Close.{IsHull};
+    ghost use Rattle.horizontal_hull.specs.Close.{IsHull, box_of};
 
     ghost Value = { Dome };
 
     ghost view = { λ h. record { arcs = h.arcs.items; level = h.level } };
 
-    ghost invariant = { λ h. IsHull h.arcs.items h.polygon h.areas h.level };
+    ghost invariant = { λ h. IsHull h.arcs.items (box_of h.outer) h.polygon h.level };
 }
 
 /// The arcs at both ends of each runway.
@@ -102,12 +105,12 @@ impl Hull {
     {
         let arcs = arcs(alloc, a)?;
         let polygon = CenterPolygon::of(alloc, centers(alloc, arcs.as_slice())?)?;
-        let areas = areas(arcs.as_slice());
+        let outer = outer_box(arcs.as_slice());
         Ok(Hull {
+            outer,
+            level: a.elevation + HORIZONTAL_RISE,
             arcs,
             polygon,
-            areas,
-            level: a.elevation + HORIZONTAL_RISE,
         })
     }
 
@@ -117,20 +120,15 @@ impl Hull {
         ensures exact { MatchOption result (self.now.arcs ≡ []) (AreHullAreas self.now.arcs) }
         ensures covers { IfSome result (CoverHull self.now) }
     {
-        self.areas
+        areas(self.arcs.as_slice())
     }
 
-    /// Whether a point lies in the box outside which nothing is within `c`.
-    fn reaches(&self, x: &Point, c: u32) -> bool
-        requires run { c ≤ CONICAL_RUN }
+    /// Whether a point lies in the box outside which neither surface lies.
+    fn reaches(&self, x: &Point) -> bool
         ensures close { IsTrue result → AreClose self.now.arcs x.now }
-        ensures all { (edge : Edge) → Within edge self.now.arcs x.now c → IsTrue result }
+        ensures all { (edge : Edge) (c : ℕ) → c ≤ CONICAL_RUN → Within edge self.now.arcs x.now c → IsTrue result }
     {
-        match &self.areas {
-            None => false,
-            Some(areas) if c == 0 => areas.horizontal.has(x),
-            Some(areas) => areas.conical.has(x),
-        }
+        self.outer.has(x)
     }
 
     /// Whether a point is at most `c` beyond the arcs joined by their tangents, or less than `c` without the edge.
@@ -138,7 +136,7 @@ impl Hull {
         requires run { c ≤ CONICAL_RUN }
         ensures { result ≡ is_within_of edge self.now.arcs x.now c }
     {
-        if !self.reaches(x, c) {
+        if !self.reaches(x) {
             return false;
         }
         // First the polygon, which is asked faster.
@@ -170,7 +168,7 @@ impl Hull {
         requires run { c ≤ CONICAL_RUN }
         ensures { IsTrue result ↔ Within edge self.now.arcs x.now c }
     {
-        if !self.reaches(x, c) {
+        if !self.reaches(x) {
             return false;
         }
         is_in_some_capsule(edge, self.arcs.as_slice(), x, c)
@@ -181,7 +179,7 @@ impl Hull {
     fn rise(&self, x: &Point) -> Option<u32>
         ensures { MatchOption result (¬ Within Edge.Closed self.now.arcs x.now CONICAL_RUN) (IsRise self.now.arcs x.now) }
     {
-        if !self.reaches(x, CONICAL_RUN) {
+        if !self.reaches(x) {
             return None;
         }
         // First the polygon, which is asked faster.

@@ -12,6 +12,7 @@ mod laws;
 mod rise;
 mod seen;
 mod sizes;
+mod small_box;
 mod some;
 mod standing;
 

@@ -1,5 +1,6 @@
-use Rattle.std.proofs.Common.{◌≡◌, ◌≤◌, ◌^◌, ◌*◌, None, Some, ℤ, pos, ◌-ℤ◌, ◌+ℤ◌, ◌≤ℤ◌, ◌<ℤ◌, unsigned_abs, FitsSigned, w64, to_z, of_z, to_z-of_z, arith, refl, rules, ap, subst, sym}
+use Rattle.std.proofs.Common.{◌≡◌, ◌≤◌, ◌^◌, ◌*◌, None, Some, ℤ, pos, ◌-ℤ◌, ◌+ℤ◌, ◌≤ℤ◌, ◌<ℤ◌, unsigned_abs, FitsSigned, w64, to_z, of_z, to_z-of_z, arith, refl, ap, subst, sym}
 use Rattle.std.proofs.lemmas.Int.{ints}
+use Rattle.grid_exact.proofs.Booleans.{not_from_false}
 use Rattle.grid_exact.specs.declared.point.Point.{Point}
 use Rattle.grid_exact.specs.Excess.{ExceedsBy}
 use Rattle.grid_exact.specs.Level.{IsLevel}
@@ -10,7 +11,7 @@ use Rattle.horizontal_hull.specs.Within.{AboveConical, ConicalCovers, IsLeastCon
 use Rattle.horizontal_hull.proofs.Conical.{AboveConical_rises, conical_exceeds, least_range, under_top}
 use Rattle.horizontal_hull.proofs.Listed.{conical_listed}
 use Rattle.horizontal_hull.proofs.hull.Hull.excess_over_conical.Goals as goal
-use Rattle.horizontal_hull.proofs.hull.Hull.excess_over_conical.Goals.{After-rise-1, Else-least-top, Else-not-is_within_beyond, Then-least-top, Then-top-least}
+use Rattle.horizontal_hull.proofs.hull.Hull.excess_over_conical.Goals.{After-rise-1, Else-least-top, Else-not-is_within_beyond, Then-least-top, Then-not-is_within_beyond, Then-top-least}
 
 -- the least level lies between the horizontal surface's and the outer edge's, and all of them are small
 record IsOver (level least : ℤ) : Type 0 where
@@ -87,8 +88,23 @@ at c = over c.args.self.now c.args.x.now c.self.inside.level c.args.least (ap (�
 pub is_within_beyond-requires-clause-run : goal.is_within_beyond-requires-clause-run
 is_within_beyond-requires-clause-run c = let h = at c in rw (rise_is c.self.inside.level c.args.least h) (omega (arith, ints, h.low, h.high))
 
+strictly_at : (d : Dome) (x : Point) (level least top : ℤ) → level ≡ d.level → top ≡ least → AboveConical d x top → Within Open d.arcs x (CONICAL_SLOPE * unsigned_abs (least -ℤ level))
+strictly_at d x level least top e t h =
+    subst (λ z. Within Open d.arcs x (CONICAL_SLOPE * unsigned_abs (least -ℤ z))) (sym e) (subst (λ z. Within Open d.arcs x (CONICAL_SLOPE * unsigned_abs (z -ℤ d.level))) t h.strictly)
+
+not_above : (c : Then-not-is_within_beyond) → ConicalCovers c.args.self.now c.args.x.now × AboveConical c.args.self.now c.args.x.now c.args.top → ⊥
+not_above c =
+    let e : c.self.inside.level ≡ c.args.self.now.level = ap (λ d. d.level) c.self.view_is in
+    let h = over c.args.self.now c.args.x.now c.self.inside.level c.args.least e c.self.invariant.level_size c.requires.covers c.requires.least in
+    let t : c.args.top ≡ c.args.least = omega (arith, ints, c.if-top-least.false, c.if-least-top.false) in
+    let n = not_from_false c.is_within_beyond.result (rw (rise_is c.self.inside.level c.args.least h) at c.is_within_beyond.ensures.1) c.if-not-is_within_beyond.true in
+    λ p. n (strictly_at c.args.self.now c.args.x.now c.self.inside.level c.args.least c.args.top e t p.1)
+
+pub returns-then-not-is_within_beyond-clause-exact : goal.returns-then-not-is_within_beyond-clause-exact
+returns-then-not-is_within_beyond-clause-exact c = not_above c
+
 pub returns-then-not-is_within_beyond-clause-value : goal.returns-then-not-is_within_beyond-clause-value
-returns-then-not-is_within_beyond-clause-value c = conical_listed c.args.self.now c.args.x.now c.args.top None tt (search rules)
+returns-then-not-is_within_beyond-clause-value c = conical_listed c.args.self.now c.args.x.now c.args.top None tt (not_above c)
 
 none : (d : Dome) (x : Point) (level least top : ℤ) → level ≡ d.level → top ≡ least → IsOver level least → ConicalCovers d x → IsLeastConical d x least →
     Within Open d.arcs x (CONICAL_SLOPE * unsigned_abs (least -ℤ level)) → ExceedsBy (conical d x) top 0

@@ -10,7 +10,7 @@ use Rattle.horizontal_hull.proofs.hull.Hull.is_within.Goals as goal
 
 pub returns-then-not-reaches : goal.returns-then-not-reaches
 returns-then-not-reaches c =
-    not_within c.args.edge c.args.self.now.arcs c.args.x.now c.args.c (not_from_false c.reaches.result (c.reaches.ensures.all c.args.edge) c.if-not-reaches.true)
+    not_within c.args.edge c.args.self.now.arcs c.args.x.now c.args.c (not_from_false c.reaches.result (c.reaches.ensures.all c.args.edge c.args.c c.requires.run) c.if-not-reaches.true)
 
 pub returns-then-has : goal.returns-then-has
 returns-then-has c =

@@ -1,12 +1,10 @@
-use Rattle.std.proofs.Common.{◌≡◌, ◌∙◌, refl, ℤ, ◌+ℤ◌, [], List, arith, ap, sym, subst, FitsSigned, w64, to_z, of_z, to_z-of_z}
+use Rattle.std.proofs.Common.{◌≡◌, ◌∙◌, refl, ℤ, ◌+ℤ◌, List, arith, ap, sym, subst, FitsSigned, w64, to_z, of_z, to_z-of_z}
 use Rattle.std.specs.List.{All}
-use Rattle.std.specs.Option.{MatchOption}
 use Rattle.std.proofs.lemmas.Int.{ints}
 use Rattle.airfields.specs.Runways.{IsElevation}
 use Rattle.horizontal_hull.specs.Arcs.{ArcShape, Dome, arcs_of, centers_of, dome_of}
-use Rattle.horizontal_hull.specs.Areas.{AreHullAreas}
 use Rattle.horizontal_hull.specs.declared.sizes.TheConstants.{HORIZONTAL_RISE}
-use Rattle.horizontal_hull.specs.Close.{IsNearReference}
+use Rattle.horizontal_hull.specs.Close.{IsNearReference, IsOuter, box_of}
 use Rattle.horizontal_hull.proofs.ArcFacts.{arcs_near}
 use Rattle.horizontal_hull.proofs.hull.Hull.of.Goals as goal
 
@@ -26,10 +24,9 @@ invariant_of-result c =
     let arp = c.args.a.now.arp in
     rw (raised c.args.a.now.elevation e)
     (record {
-      arp = arp;
-      near = subst (λ (xs : List ArcShape). All (IsNearReference arp) xs) (sym c.in_ok-arcs.ensures.arcs) (arcs_near c.args.a.now c.requires.held.near);
+      outer = subst (λ (xs : List ArcShape). IsOuter xs (box_of c.outer_box-outer.result)) c.as_slice-2.ensures.value
+          (c.outer_box-outer.ensures arp (subst (λ (xs : List ArcShape). All (IsNearReference arp) xs) (sym c.in_ok-arcs.ensures.arcs ∙ sym c.as_slice-2.ensures.value) (arcs_near c.args.a.now c.requires.held.near)));
       centers_are = c.in_ok-polygon.ensures.centers ∙ (c.in_ok-centers.ensures.centers ∙ ap centers_of c.as_slice.ensures.value);
-      areas_are = subst (λ (xs : List ArcShape). MatchOption c.areas-areas.result (xs ≡ []) (AreHullAreas xs)) c.as_slice-2.ensures.value c.areas-areas.ensures;
       level_size = omega (arith, ints, e.least, e.most);
     })
 
