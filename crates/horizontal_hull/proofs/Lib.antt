@@ -16,3 +16,4 @@ pub mod Sights
 pub mod SightSizes
 pub mod Abreast
 pub mod BoxFacts
+pub mod PairFacts

@@ -1,13 +1,12 @@
 -- For proofs alone: how near to one another the arcs of one airport and the points are that lie within them.
-use Rattle.std.specs.Prelude.{ℕ, ℤ, pos, neg_ℤ, ◌+◌, ◌-ℤ◌, ◌≤◌, ◌<ℤ◌, ◌≡◌, ◌⊎◌, ◌^◌, List, unsigned_abs}
+use Rattle.std.specs.Prelude.{ℕ, ℤ, pos, neg_ℤ, ◌+◌, ◌-ℤ◌, ◌≤◌, ◌<ℤ◌, ◌⊎◌, ◌^◌, List, unsigned_abs}
 use Rattle.std.specs.List.{All}
 use Rattle.grid_exact.specs.Area.{Has}
 use Rattle.grid_exact.specs.declared.area.Area.{Area}
 use Rattle.grid_exact.specs.declared.point.Point.{Point}
-use Rattle.center_polygon.specs.Spots.{Spot}
 use Rattle.horizontal_hull.specs.declared.edge.Edge.{Edge}
 use Rattle.horizontal_hull.specs.declared.small_box.SmallBox.{SmallBox}
-use Rattle.horizontal_hull.specs.Arcs.{ArcShape, centers_of}
+use Rattle.horizontal_hull.specs.Arcs.{ArcShape}
 use Rattle.horizontal_hull.specs.Within.{Within}
 use Rattle.horizontal_hull.specs.declared.sizes.TheConstants.{ARC_MOST, BOX_REACH, CENTERS_APART, CENTER_REACH, CONICAL_RUN, POINT_APART}
 
@@ -33,10 +32,9 @@ pub record IsOuter (arcs : List ArcShape) (box : Area) : Type 0 where
   pub close : (x : Point) → Has box x → AreClose arcs x
   pub all : (edge : Edge) (x : Point) (c : ℕ) → c ≤ CONICAL_RUN → Within edge arcs x c → Has box x
 
--- what a hull is made of: arcs, their outer box, their centers, and a small level
-pub record IsHull (arcs : List ArcShape) (box : Area) (centers : List Spot) (level : ℤ) : Type 0 where
+-- what a hull is made of: arcs, their outer box, and a small level
+pub record IsHull (arcs : List ArcShape) (box : Area) (level : ℤ) : Type 0 where
   pub outer : IsOuter arcs box
-  pub centers_are : centers ≡ centers_of arcs
   pub level_size : unsigned_abs level ≤ 2 ^ 18
 
 -- two arcs of one airport, and a point near them

@@ -7,3 +7,4 @@ pub mod Close
 pub mod Bands
 pub mod Rises
 pub mod Sights
+pub mod Kept

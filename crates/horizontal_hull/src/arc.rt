@@ -1,29 +1,43 @@
 //! Arcs about the ends of primary surfaces.
 
-ghost use Rattle.std.specs.Prelude.{◌≡◌, ◌≤◌, ◌-ℤ◌};
+ghost use Rattle.std.specs.Prelude.{◌≡◌, ◌≤◌, ◌-ℤ◌, unsigned_abs};
+ghost use Rattle.grid_exact.specs.declared.start.TheConstants.{START_LIMIT};
 ghost use Rattle.airfields.specs.Runways.{IsProper};
 ghost use Rattle.horizontal_hull.specs.Arcs.{arc as arc_of, spot_of};
 
 use crate::sizes::ARC_MOST;
 use airfields::Runway;
 use center_polygon::Center;
-use grid_exact::{Point, Vector};
+use grid_exact::{Point, Start, Vector};
 use runway_lines::{End, center, class};
 use std::marker::Model;
 
-/// An arc of a radius about the center at an end of a runway's primary surface, 77.19(a).
+/// An arc of a radius about the center at an end of a runway's primary surface, 77.19(a). It takes 12 bytes, half as many as with a center
+/// of 64 bits: each structure near an airport reads its arcs.
 #[derive(Drop)]
 pub(crate) struct Arc {
-    center: Center,
+    x: i32,
+    y: i32,
     radius: u32,
 }
 
 impl Model for Arc {
+    ghost use Rattle.grid_exact.specs.Lines.{IsNearGrid};
     ghost use Rattle.horizontal_hull.specs.Arcs.{ArcShape};
 
     ghost Value = { ArcShape };
 
-    ghost view = { λ a. record { x = a.center.x; y = a.center.y; radius = a.radius } };
+    ghost view = { λ a. record { x = a.x; y = a.y; radius = a.radius } };
+
+    ghost invariant = { λ a. IsNearGrid a.x a.y };
+}
+
+/// A coordinate of a center.
+fn narrow(coordinate: i64) -> i32
+    requires size { unsigned_abs coordinate ≤ START_LIMIT }
+    ensures { result ≡ coordinate }
+{
+    coordinate as i32
 }
 
 impl Arc {
@@ -33,9 +47,23 @@ impl Arc {
         ensures shape { result ≡ arc_of runway.now end }
         ensures radius { result.radius ≤ ARC_MOST }
     {
+        let start = center(runway, end);
         Arc {
-            center: Center::at(&center(runway, end)),
+            x: narrow(start.x),
+            y: narrow(start.y),
             radius: class(runway).radius as u32,
+        }
+    }
+
+    /// The start of a line that lies at its center.
+    #[inline(always)]
+    fn start(&self) -> Start
+        ensures x { result.x ≡ self.now.x }
+        ensures y { result.y ≡ self.now.y }
+    {
+        Start {
+            x: i64::from(self.x),
+            y: i64::from(self.y),
         }
     }
 
@@ -43,7 +71,7 @@ impl Arc {
     pub(crate) fn center(&self) -> Center
         ensures { result ≡ spot_of self.now }
     {
-        self.center
+        Center::at(&self.start())
     }
 
     /// Its radius.
@@ -58,7 +86,7 @@ impl Arc {
         ensures x { result.x ≡ x.now.x -ℤ self.now.x }
         ensures y { result.y ≡ x.now.y -ℤ self.now.y }
     {
-        self.center.to_point(x)
+        self.start().to_point(x)
     }
 
     /// The way from its center to another arc's.
@@ -66,6 +94,6 @@ impl Arc {
         ensures x { result.x ≡ other.now.x -ℤ self.now.x }
         ensures y { result.y ≡ other.now.y -ℤ self.now.y }
     {
-        self.center.to_center(&other.center)
+        self.start().to_start(&other.start())
     }
 }

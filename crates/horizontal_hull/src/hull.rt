@@ -1,22 +1,20 @@
 //! The horizontal and conical surfaces of an airport, prepared for many points.
 
 ghost use Rattle.std.specs.Prelude.{◌≡◌, ◌↔◌, ◌*◌, ◌^◌, ◌≤◌, [], ℕ, IfOk, IfSome, IsTrue, unsigned_abs};
-ghost use Rattle.std.specs.List.{All, flat_map};
 ghost use Rattle.std.specs.Option.{MatchOption};
 ghost use Rattle.grid_exact.specs.declared.point.Point.{Point};
 ghost use Rattle.grid_exact.specs.Excess.{IsExcess};
 ghost use Rattle.grid_exact.specs.Level.{IsLevel};
 ghost use Rattle.airfields.specs.Airfields.{IsHeldAirport};
-ghost use Rattle.airfields.specs.Runways.{IsProper};
 ghost use Rattle.horizontal_hull.specs.declared.edge.Edge.{Edge};
-ghost use Rattle.horizontal_hull.specs.Arcs.{arcs_of, arcs_of_runway, centers_of, dome_of};
+ghost use Rattle.horizontal_hull.specs.Arcs.{dome_of};
 ghost use Rattle.horizontal_hull.specs.Areas.{AreHullAreas, CoverHull};
 ghost use Rattle.horizontal_hull.specs.Close.{AreClose};
 ghost use Rattle.horizontal_hull.specs.Rises.{IsRise};
 ghost use Rattle.horizontal_hull.specs.Standings.{IsStanding};
 ghost use Rattle.horizontal_hull.specs.Within.{ConicalCovers, IsCap, IsLeastConical, Within, cap_of, conical, conical_excess, horizontal, horizontal_excess, is_within as is_within_of};
 
-use crate::arc::Arc;
+use crate::arcs::Arcs;
 use crate::areas::{HullAreas, areas, outer_box};
 use crate::edge::Edge;
 use crate::rise::least_rise;
@@ -24,10 +22,8 @@ use crate::sizes::{CONICAL_RISE, CONICAL_RUN, CONICAL_SLOPE, HORIZONTAL_RISE};
 use crate::small_box::SmallBox;
 use crate::some::is_in_some_capsule;
 use crate::standing::Standing;
-use airfields::{Airport, Runway};
-use center_polygon::{Center, CenterPolygon};
+use airfields::Airport;
 use grid_exact::{Cap, NoMemory, Point, flat_excess};
-use runway_lines::End;
 use std::alloc::Global;
 use std::marker::Model;
 
@@ -40,10 +36,8 @@ pub struct Hull {
     /// The box outside which neither surface lies. It stands first, since each structure asks for it, and for more only where it has the
     /// structure's point.
     outer: SmallBox,
+    arcs: Arcs,
     level: i64,
-    arcs: Vec<Arc>,
-    /// The polygon of the arcs' centers.
-    polygon: CenterPolygon,
 }
 
 impl Model for Hull {
@@ -52,45 +46,9 @@ impl Model for Hull {
 
     ghost Value = { Dome };
 
-    ghost view = { λ h. record { arcs = h.arcs.items; level = h.level } };
+    ghost view = { λ h. record { arcs = h.arcs; level = h.level } };
 
-    ghost invariant = { λ h. IsHull h.arcs.items (box_of h.outer) h.polygon h.level };
-}
-
-/// The arcs at both ends of each runway.
-fn arcs_about(alloc: Global, runways: &[Runway]) -> Result<Vec<Arc>, NoMemory>
-    requires proper { All IsProper runways.now }
-    ensures arcs { IfOk result (λ v. v.items ≡ flat_map arcs_of_runway runways.now) }
-{
-    let mut arcs = Vec::with_capacity(alloc, 2 * runways.len())?;
-    for runway in runways {
-        arcs.push(Arc::of(runway, End::One))?;
-        arcs.push(Arc::of(runway, End::Two))?;
-    }
-    Ok(arcs)
-}
-
-/// The arcs of an airport: none where 77.19 is not for its category. A function of its own, since where the branches of a choice join a
-/// proof no longer knows which of them ran.
-fn arcs(alloc: Global, a: &Airport) -> Result<Vec<Arc>, NoMemory>
-    requires proper { All IsProper a.now.runways }
-    ensures arcs { IfOk result (λ v. v.items ≡ arcs_of a.now) }
-{
-    if !a.category.civil_surfaces() {
-        return Ok(Vec::new(alloc));
-    }
-    arcs_about(alloc, a.runways.as_slice())
-}
-
-/// The centers of arcs.
-fn centers(alloc: Global, arcs: &[Arc]) -> Result<Vec<Center>, NoMemory>
-    ensures centers { IfOk result (λ v. v.items ≡ centers_of arcs.now) }
-{
-    let mut centers = Vec::with_capacity(alloc, arcs.len())?;
-    for arc in arcs {
-        centers.push(arc.center())?;
-    }
-    Ok(centers)
+    ghost invariant = { λ h. IsHull h.arcs (box_of h.outer) h.level };
 }
 
 impl Hull {
@@ -103,14 +61,12 @@ impl Hull {
         requires held { IsHeldAirport a.now }
         ensures dome { IfOk result (λ h. h ≡ dome_of a.now) }
     {
-        let arcs = arcs(alloc, a)?;
-        let polygon = CenterPolygon::of(alloc, centers(alloc, arcs.as_slice())?)?;
+        let arcs = Arcs::of(alloc, a)?;
         let outer = outer_box(arcs.as_slice());
         Ok(Hull {
             outer,
-            level: a.elevation + HORIZONTAL_RISE,
             arcs,
-            polygon,
+            level: a.elevation + HORIZONTAL_RISE,
         })
     }
 
@@ -139,8 +95,8 @@ impl Hull {
         if !self.reaches(x) {
             return false;
         }
-        // First the polygon, which is asked faster.
-        if self.polygon.has(x) {
+        // First the triangles, which are asked faster.
+        if self.arcs.has_triangle(x) {
             return true;
         }
         is_in_some_capsule(edge, self.arcs.as_slice(), x, c)
@@ -182,8 +138,8 @@ impl Hull {
         if !self.reaches(x) {
             return None;
         }
-        // First the polygon, which is asked faster.
-        if self.polygon.has(x) {
+        // First the triangles, which are asked faster.
+        if self.arcs.has_triangle(x) {
             return Some(0);
         }
         let rise = least_rise(self.arcs.as_slice(), x);

@@ -3,6 +3,7 @@
 #![tactic(auto)]
 
 mod arc;
+mod arcs;
 mod areas;
 mod band;
 mod capsule;

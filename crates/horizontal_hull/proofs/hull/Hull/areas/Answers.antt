@@ -14,7 +14,7 @@ cover d (Some a) h = areas_cover d a h
 
 exact : (c : After-areas) → MatchOption c.areas.result (c.args.self.now.arcs ≡ []) (AreHullAreas c.args.self.now.arcs)
 exact c =
-    let same : c.as_slice.result.now ≡ c.args.self.now.arcs = c.as_slice.ensures.value ∙ ap (λ d. d.arcs) c.self.view_is in
+    let same : c.as_slice.result.now ≡ c.args.self.now.arcs = c.as_slice.ensures ∙ ap (λ d. d.arcs) c.self.view_is in
     subst (λ (xs : List ArcShape). MatchOption c.areas.result (xs ≡ []) (AreHullAreas xs)) same c.areas.ensures
 
 pub returns-clause-exact : goal.returns-clause-exact

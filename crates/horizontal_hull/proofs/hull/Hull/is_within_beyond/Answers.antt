@@ -8,7 +8,7 @@ use Rattle.horizontal_hull.proofs.hull.Hull.is_within_beyond.Goals as goal
 
 pub is_in_some_capsule-requires-clause-close : goal.is_in_some_capsule-requires-clause-close
 is_in_some_capsule-requires-clause-close c =
-    let same : c.as_slice.result.now ≡ c.args.self.now.arcs = c.as_slice.ensures.value ∙ ap (λ d. d.arcs) c.self.view_is in
+    let same : c.as_slice.result.now ≡ c.args.self.now.arcs = c.as_slice.ensures ∙ ap (λ d. d.arcs) c.self.view_is in
     subst (λ (xs : List ArcShape). AreClose xs c.args.x.now) (sym same) (c.reaches.ensures.close c.if-not-reaches.false)
 
 pub returns : goal.returns
@@ -16,5 +16,5 @@ returns c =
     let edge = c.args.edge in
     let x = c.args.x.now in
     let r = c.is_in_some_capsule.result in
-    let same : c.as_slice.result.now ≡ c.args.self.now.arcs = c.as_slice.ensures.value ∙ ap (λ d. d.arcs) c.self.view_is in
+    let same : c.as_slice.result.now ≡ c.args.self.now.arcs = c.as_slice.ensures ∙ ap (λ d. d.arcs) c.self.view_is in
     within_beyond edge c.args.self.now.arcs x c.args.c r c.requires.beyond (subst (λ (xs : List ArcShape). r ≡ some_two (λ a b. in_capsule edge a b x c.args.c) xs) same c.is_in_some_capsule.ensures)

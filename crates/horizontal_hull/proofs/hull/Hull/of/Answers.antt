@@ -1,8 +1,8 @@
-use Rattle.std.proofs.Common.{◌≡◌, ◌∙◌, refl, ℤ, ◌+ℤ◌, List, arith, ap, sym, subst, FitsSigned, w64, to_z, of_z, to_z-of_z}
+use Rattle.std.proofs.Common.{◌≡◌, ◌∙◌, refl, ℤ, ◌+ℤ◌, List, arith, sym, subst, FitsSigned, w64, to_z, of_z, to_z-of_z}
 use Rattle.std.specs.List.{All}
 use Rattle.std.proofs.lemmas.Int.{ints}
 use Rattle.airfields.specs.Runways.{IsElevation}
-use Rattle.horizontal_hull.specs.Arcs.{ArcShape, Dome, arcs_of, centers_of, dome_of}
+use Rattle.horizontal_hull.specs.Arcs.{ArcShape, Dome, arcs_of, dome_of}
 use Rattle.horizontal_hull.specs.declared.sizes.TheConstants.{HORIZONTAL_RISE}
 use Rattle.horizontal_hull.specs.Close.{IsNearReference, IsOuter, box_of}
 use Rattle.horizontal_hull.proofs.ArcFacts.{arcs_near}
@@ -24,9 +24,8 @@ invariant_of-result c =
     let arp = c.args.a.now.arp in
     rw (raised c.args.a.now.elevation e)
     (record {
-      outer = subst (λ (xs : List ArcShape). IsOuter xs (box_of c.outer_box-outer.result)) c.as_slice-2.ensures.value
-          (c.outer_box-outer.ensures arp (subst (λ (xs : List ArcShape). All (IsNearReference arp) xs) (sym c.in_ok-arcs.ensures.arcs ∙ sym c.as_slice-2.ensures.value) (arcs_near c.args.a.now c.requires.held.near)));
-      centers_are = c.in_ok-polygon.ensures.centers ∙ (c.in_ok-centers.ensures.centers ∙ ap centers_of c.as_slice.ensures.value);
+      outer = subst (λ (xs : List ArcShape). IsOuter xs (box_of c.outer_box-outer.result)) c.as_slice.ensures
+          (c.outer_box-outer.ensures arp (subst (λ (xs : List ArcShape). All (IsNearReference arp) xs) (sym c.in_ok-arcs.ensures.arcs ∙ sym c.as_slice.ensures) (arcs_near c.args.a.now c.requires.held.near)));
       level_size = omega (arith, ints, e.least, e.most);
     })
 
@@ -36,6 +35,6 @@ domed xs ys y z p q = rw (p, q) refl
 pub returns : goal.returns
 unfolding dome_of
 returns c = record {
-  dome = domed c.in_ok-arcs.arcs.items (arcs_of c.args.a.now) (to_z w64 (of_z w64 (to_z w64 (of_z w64 c.args.a.now.elevation) +ℤ HORIZONTAL_RISE))) (c.args.a.now.elevation +ℤ HORIZONTAL_RISE)
+  dome = domed c.in_ok-arcs.arcs (arcs_of c.args.a.now) (to_z w64 (of_z w64 (to_z w64 (of_z w64 c.args.a.now.elevation) +ℤ HORIZONTAL_RISE))) (c.args.a.now.elevation +ℤ HORIZONTAL_RISE)
       c.in_ok-arcs.ensures.arcs (raised c.args.a.now.elevation c.requires.held.elevation);
 }

@@ -11,30 +11,30 @@ use Rattle.horizontal_hull.proofs.hull.Hull.rise.Goals as goal
 
 pub least_rise-rise-requires : goal.least_rise-rise-requires
 least_rise-rise-requires c =
-    let same : c.as_slice.result.now ≡ c.args.self.now.arcs = c.as_slice.ensures.value ∙ ap (λ d. d.arcs) c.self.view_is in
+    let same : c.as_slice.result.now ≡ c.args.self.now.arcs = c.as_slice.ensures ∙ ap (λ d. d.arcs) c.self.view_is in
     record { close = subst (λ (xs : List ArcShape). AreClose xs c.args.x.now) (sym same) (c.reaches.ensures.close c.if-not-reaches.false) }
 
 least : (arcs asked : List ArcShape) (x : Point) (rise : ℕ) → asked ≡ arcs → IsLeastRise (λ k. some_two (in_risen x k) asked) (CONICAL_RISE + 1) rise → IsLeastRise (λ k. some_two (in_risen x k) arcs) (CONICAL_RISE + 1) rise
 least arcs asked x rise e h = subst (λ (xs : List ArcShape). IsLeastRise (λ k. some_two (in_risen x k) xs) (CONICAL_RISE + 1) rise) e h
 
-pub returns-then-has : goal.returns-then-has
-returns-then-has c =
-    let tested : c.has.result ≡ in_some_triangle (centers_of c.args.self.now.arcs) c.args.x.now =
-    c.has.ensures.test ∙ ap (λ s. in_some_triangle s c.args.x.now) (c.self.invariant.centers_are ∙ ap (λ d. centers_of d.arcs) c.self.view_is) in
-    rise_in_triangle c.args.self.now.arcs c.args.x.now c.has.result tested c.if-has.true
+pub returns-then-has_triangle : goal.returns-then-has_triangle
+returns-then-has_triangle c =
+    let tested : c.has_triangle.result ≡ in_some_triangle (centers_of c.args.self.now.arcs) c.args.x.now =
+    c.has_triangle.ensures ∙ ap (λ d. in_some_triangle (centers_of d.arcs) c.args.x.now) c.self.view_is in
+    rise_in_triangle c.args.self.now.arcs c.args.x.now c.has_triangle.result tested c.if-has_triangle.true
 
 pub returns-then-rise-gt-CONICAL_RISE : goal.returns-then-rise-gt-CONICAL_RISE
 returns-then-rise-gt-CONICAL_RISE c =
-    let same : c.as_slice.result.now ≡ c.args.self.now.arcs = c.as_slice.ensures.value ∙ ap (λ d. d.arcs) c.self.view_is in
-    let tested : c.has.result ≡ in_some_triangle (centers_of c.args.self.now.arcs) c.args.x.now =
-    c.has.ensures.test ∙ ap (λ s. in_some_triangle s c.args.x.now) (c.self.invariant.centers_are ∙ ap (λ d. centers_of d.arcs) c.self.view_is) in
-    let apart : in_some_triangle (centers_of c.args.self.now.arcs) c.args.x.now ≡ false = sym tested ∙ c.if-has.false in
+    let same : c.as_slice.result.now ≡ c.args.self.now.arcs = c.as_slice.ensures ∙ ap (λ d. d.arcs) c.self.view_is in
+    let tested : c.has_triangle.result ≡ in_some_triangle (centers_of c.args.self.now.arcs) c.args.x.now =
+    c.has_triangle.ensures ∙ ap (λ d. in_some_triangle (centers_of d.arcs) c.args.x.now) c.self.view_is in
+    let apart : in_some_triangle (centers_of c.args.self.now.arcs) c.args.x.now ≡ false = sym tested ∙ c.if-has_triangle.false in
     no_rise c.args.self.now.arcs c.args.x.now c.least_rise-rise.result apart (least c.args.self.now.arcs c.as_slice.result.now c.args.x.now c.least_rise-rise.result same c.least_rise-rise.ensures) c.if-rise-gt-CONICAL_RISE.true
 
 pub returns : goal.returns
 returns c =
-    let same : c.as_slice.result.now ≡ c.args.self.now.arcs = c.as_slice.ensures.value ∙ ap (λ d. d.arcs) c.self.view_is in
-    let tested : c.has.result ≡ in_some_triangle (centers_of c.args.self.now.arcs) c.args.x.now =
-    c.has.ensures.test ∙ ap (λ s. in_some_triangle s c.args.x.now) (c.self.invariant.centers_are ∙ ap (λ d. centers_of d.arcs) c.self.view_is) in
-    let apart : in_some_triangle (centers_of c.args.self.now.arcs) c.args.x.now ≡ false = sym tested ∙ c.if-has.false in
+    let same : c.as_slice.result.now ≡ c.args.self.now.arcs = c.as_slice.ensures ∙ ap (λ d. d.arcs) c.self.view_is in
+    let tested : c.has_triangle.result ≡ in_some_triangle (centers_of c.args.self.now.arcs) c.args.x.now =
+    c.has_triangle.ensures ∙ ap (λ d. in_some_triangle (centers_of d.arcs) c.args.x.now) c.self.view_is in
+    let apart : in_some_triangle (centers_of c.args.self.now.arcs) c.args.x.now ≡ false = sym tested ∙ c.if-has_triangle.false in
     rise_is c.args.self.now.arcs c.args.x.now c.least_rise-rise.result apart (least c.args.self.now.arcs c.as_slice.result.now c.args.x.now c.least_rise-rise.result same c.least_rise-rise.ensures) c.if-rise-gt-CONICAL_RISE.false

@@ -1,0 +1,17 @@
+-- For proofs alone: how the arcs of an airport are kept.
+use Rattle.std.specs.Prelude.{◌≡◌, List, [], length}
+use Rattle.horizontal_hull.specs.declared.arcs.Kept.{Kept}
+use Rattle.horizontal_hull.specs.declared.arcs.Kept.TheVariants.{Absent, Pair, Many}
+use Rattle.horizontal_hull.specs.Arcs.{ArcShape}
+
+-- the arcs
+abbrev pub shapes_of : Kept → List ArcShape
+shapes_of Absent = []
+shapes_of (Pair pair) = pair
+shapes_of (Many several) = several.value
+
+-- those of one runway are two
+abbrev pub IsKept : Kept → Type 0
+IsKept Absent = Unit {0}
+IsKept (Pair pair) = length pair ≡ 2
+IsKept (Many several) = Unit {0}
