@@ -17,8 +17,9 @@ fn is_in_disc(edge: Edge, a: &Arc, x: &Point, c: u32) -> bool
     requires run { c ≤ CONICAL_RUN }
     ensures { IsTrue result ↔ InDisc edge a.now x.now c }
 {
-    let away = a.to_point(x).square_length();
-    let radius = (a.radius() + c) as u128;
+    // 64 bits hold both squares, in which they are asked faster.
+    let away = a.to_point(x).square_length() as u64;
+    let radius = u64::from(a.radius() + c);
     match edge {
         Edge::Closed => away <= radius * radius,
         Edge::Open => away < radius * radius,
