@@ -29,14 +29,12 @@ IsBetween square along across growth =
     (growth * growth < square)
     × (AtMostRoot (neg_ℤ (pos (growth * across))) along (square - growth * growth) × AtMostRoot (pos (growth * across)) (pos square -ℤ along) (square - growth * growth))
 
--- the sizes of the squares of how far a point is from two centers, of both radii, of the squares of the distance between the centers and of
--- the length of a tangent, and of how far the point lies beside and along the line of the centers
-pub record IsSight (first second first_radius second_radius square tangent across : ℕ) (lean : ℤ) : Type 0 where
+-- the sizes of the squares of how far a point is from two centers, of both radii, of the square of the distance between the centers, and of
+-- how far the point lies along the line of the centers
+pub record IsSight (first second first_radius second_radius square : ℕ) (lean : ℤ) : Type 0 where
   pub first_far : first ≤ 2 ^ 55
   pub second_far : second ≤ 2 ^ 55
   pub first_size : first_radius ≤ ARC_MOST
   pub second_size : second_radius ≤ ARC_MOST
   pub square_size : square ≤ 2 ^ 41
-  pub tangent_size : tangent ≤ 2 ^ 41
-  pub across_size : across ≤ 2 ^ 41
   pub lean_size : unsigned_abs lean ≤ 2 ^ 58

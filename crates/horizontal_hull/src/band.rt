@@ -77,16 +77,8 @@ impl Band {
         self.square
     }
 
-    /// How far the point lies beside the line, times that distance.
-    pub(crate) fn across(&self) -> u64
-        ensures value { result ≡ self.now.across }
-        ensures size { result ≤ 2 ^ 41 }
-    {
-        self.across
-    }
-
     /// The square of the length of a tangent; 0 where the larger disc holds the smaller one, and there is none.
-    pub(crate) fn tangent(&self) -> u64
+    fn tangent(&self) -> u64
         ensures value { result ≡ self.now.square - self.now.growth * self.now.growth }
         ensures size { result ≤ 2 ^ 41 }
     {

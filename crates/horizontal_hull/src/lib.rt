@@ -8,6 +8,7 @@ mod areas;
 mod band;
 mod capsule;
 mod edge;
+mod guess;
 mod hull;
 mod laws;
 mod rise;

@@ -8,6 +8,7 @@ ghost use Rattle.horizontal_hull.specs.Rises.{IsLeastRise, in_risen};
 
 use crate::arc::Arc;
 use crate::capsule::is_in_discs;
+use crate::guess::guess_rise;
 use crate::seen::Seen;
 use crate::sizes::{CONICAL_RISE, CONICAL_SLOPE};
 use grid_exact::Point;
@@ -45,7 +46,7 @@ fn rise_of_two(a: &Arc, b: &Arc, x: &Point, most: u32) -> u32
         return 0;
     }
     let seen = Seen::of(a, b, x);
-    let guess = seen.guess_rise().min(most);
+    let guess = guess_rise(a, b, x).min(most);
     let mut least = 0;
     let mut reached = most;
     while least < reached {

@@ -10,9 +10,8 @@ ghost use Rattle.horizontal_hull.specs.declared.edge.Edge.TheVariants.{Closed};
 
 use crate::arc::Arc;
 use crate::band::Band;
-use crate::sizes::{CONICAL_RISE, CONICAL_RUN, CONICAL_SLOPE};
+use crate::sizes::CONICAL_RUN;
 use grid_exact::Point;
-use std::num::{nearest_i64_to_f64, saturating_f64_to_u32};
 
 /// A point as two arcs see it, of which the second is not the smaller one: what is the same however much their radii are raised, so that it
 /// is computed once.
@@ -26,19 +25,15 @@ pub(crate) struct Seen {
     pub(crate) second_radius: u32,
     /// The square of the distance between the centers.
     pub(crate) square: u64,
-    /// The square of the length of a tangent.
-    pub(crate) tangent: u64,
-    /// How far it lies beside the line of the centers, times their distance.
-    pub(crate) across: u64,
-    /// How far it lies along that line, times their distance and how much greater the second radius is.
+    /// How far it lies along the line of the centers, times their distance and how much greater the second radius is.
     pub(crate) lean: i64,
-    /// The square of `across`, times the square of the length of a tangent.
+    /// The square of how far it lies beside that line, times the square of their distance and of the length of a tangent.
     pub(crate) reach: u128,
     /// Whether the larger disc does not hold the smaller one.
     pub(crate) is_open: bool,
     /// Whether besides it lies between where the tangents touch the arcs.
     pub(crate) is_between: bool,
-    ghost sized: { IsSight first second first_radius second_radius square tangent across lean },
+    ghost sized: { IsSight first second first_radius second_radius square lean },
 }
 
 /// The square of how far a point is from the center of an arc.
@@ -47,13 +42,6 @@ fn square_to(a: &Arc, x: &Point) -> u64
     ensures size { result ≤ 2 ^ 55 }
 {
     a.to_point(x).square_length() as u64
-}
-
-/// How far beyond an arc a point is, by the square of how far it is from the center.
-fn beyond_disc(square: u64, radius: u32) -> f64
-    requires { square ≤ 2 ^ 55 }
-{
-    nearest_i64_to_f64(square as i64).sqrt() - f64::from(radius)
 }
 
 impl Seen {
@@ -73,8 +61,6 @@ impl Seen {
             first_radius: a.radius(),
             second_radius: b.radius(),
             square: band.square(),
-            tangent: band.tangent(),
-            across: band.across(),
             lean: band.lean(),
             reach: band.reach(),
             is_open: band.is_open(),
@@ -146,31 +132,5 @@ impl Seen {
         ensures { (a b : ArcShape) (x : Point) → IsSeenOf a b x self.now → result ≡ in_capsule Closed a b x c }
     {
         self.is_in_sight(c)
-    }
-
-    /// How far it is beyond the arcs joined by their tangents, about.
-    fn beyond(&self) -> f64 {
-        if self.is_between {
-            let root = nearest_i64_to_f64(self.tangent as i64).sqrt();
-            let ways = nearest_i64_to_f64(self.across as i64) * root
-                - nearest_i64_to_f64(self.lean);
-            return ways / nearest_i64_to_f64(self.square as i64) - f64::from(self.first_radius);
-        }
-        let second = beyond_disc(self.second, self.second_radius);
-        if !self.is_open {
-            return second;
-        }
-        let first = beyond_disc(self.first, self.first_radius);
-        if first < second { first } else { second }
-    }
-
-    /// A guess of how much higher than the horizontal surface the conical one is, by these arcs alone; 0 within them. It says nearly always
-    /// what is found, so that little is asked; what is found does not rest on it.
-    pub(crate) fn guess_rise(&self) -> u32 {
-        let beyond = self.beyond();
-        if beyond <= 0.0 {
-            return 0;
-        }
-        saturating_f64_to_u32(beyond / f64::from(CONICAL_SLOPE)).min(CONICAL_RISE - 1) + 1
     }
 }
