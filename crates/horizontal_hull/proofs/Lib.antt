@@ -17,3 +17,4 @@ pub mod SightSizes
 pub mod Abreast
 pub mod BoxFacts
 pub mod PairFacts
+pub mod OrderFacts

@@ -1,6 +1,6 @@
 //! Arcs about the ends of primary surfaces.
 
-ghost use Rattle.std.specs.Prelude.{◌≡◌, ◌≤◌, ◌-ℤ◌, unsigned_abs};
+ghost use Rattle.std.specs.Prelude.{◌≡◌, ◌≤◌, ◌-ℤ◌, if◌then◌else◌, nat_le, unsigned_abs};
 ghost use Rattle.grid_exact.specs.declared.start.TheConstants.{START_LIMIT};
 ghost use Rattle.airfields.specs.Runways.{IsProper};
 ghost use Rattle.horizontal_hull.specs.Arcs.{arc as arc_of, spot_of};
@@ -96,4 +96,20 @@ impl Arc {
     {
         self.start().to_start(&other.start())
     }
+}
+
+/// The one of two arcs with the smaller radius, the first of equal ones.
+#[inline(always)]
+pub(crate) fn smaller<'a>(a: &'a Arc, b: &'a Arc) -> &'a Arc
+    ensures { result.now ≡ if nat_le a.now.radius b.now.radius then a.now else b.now }
+{
+    if a.radius() <= b.radius() { a } else { b }
+}
+
+/// The other one.
+#[inline(always)]
+pub(crate) fn larger<'a>(a: &'a Arc, b: &'a Arc) -> &'a Arc
+    ensures { result.now ≡ if nat_le a.now.radius b.now.radius then b.now else a.now }
+{
+    if a.radius() <= b.radius() { b } else { a }
 }

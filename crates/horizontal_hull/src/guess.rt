@@ -1,7 +1,7 @@
 //! A guess of how much higher than the horizontal surface the conical one is, by two arcs. It says nearly always what is found, so that
 //! little is asked; what is found does not rest on it.
 
-use crate::arc::Arc;
+use crate::arc::{Arc, larger, smaller};
 use crate::sizes::CONICAL_RISE;
 use grid_exact::{Point, Vector};
 use std::num::saturating_f64_to_u32;
@@ -75,9 +75,8 @@ fn beyond(way: &Way, seen: &Way, radius: f64, growth: f64) -> f64 {
 /// The guess for two arcs, whichever is the smaller; 0 within them.
 #[inline(always)]
 pub(crate) fn guess_rise(a: &Arc, b: &Arc, x: &Point) -> u32 {
-    let is_ordered = a.radius() <= b.radius();
-    let first = if is_ordered { a } else { b };
-    let second = if is_ordered { b } else { a };
+    let first = smaller(a, b);
+    let second = larger(a, b);
     let way = Way::of(&first.to_arc(second));
     let seen = Way::of(&first.to_point(x));
     let radius = f64::from(first.radius());

@@ -8,7 +8,7 @@ ghost use Rattle.horizontal_hull.specs.Capsules.{away, in_capsule};
 ghost use Rattle.horizontal_hull.specs.Close.{IsNearBoth};
 ghost use Rattle.horizontal_hull.specs.declared.edge.Edge.TheVariants.{Closed};
 
-use crate::arc::Arc;
+use crate::arc::{Arc, larger, smaller};
 use crate::band::Band;
 use crate::sizes::CONICAL_RUN;
 use grid_exact::Point;
@@ -69,15 +69,12 @@ impl Seen {
     }
 
     /// A point seen by two arcs.
+    #[inline(always)]
     pub(crate) fn of(a: &Arc, b: &Arc, x: &Point) -> Seen
         requires near { IsNearBoth a.now b.now x.now }
         ensures { IsSeenOf a.now b.now x.now result }
     {
-        if a.radius() <= b.radius() {
-            Seen::ordered(a, b, x)
-        } else {
-            Seen::ordered(b, a, x)
-        }
+        Seen::ordered(smaller(a, b), larger(a, b), x)
     }
 
     /// Whether it lies in the disc of the second arc.

@@ -1,10 +1,11 @@
-use Rattle.std.proofs.Common.{arith}
-use Rattle.horizontal_hull.proofs.Sights.{seen_first, seen_second}
+use Rattle.horizontal_hull.proofs.OrderFacts.{near_sorted, radius_sorted, seen_sorted}
 use Rattle.horizontal_hull.proofs.seen.Seen.of.Goals as goal
 
-pub returns-then-radius : goal.returns-then-radius
-returns-then-radius c = seen_first c.args.a.now c.args.b.now c.args.x.now c.ordered.result (omega (arith, c.radius.ensures, c.radius-2.ensures, c.if-radius.true)) c.ordered.ensures
+pub ordered-requires-clause-near : goal.ordered-requires-clause-near
+ordered-requires-clause-near c = near_sorted c.args.a.now c.args.b.now c.smaller.result.now c.larger.result.now c.args.x.now c.smaller.ensures c.larger.ensures c.requires.near
 
-pub returns-else-radius : goal.returns-else-radius
-returns-else-radius c =
-    seen_second c.args.a.now c.args.b.now c.args.x.now c.ordered-else-radius.result (omega (arith, c.radius.ensures, c.radius-2.ensures, c.if-radius.false)) c.ordered-else-radius.ensures
+pub ordered-requires-clause-order : goal.ordered-requires-clause-order
+ordered-requires-clause-order c = radius_sorted c.args.a.now c.args.b.now c.smaller.result.now c.larger.result.now c.smaller.ensures c.larger.ensures
+
+pub returns : goal.returns
+returns c = seen_sorted c.args.a.now c.args.b.now c.smaller.result.now c.larger.result.now c.args.x.now c.ordered.result c.smaller.ensures c.larger.ensures c.ordered.ensures
