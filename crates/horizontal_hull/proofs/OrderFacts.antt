@@ -1,12 +1,15 @@
 -- Two arcs in the order of their radii.
 use Rattle.std.proofs.Common.{◌≡◌, ◌≤◌, Bool, true, false, if◌then◌else◌, ◌-ℤ◌, unsigned_abs, arith, ℤ, refl}
-use Rattle.std.specs.Prelude.{MatchBool, nat_le}
+use Rattle.std.specs.Prelude.{IsTrue, MatchBool, nat_le}
 use Rattle.std.proofs.lemmas.Int.{ints}
 use Rattle.grid_exact.specs.declared.point.Point.{Point}
 use Rattle.horizontal_hull.specs.declared.seen.Seen.{Seen}
 use Rattle.horizontal_hull.specs.Arcs.{ArcShape}
+use Rattle.horizontal_hull.specs.declared.edge.Edge.TheVariants.{Closed}
+use Rattle.horizontal_hull.specs.Capsules.{InTapered, in_capsule}
 use Rattle.horizontal_hull.specs.Close.{IsNearBoth}
 use Rattle.horizontal_hull.specs.Sights.{IsSeen, IsSeenOf}
+use Rattle.horizontal_hull.proofs.Tests.{InCapsule-test}
 
 abbrev pub first_of : Bool → ArcShape → ArcShape → ArcShape
 first_of p a b = if p then a else b
@@ -46,3 +49,11 @@ seen_ordered false a b x s h = h
 
 pub seen_sorted : (a b first second : ArcShape) (x : Point) (s : Seen) → first ≡ first_of (nat_le a.radius b.radius) a b → second ≡ second_of (nat_le a.radius b.radius) a b → IsSeen first second x s → IsSeenOf a b x s
 seen_sorted a b first second x s e f h = seen_ordered (nat_le a.radius b.radius) a b x s (rw (e, f) at h)
+
+tapered_ordered : (p : Bool) (a b : ArcShape) (x : Point) → InTapered Closed (first_of p a b) (second_of p a b) x 0 → MatchBool p (InTapered Closed a b x 0) (InTapered Closed b a x 0)
+tapered_ordered true a b x h = h
+tapered_ordered false a b x h = h
+
+pub tapered_sorted : (a b first second : ArcShape) (x : Point) → first ≡ first_of (nat_le a.radius b.radius) a b → second ≡ second_of (nat_le a.radius b.radius) a b → InTapered Closed first second x 0 →
+    IsTrue (in_capsule Closed a b x 0)
+tapered_sorted a b first second x e f h = (InCapsule-test Closed a b x 0).1 (tapered_ordered (nat_le a.radius b.radius) a b x (rw (e, f) at h))

@@ -1,7 +1,6 @@
 -- What two arcs see of a point says whether it lies in their capsule.
-use Rattle.std.proofs.Common.{◌≡◌, ◌↔◌, inl, inr, Bool, true, false, ℕ, ℤ, pos, negsuc, ◌+◌, ◌*◌, ◌<◌, ◌≤◌, ◌≤ℤ◌, unsigned_abs, IsTrue, nat_le, arith, if◌then◌else◌, refl}
+use Rattle.std.proofs.Common.{◌≡◌, ◌↔◌, inl, inr, Bool, true, false, ℕ, ℤ, pos, negsuc, ◌+◌, ◌*◌, ◌≤◌, ◌≤ℤ◌, unsigned_abs, IsTrue, nat_le, arith, if◌then◌else◌, refl}
 use Rattle.std.specs.Prelude.{MatchBool}
-use Rattle.std.proofs.lemmas.Bool.Decides.{nat_tests}
 use Rattle.std.proofs.lemmas.Int.{ints}
 use Rattle.grid_exact.specs.declared.point.Point.{Point}
 use Rattle.grid_exact.specs.Root.{AtLeastRoot}
@@ -68,15 +67,3 @@ either a b x s c r false h k = seen_tapered b a x s c r h k
 pub seen_capsule : (a b : ArcShape) (x : Point) (s : Seen) (c : ℕ) (r : Bool) → IsSeenOf a b x s → (IsTrue r ↔ InSight s c) → r ≡ in_capsule Closed a b x c
 unfolding in_capsule
 seen_capsule a b x s c r h k = either a b x s c r (nat_le a.radius b.radius) h k
-
-not_larger : (m n : ℕ) → m ≤ n → nat_le m n ≡ true
-not_larger m n h = grind (arith, nat_tests)
-
-larger : (m n : ℕ) → n < m → nat_le m n ≡ false
-larger m n h = grind (arith, nat_tests)
-
-pub seen_first : (a b : ArcShape) (x : Point) (s : Seen) → a.radius ≤ b.radius → IsSeen a b x s → IsSeenOf a b x s
-seen_first a b x s l h = rw (not_larger a.radius b.radius l) h
-
-pub seen_second : (a b : ArcShape) (x : Point) (s : Seen) → b.radius < a.radius → IsSeen b a x s → IsSeenOf a b x s
-seen_second a b x s l h = rw (larger a.radius b.radius l) h

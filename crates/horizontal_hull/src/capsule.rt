@@ -5,7 +5,7 @@ ghost use Rattle.horizontal_hull.specs.declared.edge.Edge.{Edge};
 ghost use Rattle.horizontal_hull.specs.Capsules.{InBand, InDisc, InTapered, flare, in_capsule, span};
 ghost use Rattle.horizontal_hull.specs.Close.{IsBeside, IsNearBoth};
 
-use crate::arc::Arc;
+use crate::arc::{Arc, larger, smaller};
 use crate::band::Band;
 use crate::edge::Edge;
 use crate::sizes::{ARC_MOST, CONICAL_RUN};
@@ -143,9 +143,5 @@ pub(crate) fn is_in_discs(a: &Arc, b: &Arc, x: &Point) -> bool
     requires near { IsNearBoth a.now b.now x.now }
     ensures { IsTrue result → IsTrue (in_capsule Edge.Closed a.now b.now x.now 0) }
 {
-    if a.radius() <= b.radius() {
-        is_in_two_discs(a, b, x)
-    } else {
-        is_in_two_discs(b, a, x)
-    }
+    is_in_two_discs(smaller(a, b), larger(a, b), x)
 }
