@@ -2,12 +2,9 @@
 //! little is asked; what is found does not rest on it.
 
 use crate::arc::{Arc, larger, smaller};
-use crate::sizes::CONICAL_RISE;
+use crate::sizes::{CONICAL_RISE, CONICAL_SLOPE};
 use grid_exact::{Point, Vector};
 use std::num::saturating_f64_to_u32;
-
-/// How much the conical surface rises by one outward, 20 to 1. To multiply is faster than to divide.
-const RISE_OF_ONE: f64 = 0.05;
 
 /// A way in floating-point numbers, which hold its parts and their products exactly.
 #[derive(Clone, Copy)]
@@ -85,5 +82,7 @@ pub(crate) fn guess_rise(a: &Arc, b: &Arc, x: &Point) -> u32 {
     if beyond <= 0.0 {
         return 0;
     }
-    saturating_f64_to_u32(beyond * RISE_OF_ONE).min(CONICAL_RISE - 1) + 1
+    // to multiply is faster than to divide
+    let rise = beyond * (1.0 / f64::from(CONICAL_SLOPE));
+    saturating_f64_to_u32(rise).min(CONICAL_RISE - 1) + 1
 }
