@@ -30,10 +30,10 @@ whole_quotient (negsuc a) (suc m) p = let e : negsuc a *ℤ pos (suc m) ≡ negs
 no_climb : (rise : ℤ) (n : ℕ) → 0 < n → int_div_euclid (rise *ℤ pos 0) (pos n) ≡ pos 0
 no_climb rise n p = let e : rise *ℤ pos 0 ≡ pos 0 *ℤ pos n = omega (arith, ints) in rw e (whole_quotient (pos 0) n p)
 
-before_start : (z rise m : ℤ) (n : ℕ) → 0 < n → m <ℤ pos 0 → z ≡ z +ℤ int_div_euclid (rise *ℤ clamped m n) (pos n)
+pub before_start : (z rise m : ℤ) (n : ℕ) → 0 < n → m <ℤ pos 0 → z ≡ z +ℤ int_div_euclid (rise *ℤ clamped m n) (pos n)
 before_start z rise m n p l = let t : int_lt m (pos 0) ≡ true = lt_out m (pos 0) l in rw t (omega (arith, ints, no_climb rise n p))
 
-past_end : (z y m : ℤ) (n : ℕ) → 0 < n → pos n <ℤ m → y ≡ z +ℤ int_div_euclid ((y -ℤ z) *ℤ clamped m n) (pos n)
+pub past_end : (z y m : ℤ) (n : ℕ) → 0 < n → pos n <ℤ m → y ≡ z +ℤ int_div_euclid ((y -ℤ z) *ℤ clamped m n) (pos n)
 past_end z y m n p l =
     let f : int_lt m (pos 0) ≡ false = grind (arith, ints, l) in
     let t : int_lt (pos n) m ≡ true = lt_out (pos n) m l in

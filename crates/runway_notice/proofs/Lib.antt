@@ -12,3 +12,5 @@ pub mod PastRange
 pub mod AreaFacts
 pub mod QuotientFacts
 pub mod LoneFacts
+pub mod EndFacts
+pub mod EndExcess

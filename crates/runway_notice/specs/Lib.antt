@@ -10,3 +10,4 @@ pub mod Notices
 pub mod Areas
 pub mod NoticeAreas
 pub mod LoneRunways
+pub mod EndSlopes

@@ -5,6 +5,7 @@
 
 mod area;
 mod candidate;
+mod end_slope;
 mod guesses;
 mod laws;
 mod limit;

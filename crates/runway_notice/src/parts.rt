@@ -19,7 +19,7 @@ fn product(a: i64, b: i64) -> i64
 }
 
 /// The inner product.
-fn dot(a: &Vector, b: &Vector) -> i64
+pub(crate) fn dot(a: &Vector, b: &Vector) -> i64
     ensures value { result ≡ along_of a.now.x a.now.y b.now.x b.now.y }
     ensures size { unsigned_abs result ≤ 2 ^ 55 }
 {
@@ -36,7 +36,7 @@ fn cross(a: &Vector, b: &Vector) -> i64
 
 /// The square of a part of a vector.
 #[tactic(auto, using(crate::proofs::PartFacts::short))]
-fn squared(part: u64) -> u64
+pub(crate) fn squared(part: u64) -> u64
     requires { part ≤ 2 ^ 27 }
     ensures value { result ≡ part * part }
     ensures size { result ≤ 2 ^ 54 }
@@ -45,7 +45,7 @@ fn squared(part: u64) -> u64
 }
 
 /// The square of a vector's length.
-fn square_length(a: &Vector) -> u64
+pub(crate) fn square_length(a: &Vector) -> u64
     ensures value { result ≡ length_of a.now.x a.now.y }
 {
     squared(a.x.unsigned_abs()) + squared(a.y.unsigned_abs())

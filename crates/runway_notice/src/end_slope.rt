@@ -1,0 +1,201 @@
+//! The slope from the end of a runway that is nearest to a point: there the square of the distance is a whole number of 64 bits.
+
+ghost use Rattle.std.specs.Prelude.{◌≡◌, ◌↔◌, ◌≤◌, ◌^◌, ◌≤ℤ◌, ℤ, IfSome, IsTrue, unsigned_abs};
+ghost use Rattle.grid_exact.specs.Excess.{IsExcess, covering};
+ghost use Rattle.grid_exact.specs.Level.{IsLevel};
+ghost use Rattle.runway_notice.specs.Distances.{IsSlopeFrom, IsAboveRootOf, IsAtLeastRootOf, run_of};
+ghost use Rattle.runway_notice.specs.EndSlopes.{IsInReach, end_surface, whole};
+ghost use Rattle.runway_notice.specs.Slopes.{range_of, ratio_of};
+
+use crate::parts::squared;
+use crate::slope::{RANGE_B1, RANGE_B2, Sub};
+use grid_exact::{Rising, Sloping, least_reached};
+use std::num::nearest_i64_to_f64;
+
+/// The greatest square of a distance to which the slope of 77.9(b)(1) goes out.
+const SQUARE_B1: u64 = (RANGE_B1 * RANGE_B1) as u64;
+
+/// The greatest square of a distance to which the slope of 77.9(b)(2) goes out.
+const SQUARE_B2: u64 = (RANGE_B2 * RANGE_B2) as u64;
+
+/// Whether a slope goes out to a distance that is the root of `square`.
+fn is_in_range(sub: Sub, square: u64) -> bool
+    ensures range { IsTrue result ↔ IsAtLeastRootOf (whole square) (range_of sub) }
+    ensures reach { IsTrue result → IsInReach square }
+{
+    match sub {
+        Sub::B1 => square <= SQUARE_B1,
+        Sub::B2 => square <= SQUARE_B2,
+    }
+}
+
+/// Whether a number is at least the root of `square`. A number above the range of each slope is, and its square is not needed.
+fn is_at_least_root(number: i64, square: u64) -> bool
+    requires reach { IsInReach square }
+    ensures { IsTrue result ↔ IsAtLeastRootOf (whole square) number }
+{
+    if number < 0 {
+        return false;
+    }
+    if number > RANGE_B1 {
+        return true;
+    }
+    square <= squared(number.unsigned_abs())
+}
+
+/// Whether a number is above the root of `square`.
+fn is_above_root(number: i64, square: u64) -> bool
+    requires reach { IsInReach square }
+    ensures { IsTrue result ↔ IsAboveRootOf (whole square) number }
+{
+    if number < 0 {
+        return false;
+    }
+    if number > RANGE_B1 {
+        return true;
+    }
+    square < squared(number.unsigned_abs())
+}
+
+/// A slope of `ratio` to 1 from the elevation `base` of an end, over a point at the root of `square` from it.
+#[derive(Clone, Copy)]
+struct EndSlope {
+    square: u64,
+    base: i64,
+    ratio: i64,
+    ghost near: { IsInReach square },
+    ghost rises: { IsSlopeFrom base ratio },
+}
+
+impl EndSlope {
+    /// The lowest level that it has anywhere.
+    fn lowest(&self) -> i64
+        ensures level { IsLevel result }
+        ensures lowest { (z : ℤ) → IsAtLeastRootOf (whole self.now.square) (run_of self.now.ratio self.now.base z) → result ≤ℤ z }
+    {
+        self.base
+    }
+
+    /// The distance at which it comes to a level.
+    fn run(&self, level: i64) -> i64
+        requires { IsLevel level }
+        ensures value { result ≡ run_of self.now.ratio self.now.base level }
+        ensures size { unsigned_abs result ≤ 2 ^ 40 }
+    {
+        self.ratio * (level - self.base)
+    }
+}
+
+impl Rising for EndSlope {
+    ghost use Rattle.runway_notice.specs.Distances.{IsAtLeastRootOf, run_of};
+    ghost use Rattle.runway_notice.specs.EndSlopes.{whole};
+    ghost use Rattle.runway_notice.specs.Laws.{slope_rises};
+
+    ghost reaches = { λ l z. IsAtLeastRootOf (whole l.square) (run_of l.ratio l.base z) };
+
+    fn is_reached(&self, level: i64) -> bool {
+        is_at_least_root(self.run(level), self.square)
+    }
+
+    ghost rises = { λ l y z h k. slope_rises (whole l.square) l.ratio l.base y z l.rises.rises h k };
+}
+
+impl Sloping for EndSlope {
+    ghost use Rattle.runway_notice.specs.Distances.{IsAboveRootOf, run_of};
+    ghost use Rattle.runway_notice.specs.EndSlopes.{whole};
+    ghost use Rattle.runway_notice.specs.Laws.{above_reaches};
+
+    ghost exceeds = { λ l z. IsAboveRootOf (whole l.square) (run_of l.ratio l.base z) };
+
+    fn is_exceeded(&self, level: i64) -> bool {
+        is_above_root(self.run(level), self.square)
+    }
+
+    ghost exceeds_reaches = { λ l z h. above_reaches (whole l.square) (run_of l.ratio l.base z) h };
+}
+
+impl EndSlope {
+    /// About how far it has risen over the point, rounded down: a guess, of which nothing is asked.
+    fn about_rise(&self, sub: Sub) -> u32 {
+        sub.rise_at(nearest_i64_to_f64(self.square as i64).sqrt())
+    }
+
+    /// The least level that reaches it by that guess, and none above `top`.
+    fn guess(&self, sub: Sub, top: i64) -> i64
+        requires top { IsLevel top }
+        ensures level { IsLevel result }
+    {
+        let guess = self.base + i64::from(self.about_rise(sub)) + 1;
+        if guess < top { guess } else { top }
+    }
+
+    /// Whether the level is the least that reaches it.
+    fn is_least(&self, level: i64) -> bool
+        requires level { IsLevel level }
+        ensures reached { IsTrue result → IsAtLeastRootOf (whole self.now.square) (run_of self.now.ratio self.now.base level) }
+        ensures least { IsTrue result → (z : ℤ) → IsAtLeastRootOf (whole self.now.square) (run_of self.now.ratio self.now.base z) → level ≤ℤ z }
+    {
+        if level <= self.lowest() || self.is_reached(level - 1) {
+            return false;
+        }
+        self.is_reached(level)
+    }
+
+    /// The least level that reaches it, where `top` does: the guess, where it is that.
+    fn least_level(&self, sub: Sub, top: i64) -> i64
+        requires top { IsLevel top }
+        requires reached { IsAtLeastRootOf (whole self.now.square) (run_of self.now.ratio self.now.base top) }
+        ensures reached { IsAtLeastRootOf (whole self.now.square) (run_of self.now.ratio self.now.base result) }
+        ensures least { (z : ℤ) → IsAtLeastRootOf (whole self.now.square) (run_of self.now.ratio self.now.base z) → result ≤ℤ z }
+        ensures level { IsLevel result }
+    {
+        let guess = self.guess(sub, top);
+        if self.is_least(guess) {
+            return guess;
+        }
+        least_reached(self, self.lowest(), top)
+    }
+
+    /// How far `top` is above it, rounded down.
+    fn excess(&self, sub: Sub, top: i64) -> Option<u32>
+        requires top { IsLevel top }
+        ensures excess { IsExcess (covering (λ z. IsAboveRootOf (whole self.now.square) (run_of self.now.ratio self.now.base z)) (λ z. IsAtLeastRootOf (whole self.now.square) (run_of self.now.ratio self.now.base z))) top result }
+        ensures size { IfSome result (λ e. e ≤ 2 ^ 26) }
+    {
+        if !self.is_exceeded(top) {
+            return None;
+        }
+        Some((top - self.least_level(sub, top)) as u32)
+    }
+}
+
+/// The slope from an end at the elevation `base`.
+fn slope(sub: Sub, base: i64, square: u64) -> EndSlope
+    requires size { unsigned_abs base ≤ 2 ^ 19 }
+    requires near { IsInReach square }
+    ensures square { result.square ≡ square }
+    ensures base { result.base ≡ base }
+    ensures ratio { result.ratio ≡ ratio_of sub }
+{
+    EndSlope {
+        square,
+        base,
+        ratio: sub.ratio(),
+    }
+}
+
+/// How far `top` is above the slope from an end at the elevation `base`, over a point at the root of `square` from it. A top that is
+/// not above the end is left out before the distance is asked for.
+pub(crate) fn end_excess(sub: Sub, base: i64, square: u64, top: i64) -> Option<u32>
+    requires size { unsigned_abs base ≤ 2 ^ 19 }
+    requires top { IsLevel top }
+    ensures { IsExcess (end_surface sub base square) top result }
+{
+    if top <= base {
+        return None;
+    }
+    if !is_in_range(sub, square) {
+        return None;
+    }
+    slope(sub, base, square).excess(sub, top)
+}
