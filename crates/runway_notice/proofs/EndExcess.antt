@@ -1,5 +1,5 @@
 -- The excess over the slope from the end of a runway that is nearest to a point is that over the slope from the runway.
-use Rattle.std.proofs.Common.{[], ◌∷◌, ◌≡◌, ◌↔◌, ◌∙◌, ℕ, ◌*◌, ◌+◌, ◌<◌, ℤ, pos, ◌-ℤ◌, ◌<ℤ◌, unsigned_abs, List, Option, Some, None, true, arith, sym, ap, subst}
+use Rattle.std.proofs.Common.{[], ◌∷◌, ◌≡◌, ◌↔◌, ◌∙◌, ℕ, ◌*◌, ◌+◌, ◌<◌, ℤ, pos, ◌-ℤ◌, ◌<ℤ◌, unsigned_abs, List, Option, Some, None, true, arith, refl, sym, ap, subst}
 use Rattle.std.proofs.lemmas.Int.{ints}
 use Rattle.grid_exact.specs.Excess.{IsExcess, Surface}
 use Rattle.grid_exact.specs.Level.{IsLevel}
@@ -11,13 +11,16 @@ use Rattle.airfields.specs.Categories.{is_described}
 use Rattle.airfields.specs.Runways.{IsProper}
 use Rattle.airfields.specs.declared.airfield.Airport.{Airport}
 use Rattle.airfields.specs.declared.runway.Runway.{Runway}
+use Rattle.airfields.specs.declared.runway.RunwayEnd.{RunwayEnd}
 use Rattle.runway_lines.specs.Profiles.{profile_of}
 use Rattle.runway_notice.specs.Distances.{Fraction, IsAtLeastRootOf, IsAboveRootOf}
 use Rattle.runway_notice.specs.EndSlopes.{end_surface, square_between, whole}
-use Rattle.runway_notice.specs.LoneRunways.{IsLoneOf}
+use Rattle.runway_notice.specs.LoneRunways.{IsLoneOf, IsReady}
 use Rattle.runway_notice.specs.Nearest.{distance_of, elevation_of, offset_of}
+use Rattle.runway_notice.specs.ShortEnds.{IsEnd}
 use Rattle.runway_notice.specs.Slopes.{range_of, sub_of}
 use Rattle.runway_notice.specs.Surfaces.{IsInRange, run_to, slope_excess, slope_surface}
+use Rattle.runway_notice.specs.declared.short_end.ShortEnd.{ShortEnd}
 use Rattle.runway_notice.specs.declared.slope.Sub.{Sub}
 use Rattle.runway_notice.proofs.CandidateFacts.{before_start, past_end}
 use Rattle.runway_notice.proofs.DistanceFacts.{profile_some}
@@ -99,28 +102,45 @@ of_runway a r x top sub base q e proper lone s level d b h =
     (slope_excess_is a r x top proper level)
 
 -- ---- before the first end and past the second
-pub start_excess : (a : Airport) (r : Runway) (x : Point) (top : ℤ) (sub : Sub) (q : ℕ) (e : Option ℕ) → IsProper r → IsLoneOf a r → sub ≡ sub_of (r ∷ []) → IsLevel top →
+start_excess : (a : Airport) (r : Runway) (x : Point) (top : ℤ) (sub : Sub) (q : ℕ) (e : Option ℕ) → IsProper r → IsLoneOf a r → sub ≡ sub_of (r ∷ []) → IsLevel top →
     (offset_of x r).along <ℤ pos 0 → q ≡ square_between r.end1.at x → IsExcess (end_surface sub r.end1.z q) top e → e ≡ slope_excess a r x top
 start_excess a r x top sub q e proper lone s level l k h =
     of_runway a r x top sub r.end1.z q e proper lone s level (start_distance x r l ∙ ap (λ y. times y (square (profile_of r).line)) (sym k)) (start_base x r proper l) h
 
-pub end_excess : (a : Airport) (r : Runway) (x : Point) (top : ℤ) (sub : Sub) (q : ℕ) (e : Option ℕ) → IsProper r → IsLoneOf a r → sub ≡ sub_of (r ∷ []) → IsLevel top →
+end_excess : (a : Airport) (r : Runway) (x : Point) (top : ℤ) (sub : Sub) (q : ℕ) (e : Option ℕ) → IsProper r → IsLoneOf a r → sub ≡ sub_of (r ∷ []) → IsLevel top →
     pos (square (profile_of r).line) <ℤ (offset_of x r).along → q ≡ square_between r.end2.at x → IsExcess (end_surface sub r.end2.z q) top e → e ≡ slope_excess a r x top
 end_excess a r x top sub q e proper lone s level l k h =
     of_runway a r x top sub r.end2.z q e proper lone s level (end_distance x r l ∙ ap (λ y. times y (square (profile_of r).line)) (sym k)) (end_base x r proper l) h
 
--- and of a runway that is kept
-pub kept_start : (a : Airport) (r s : Runway) (x : Point) (top m : ℤ) (sub : Sub) (q : ℕ) (e : Option ℕ) → r ≡ s → IsProper r → sub ≡ sub_of (r ∷ []) → IsLoneOf a s → IsLevel top →
-    m ≡ (offset_of x s).along → m <ℤ pos 0 → q ≡ square_between r.end1.at x → IsExcess (end_surface sub r.end1.z q) top e → e ≡ slope_excess a s x top
-kept_start a r s x top m sub q e same proper by lone level at l k h =
-    let before : (offset_of x s).along <ℤ pos 0 = subst (λ (y : ℤ). y <ℤ pos 0) at l in
-    start_excess a r x top sub q e proper (subst (λ (y : Runway). IsLoneOf a y) (sym same) lone) by level (subst (λ (y : Runway). (offset_of x y).along <ℤ pos 0) (sym same) before) k h
+-- ---- and of a runway whose ends are kept in little room
+-- how far a point lies along the line between the ends, and how far from one of them, squared
+abbrev between : ShortEnd → ShortEnd → Point → ℤ
+between p q x = along_of (x.x -ℤ p.x) (x.y -ℤ p.y) (q.x -ℤ p.x) (q.y -ℤ p.y)
+
+abbrev away : ShortEnd → Point → ℕ
+away p x = length_of (x.x -ℤ p.x) (x.y -ℤ p.y)
+
+between_is : (r : Runway) (x : Point) (p q : ShortEnd) → IsEnd r.end1 p → IsEnd r.end2 q → between p q x ≡ (offset_of x r).along
+unfolding profile_of
+between_is r x p q h k = rw (h.x_is, h.y_is, k.x_is, k.y_is) refl
+
+away_is : (e : RunwayEnd) (x : Point) (p : ShortEnd) → IsEnd e p → away p x ≡ square_between e.at x
+away_is e x p h = rw (h.x_is, h.y_is) refl
+
+pub kept_start : (a : Airport) (r s : Runway) (x : Point) (top m b n : ℤ) (p q : ShortEnd) (sub : Sub) (d : ℕ) (e : Option ℕ) → r ≡ s → IsReady r p q n sub → IsLoneOf a s → IsLevel top →
+    m ≡ between p q x → m <ℤ pos 0 → b ≡ p.z → d ≡ away p x → IsExcess (end_surface sub b d) top e → e ≡ slope_excess a s x top
+kept_start a r s x top m b n p q sub d e same ready lone level at l base k h =
+    let at_r : m ≡ (offset_of x r).along = at ∙ between_is r x p q ready.first_is ready.second_is in
+    let before : (offset_of x r).along <ℤ pos 0 = subst (λ (y : ℤ). y <ℤ pos 0) at_r l in
+    let over = subst (λ (y : ℤ). IsExcess (end_surface sub y d) top e) (base ∙ ready.first_is.z_is) h in
+    start_excess a r x top sub d e ready.proper (subst (λ (y : Runway). IsLoneOf a y) (sym same) lone) ready.sub_is level before (k ∙ away_is r.end1 x p ready.first_is) over
     ∙ ap (λ (y : Runway). slope_excess a y x top) same
 
-pub kept_end : (a : Airport) (r s : Runway) (x : Point) (top m n : ℤ) (sub : Sub) (q : ℕ) (e : Option ℕ) → r ≡ s → IsProper r → sub ≡ sub_of (r ∷ []) → IsLoneOf a s → IsLevel top →
-    m ≡ (offset_of x s).along → n ≡ pos (square (profile_of s).line) → n <ℤ m → q ≡ square_between r.end2.at x → IsExcess (end_surface sub r.end2.z q) top e → e ≡ slope_excess a s x top
-kept_end a r s x top m n sub q e same proper by lone level at long l k h =
-    let past : pos (square (profile_of s).line) <ℤ (offset_of x s).along = subst (λ (y : ℤ). y <ℤ (offset_of x s).along) long (subst (λ (y : ℤ). n <ℤ y) at l) in
-    end_excess a r x top sub q e proper (subst (λ (y : Runway). IsLoneOf a y) (sym same) lone) by level
-    (subst (λ (y : Runway). pos (square (profile_of y).line) <ℤ (offset_of x y).along) (sym same) past) k h
+pub kept_end : (a : Airport) (r s : Runway) (x : Point) (top m b n : ℤ) (p q : ShortEnd) (sub : Sub) (d : ℕ) (e : Option ℕ) → r ≡ s → IsReady r p q n sub → IsLoneOf a s → IsLevel top →
+    m ≡ between p q x → n <ℤ m → b ≡ q.z → d ≡ away q x → IsExcess (end_surface sub b d) top e → e ≡ slope_excess a s x top
+kept_end a r s x top m b n p q sub d e same ready lone level at l base k h =
+    let at_r : m ≡ (offset_of x r).along = at ∙ between_is r x p q ready.first_is ready.second_is in
+    let past : pos (square (profile_of r).line) <ℤ (offset_of x r).along = subst (λ (y : ℤ). y <ℤ (offset_of x r).along) ready.square_is (subst (λ (y : ℤ). n <ℤ y) at_r l) in
+    let over = subst (λ (y : ℤ). IsExcess (end_surface sub y d) top e) (base ∙ ready.second_is.z_is) h in
+    end_excess a r x top sub d e ready.proper (subst (λ (y : Runway). IsLoneOf a y) (sym same) lone) ready.sub_is level past (k ∙ away_is r.end2 x q ready.second_is) over
     ∙ ap (λ (y : Runway). slope_excess a y x top) same

@@ -9,5 +9,6 @@ pub mod Surfaces
 pub mod Notices
 pub mod Areas
 pub mod NoticeAreas
+pub mod ShortEnds
 pub mod LoneRunways
 pub mod EndSlopes

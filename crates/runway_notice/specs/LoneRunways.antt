@@ -1,12 +1,14 @@
 -- For proofs alone: the runway of an airport that has no other.
-use Rattle.std.specs.Prelude.{◌≡◌, true, [], ◌∷◌}
+use Rattle.std.specs.Prelude.{ℤ, pos, ◌≡◌, true, [], ◌∷◌}
+use Rattle.grid_exact.specs.Lines.{square}
 use Rattle.airfields.specs.Categories.{is_described}
 use Rattle.airfields.specs.Runways.{IsProper}
 use Rattle.airfields.specs.declared.airfield.Airport.{Airport}
 use Rattle.airfields.specs.declared.runway.Runway.{Runway}
-use Rattle.runway_lines.specs.Profiles.{profile, profile_of}
-use Rattle.runway_lines.specs.declared.centerline.Centerline.{Centerline}
+use Rattle.runway_lines.specs.Profiles.{profile_of}
+use Rattle.runway_notice.specs.ShortEnds.{IsEnd}
 use Rattle.runway_notice.specs.Slopes.{sub_of}
+use Rattle.runway_notice.specs.declared.short_end.ShortEnd.{ShortEnd}
 use Rattle.runway_notice.specs.declared.slope.Sub.{Sub}
 
 -- 77.9(d) describes the airport, and it has this runway alone
@@ -15,7 +17,9 @@ pub record IsLoneOf (a : Airport) (r : Runway) : Type 0 where
   pub alone : a.runways ≡ (r ∷ [])
 
 -- what is kept of such a runway
-pub record IsReady (r : Runway) (line : Centerline) (sub : Sub) : Type 0 where
+pub record IsReady (r : Runway) (first second : ShortEnd) (n : ℤ) (sub : Sub) : Type 0 where
   pub proper : IsProper r
-  pub line_is : profile line ≡ profile_of r
+  pub first_is : IsEnd r.end1 first
+  pub second_is : IsEnd r.end2 second
+  pub square_is : n ≡ pos (square (profile_of r).line)
   pub sub_is : sub ≡ sub_of (r ∷ [])

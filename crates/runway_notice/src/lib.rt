@@ -14,6 +14,7 @@ mod nearest;
 mod notice;
 mod parts;
 mod search;
+mod short_end;
 mod slope;
 mod square_distance;
 

@@ -1,23 +1,24 @@
 //! The one runway of an airport, ready for many points.
 
-ghost use Rattle.std.specs.Prelude.{◌≡◌, ◌^◌, ◌≤◌, IfSome, pos, unsigned_abs};
+ghost use Rattle.std.specs.Prelude.{◌≡◌, ◌∷◌, [], IfSome, pos};
 ghost use Rattle.grid_exact.specs.Level.{IsLevel};
 ghost use Rattle.grid_exact.specs.Lines.{square as square_of};
 ghost use Rattle.airfields.specs.Airfields.{IsHeldAirport};
-ghost use Rattle.runway_lines.specs.Profiles.{profile_of};
-ghost use Rattle.runway_notice.specs.EndSlopes.{square_between as square_between_of};
-ghost use Rattle.runway_notice.specs.Nearest.{offset_of};
+ghost use Rattle.airfields.specs.Runways.{IsProper};
+ghost use Rattle.runway_lines.specs.Profiles.{profile};
 ghost use Rattle.runway_notice.specs.Notices.{notice_slope};
+ghost use Rattle.runway_notice.specs.Slopes.{sub_of as sub_of_runways};
 ghost use Rattle.runway_notice.specs.Surfaces.{slope_excess};
 
 use crate::candidate::Candidate;
 use crate::end_slope::end_excess;
 use crate::guesses::Guesses;
 use crate::notice::{excess_over, sub_of};
-use crate::parts::{Place, dot, square_length};
+use crate::parts::square_length;
+use crate::short_end::ShortEnd;
 use crate::slope::{Slope, Sub};
 use airfields::{Airport, Runway};
-use grid_exact::{Point, Vector};
+use grid_exact::Point;
 use runway_lines::Centerline;
 use std::marker::Model;
 
@@ -25,10 +26,13 @@ use std::marker::Model;
 /// runway. Nothing is searched for, and the airport's other numbers are not asked for.
 #[derive(Drop)]
 pub struct LoneRunway {
-    runway: Runway,
-    line: Centerline,
+    /// Where its ends are, with the square of its length and the slope: most structures ask for no more, and so it stands first.
+    first: ShortEnd,
+    second: ShortEnd,
+    square: i64,
     sub: Sub,
     guesses: Guesses,
+    runway: Runway,
 }
 
 impl Model for LoneRunway {
@@ -39,19 +43,35 @@ impl Model for LoneRunway {
 
     ghost view = { λ l. l.runway };
 
-    ghost invariant = { λ l. IsReady l.runway l.line l.sub };
+    ghost invariant = { λ l. IsReady l.runway l.first l.second l.square l.sub };
 }
 
-/// The square of the distance between two points.
-fn square_between(from: &Point, to: &Point) -> u64
-    ensures { result ≡ square_between_of from.now to.now }
+/// The square of a runway's length.
+fn square(line: &Centerline) -> i64
+    ensures { result ≡ pos (square_of (profile line.now).line) }
 {
-    square_length(&Vector::between(from, to))
+    square_length(&line.axis.way) as i64
 }
 
 impl LoneRunway {
     ghost use Rattle.runway_notice.specs.Candidates.{IsCandidate};
     ghost use Rattle.runway_notice.specs.LoneRunways.{IsLoneOf};
+
+    /// The runway, where its airport has no other.
+    fn ready(runway: &Runway, sub: Sub) -> LoneRunway
+        requires proper { IsProper runway.now }
+        requires sub { sub ≡ sub_of_runways (runway.now ∷ []) }
+        ensures runway { result ≡ runway.now }
+    {
+        LoneRunway {
+            first: ShortEnd::of(&runway.end1),
+            second: ShortEnd::of(&runway.end2),
+            square: square(&Centerline::of(runway)),
+            sub,
+            guesses: Guesses::of(runway),
+            runway: *runway,
+        }
+    }
 
     /// The runway of the airport, where it has one and no other and 77.9(d) describes it.
     pub fn of(airport: &Airport) -> Option<LoneRunway>
@@ -62,12 +82,7 @@ impl LoneRunway {
             return None;
         }
         let runway = airport.runways.as_slice().first()?;
-        Some(LoneRunway {
-            runway: *runway,
-            line: Centerline::of(runway),
-            sub: sub_of(&airport.runways),
-            guesses: Guesses::of(runway),
-        })
+        Some(LoneRunway::ready(runway, sub_of(&airport.runways)))
     }
 
     /// The runway, as a point lies by it.
@@ -75,27 +90,7 @@ impl LoneRunway {
         ensures runway { result.runway.now ≡ self.now }
         ensures candidate { IsCandidate point.now result }
     {
-        Candidate {
-            runway: &self.runway,
-            line: self.line,
-            at: Place::of(&self.line.axis, point),
-        }
-    }
-
-    /// How far along the runway from its first end the point is, times the runway's length.
-    fn along(&self, point: &Point) -> i64
-        ensures value { result ≡ (offset_of point.now self.now).along }
-        ensures size { unsigned_abs result ≤ 2 ^ 55 }
-    {
-        let axis = &self.line.axis;
-        dot(&axis.from.to_point(point), &axis.way)
-    }
-
-    /// The square of the runway's length.
-    fn square(&self) -> i64
-        ensures value { result ≡ pos (square_of (profile_of self.now).line) }
-    {
-        square_length(&self.line.axis.way) as i64
+        Candidate::of(&self.runway, point)
     }
 
     /// How far `top` is above the slope from the runway at the point. Most points lie before the first end or past the second, and there
@@ -105,14 +100,14 @@ impl LoneRunway {
         requires top { IsLevel top }
         ensures { result ≡ slope_excess airport.now self.now point.now top }
     {
-        let along = self.along(point);
+        let along = self.first.along(&self.second, point);
         if along < 0 {
-            let end = &self.runway.end1;
-            return end_excess(self.sub, end.z, square_between(&end.at, point), top);
+            let end = &self.first;
+            return end_excess(self.sub, end.elevation(), end.square_to(point), top);
         }
-        if self.square() < along {
-            let end = &self.runway.end2;
-            return end_excess(self.sub, end.z, square_between(&end.at, point), top);
+        if self.square < along {
+            let end = &self.second;
+            return end_excess(self.sub, end.elevation(), end.square_to(point), top);
         }
         let runway = self.candidate(point);
         excess_over(airport, &runway, &self.guesses, self.sub, point, top)
