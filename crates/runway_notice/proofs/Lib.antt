@@ -14,3 +14,4 @@ pub mod QuotientFacts
 pub mod LoneFacts
 pub mod EndFacts
 pub mod EndExcess
+pub mod ShortFacts

@@ -5,7 +5,7 @@ ghost use Rattle.grid_exact.specs.Level.{IsLevel};
 ghost use Rattle.grid_exact.specs.Lines.{square as square_of};
 ghost use Rattle.airfields.specs.Airfields.{IsHeldAirport};
 ghost use Rattle.airfields.specs.Runways.{IsProper};
-ghost use Rattle.runway_lines.specs.Profiles.{profile};
+ghost use Rattle.runway_lines.specs.Profiles.{profile, profile_of};
 ghost use Rattle.runway_notice.specs.Notices.{notice_slope};
 ghost use Rattle.runway_notice.specs.Slopes.{sub_of as sub_of_runways};
 ghost use Rattle.runway_notice.specs.Surfaces.{slope_excess};
@@ -14,11 +14,11 @@ use crate::candidate::Candidate;
 use crate::end_slope::end_excess;
 use crate::guesses::Guesses;
 use crate::notice::{excess_over, sub_of};
-use crate::parts::square_length;
+use crate::parts::{Place, square_length};
 use crate::short_end::ShortEnd;
 use crate::slope::{Slope, Sub};
 use airfields::{Airport, Runway};
-use grid_exact::Point;
+use grid_exact::{Axis, Point};
 use runway_lines::Centerline;
 use std::marker::Model;
 
@@ -85,12 +85,32 @@ impl LoneRunway {
         Some(LoneRunway::ready(runway, sub_of(&airport.runways)))
     }
 
+    /// Its centerline, by the ends that are kept in little room.
+    fn line(&self) -> Centerline
+        ensures { profile result ≡ profile_of self.now }
+    {
+        let z = self.first.elevation();
+        Centerline {
+            axis: Axis {
+                from: self.first.start(),
+                way: self.first.to_end(&self.second),
+            },
+            z,
+            rise: self.second.elevation() - z,
+        }
+    }
+
     /// The runway, as a point lies by it.
     fn candidate(&self, point: &Point) -> Candidate
         ensures runway { result.runway.now ≡ self.now }
         ensures candidate { IsCandidate point.now result }
     {
-        Candidate::of(&self.runway, point)
+        let line = self.line();
+        Candidate {
+            runway: &self.runway,
+            line,
+            at: Place::of(&line.axis, point),
+        }
     }
 
     /// How far `top` is above the slope from the runway at the point. Most points lie before the first end or past the second, and there

@@ -7,7 +7,7 @@ ghost use Rattle.airfields.specs.Runways.{IsElevation};
 
 use crate::parts::{dot, square_length};
 use airfields::RunwayEnd;
-use grid_exact::{COORDINATE_LIMIT, Point, Vector};
+use grid_exact::{COORDINATE_LIMIT, Point, Start, Vector};
 
 /// Where an end of a runway lies and how high, in 12 bytes: each structure near an airport asks for the ends of its runway.
 #[derive(Clone, Copy)]
@@ -45,9 +45,21 @@ impl ShortEnd {
     /// Its elevation.
     pub(crate) fn elevation(&self) -> i64
         ensures value { result ≡ self.now.z }
+        ensures allowed { IsElevation result }
         ensures size { unsigned_abs result ≤ 2 ^ 19 }
     {
         i64::from(self.z)
+    }
+
+    /// The start of a line from it.
+    pub(crate) fn start(&self) -> Start
+        ensures x { result.x ≡ self.now.x }
+        ensures y { result.y ≡ self.now.y }
+    {
+        Start {
+            x: i64::from(self.x),
+            y: i64::from(self.y),
+        }
     }
 
     /// The way from it to a point.
@@ -62,7 +74,7 @@ impl ShortEnd {
     }
 
     /// The way from it to another end.
-    fn to_end(&self, other: &ShortEnd) -> Vector
+    pub(crate) fn to_end(&self, other: &ShortEnd) -> Vector
         ensures x { result.x ≡ other.now.x -ℤ self.now.x }
         ensures y { result.y ≡ other.now.y -ℤ self.now.y }
     {
