@@ -10,7 +10,6 @@ ghost use Rattle.runway_notice.specs.Slopes.{range_of, ratio_of};
 use crate::parts::squared;
 use crate::slope::{RANGE_B1, RANGE_B2, Sub};
 use grid_exact::{Rising, Sloping, least_reached};
-use std::num::nearest_i64_to_f64;
 
 /// The greatest square of a distance to which the slope of 77.9(b)(1) goes out.
 const SQUARE_B1: u64 = (RANGE_B1 * RANGE_B1) as u64;
@@ -115,9 +114,10 @@ impl Sloping for EndSlope {
 }
 
 impl EndSlope {
-    /// About how far it has risen over the point, rounded down: a guess, of which nothing is asked.
+    /// About how far it has risen over the point, rounded up: a guess, of which nothing is asked. A sixteenth of the square is a number
+    /// of 32 bits, which the machine takes to a float in one step.
     fn about_rise(&self, sub: Sub) -> u32 {
-        sub.rise_at(nearest_i64_to_f64(self.square as i64).sqrt())
+        sub.rise_at(4.0 * f64::from((self.square / 16) as u32).sqrt())
     }
 
     /// The least level that reaches it by that guess, and none above `top`.
@@ -125,7 +125,7 @@ impl EndSlope {
         requires top { IsLevel top }
         ensures level { IsLevel result }
     {
-        let guess = self.base + i64::from(self.about_rise(sub)) + 1;
+        let guess = self.base + i64::from(self.about_rise(sub));
         if guess < top { guess } else { top }
     }
 
@@ -141,6 +141,18 @@ impl EndSlope {
         self.is_reached(level)
     }
 
+    /// The least level that reaches it, where `top` does. It stands apart, since it is seldom asked for.
+    #[inline(never)]
+    fn searched(&self, top: i64) -> i64
+        requires top { IsLevel top }
+        requires reached { IsAtLeastRootOf (whole self.now.square) (run_of self.now.ratio self.now.base top) }
+        ensures reached { IsAtLeastRootOf (whole self.now.square) (run_of self.now.ratio self.now.base result) }
+        ensures least { (z : ℤ) → IsAtLeastRootOf (whole self.now.square) (run_of self.now.ratio self.now.base z) → result ≤ℤ z }
+        ensures level { IsLevel result }
+    {
+        least_reached(self, self.lowest(), top)
+    }
+
     /// The least level that reaches it, where `top` does: the guess, where it is that.
     fn least_level(&self, sub: Sub, top: i64) -> i64
         requires top { IsLevel top }
@@ -153,7 +165,7 @@ impl EndSlope {
         if self.is_least(guess) {
             return guess;
         }
-        least_reached(self, self.lowest(), top)
+        self.searched(top)
     }
 
     /// How far `top` is above it, rounded down.
@@ -186,6 +198,7 @@ fn slope(sub: Sub, base: i64, square: u64) -> EndSlope
 
 /// How far `top` is above the slope from an end at the elevation `base`, over a point at the root of `square` from it. A top that is
 /// not above the end is left out before the distance is asked for.
+#[inline(always)]
 pub(crate) fn end_excess(sub: Sub, base: i64, square: u64, top: i64) -> Option<u32>
     requires size { unsigned_abs base ≤ 2 ^ 19 }
     requires top { IsLevel top }

@@ -5,7 +5,7 @@ ghost use Rattle.std.specs.Int.{int_div_euclid};
 
 use airfields::Runway;
 use grid_exact::Vector;
-use std::num::{nearest_i64_to_f64, saturating_f64_to_i64};
+use std::num::{f64_to_bits_with_nan, nearest_i64_to_f64};
 
 /// No guess is farther from zero, in tenths of a foot.
 pub(crate) const GUESS_LIMIT: i64 = 1_000_000;
@@ -26,13 +26,24 @@ pub(crate) fn about_length(vector: &Vector) -> f64 {
     (x * x + y * y).sqrt()
 }
 
-/// About a number, rounded down; 0 where it is far from zero.
+/// A number from 0 to below 2^32, rounded to a whole one; for others it is any number. Among the floats from 2^52 on there are whole
+/// numbers alone, and their last bits count them: the machine has that in fewer steps than a cast.
+fn nearest_whole(number: f64) -> u32 {
+    (f64_to_bits_with_nan(number + 4503599627370496.0) % 4294967296) as u32
+}
+
+/// About a number that is not negative, rounded up, but for one that is above a whole number by very little.
+pub(crate) fn about_up(number: f64) -> u32 {
+    nearest_whole(number + 0.4999999)
+}
+
+/// About a number, rounded down, but for one that is below a whole number by very little; 0 where it is far from zero.
 pub(crate) fn about(number: f64) -> i64
     ensures { unsigned_abs result ≤ unsigned_abs GUESS_LIMIT }
 {
-    let limit = nearest_i64_to_f64(GUESS_LIMIT);
-    let whole = saturating_f64_to_i64(number + limit);
-    if whole < 0 || whole > GUESS_LIMIT + GUESS_LIMIT {
+    // the limit, less almost a half
+    let whole = i64::from(nearest_whole(number + 999999.5000001));
+    if whole > GUESS_LIMIT + GUESS_LIMIT {
         return 0;
     }
     whole - GUESS_LIMIT

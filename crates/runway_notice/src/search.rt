@@ -13,12 +13,12 @@ use crate::slope::Sub;
 use grid_exact::{Point, Rising, Sloping, least_reached};
 
 impl SlopeLimit {
-    /// The least level that reaches it by a guess of how far above `base` it is, rounded down, and none above `top`.
+    /// The least level that reaches it by a guess of how far above `base` it is, rounded up, and none above `top`.
     fn guess(&self, about_rise: u32, top: i64) -> i64
         requires top { IsLevel top }
         ensures level { IsLevel result }
     {
-        let guess = self.base + i64::from(about_rise) + 1;
+        let guess = self.base + i64::from(about_rise);
         if guess < top { guess } else { top }
     }
 

@@ -1,7 +1,7 @@
 //! The slopes of 77.9(b)(1) and (2).
 
+use crate::guesses::about_up;
 use airfields::RunwayName;
-use std::num::{nearest_i64_to_f64, saturating_f64_to_u32};
 
 /// How far the slope of 77.9(b)(1) goes out, in tenths of a foot: 20,000 feet.
 pub const RANGE_B1: i64 = 200_000;
@@ -59,8 +59,16 @@ impl Sub {
         }
     }
 
-    /// About how far it has risen at a distance, rounded down.
+    /// How much it rises over a distance of one, as a float.
+    fn grade(self) -> f64 {
+        match self {
+            Sub::B1 => 0.01,
+            Sub::B2 => 0.02,
+        }
+    }
+
+    /// About how far it has risen at a distance, rounded up.
     pub(crate) fn rise_at(self, distance: f64) -> u32 {
-        saturating_f64_to_u32(distance / nearest_i64_to_f64(self.ratio()))
+        about_up(distance * self.grade())
     }
 }

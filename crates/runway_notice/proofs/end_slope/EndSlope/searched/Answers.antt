@@ -1,6 +1,6 @@
 use Rattle.std.proofs.Common.{◌≤ℤ◌, FitsSigned, w64, to_z-of_z, arith}
 use Rattle.std.proofs.lemmas.Int.{ints}
-use Rattle.runway_notice.proofs.end_slope.EndSlope.least_level.Goals as goal
+use Rattle.runway_notice.proofs.end_slope.EndSlope.searched.Goals as goal
 
 pub returns-clause-least : goal.returns-clause-least
 returns-clause-least c =
