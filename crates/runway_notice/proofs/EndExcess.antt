@@ -1,10 +1,10 @@
 -- The excess over the slope from the end of a runway that is nearest to a point is that over the slope from the runway.
-use Rattle.std.proofs.Common.{[], ◌∷◌, ◌≡◌, ◌↔◌, ◌∙◌, ℕ, ◌*◌, ◌+◌, ◌<◌, ℤ, pos, ◌-ℤ◌, ◌<ℤ◌, unsigned_abs, List, Option, Some, None, true, arith, refl, sym, ap, subst}
+use Rattle.std.proofs.Common.{[], ◌∷◌, ◌≡◌, ◌↔◌, ◌∙◌, ℕ, ◌<◌, ℤ, pos, ◌-ℤ◌, ◌<ℤ◌, Option, Some, None, true, arith, refl, sym, ap, subst}
 use Rattle.std.proofs.lemmas.Int.{ints}
 use Rattle.grid_exact.specs.Excess.{IsExcess, Surface}
 use Rattle.grid_exact.specs.Level.{IsLevel}
 use Rattle.grid_exact.specs.Lines.{square}
-use Rattle.grid_exact.specs.Vector.{along_of, across_of, length_of}
+use Rattle.grid_exact.specs.Vector.{along_of, length_of}
 use Rattle.grid_exact.specs.declared.point.Point.{Point}
 use Rattle.grid_exact.proofs.ExcessLemmas.{IsExcess-unique}
 use Rattle.airfields.specs.Categories.{is_described}

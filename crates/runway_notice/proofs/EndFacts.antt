@@ -1,10 +1,9 @@
 -- Where an end of a runway is nearest to a point, the square of the distance is a whole number.
-use Rattle.std.proofs.Common.{◌≡◌, ◌↔◌, ◌∙◌, inl, inr, ℕ, ◌+◌, ◌*◌, ◌<◌, ◌≤◌, ℤ, pos, ◌+ℤ◌, ◌-ℤ◌, ◌*ℤ◌, ◌<ℤ◌, unsigned_abs, Option, Some, None, true, false, int_lt, arith, refl, sym, ap, subst}
+use Rattle.std.proofs.Common.{◌≡◌, ◌↔◌, ◌∙◌, inl, inr, ℕ, ◌+◌, ◌*◌, ◌<◌, ◌≤◌, ℤ, pos, ◌+ℤ◌, ◌-ℤ◌, ◌*ℤ◌, ◌<ℤ◌, unsigned_abs, true, false, int_lt, arith, refl, sym, ap}
 use Rattle.std.proofs.Math.IntN.{*ℤ_comm}
 use Rattle.std.proofs.Math.Nat.{mul-le-mul_right, mul-lt-mul_of_pos_right}
 use Rattle.std.proofs.lemmas.Bool.{cases_lt}
 use Rattle.std.proofs.lemmas.Int.{ints}
-use Rattle.grid_exact.specs.Excess.{IsExcess, Surface}
 use Rattle.grid_exact.specs.Vector.{along_of, across_of, length_of}
 use Rattle.grid_exact.proofs.IntLaws.{abs_square, add-mul, mul-add, mul-sub, mul_assoc, sub-mul}
 use Rattle.grid_exact.proofs.TestFacts.{lt_out}

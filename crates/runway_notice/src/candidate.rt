@@ -66,6 +66,7 @@ impl<'a> Candidate<'a> {
 
     /// How high the centerline is where it is nearest to the point, in tenths of a foot. The contracts name the point; the code has it
     /// as the offset.
+    #[inline(always)]
     pub(crate) fn elevation(&self, point: &Point, guesses: &Guesses) -> i64
         requires { IsCandidate point.now self.now }
         ensures value { result ≡ elevation_of point.now self.now.runway.now }

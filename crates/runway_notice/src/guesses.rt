@@ -37,7 +37,8 @@ pub(crate) fn about_up(number: f64) -> u32 {
     nearest_whole(number + 0.4999999)
 }
 
-/// About a number, rounded down, but for one that is below a whole number by very little; 0 where it is far from zero.
+/// About a number, rounded down, but for one that is below a whole number by very little; where it is far from zero, any number within
+/// the limit.
 pub(crate) fn about(number: f64) -> i64
     ensures { unsigned_abs result ≤ unsigned_abs GUESS_LIMIT }
 {

@@ -55,6 +55,7 @@ fn limit(distance: SquareDistance, base: i64, sub: Sub) -> SlopeLimit
 
 /// How far `top` is above the slope from a runway of the airport at the point. A top that is not above the runway is left out before
 /// any distance is compared.
+#[inline(always)]
 pub(crate) fn excess_over(
     airport: &Airport,
     runway: &Candidate,

@@ -1,5 +1,4 @@
-use Rattle.std.proofs.Common.{◌≡◌, ◌≤ℤ◌, ◌↔◌, ℕ, ℤ, Option, true, false, FitsSigned, w64, to_z-of_z, arith, subst, IsTrue}
-use Rattle.std.proofs.lemmas.Int.{ints}
+use Rattle.std.proofs.Common.{◌≡◌, ◌≤ℤ◌, ℕ, ℤ, Option, true, false, FitsSigned, w64, to_z-of_z, subst}
 use Rattle.grid_exact.specs.Excess.{IsExcess, covering}
 use Rattle.grid_exact.proofs.ExcessLemmas.{IsExcess-covered}
 use Rattle.grid_exact.proofs.TestFacts.{le_in}

@@ -1,4 +1,4 @@
-use Rattle.std.proofs.Common.{◌≡◌, ◌<ℤ◌, ℤ, pos, FitsSigned, w64, to_z-of_z, arith}
+use Rattle.std.proofs.Common.{◌<ℤ◌, pos, FitsSigned, w64, to_z-of_z, arith}
 use Rattle.std.proofs.lemmas.Int.{ints}
 use Rattle.grid_exact.specs.Excess.{IsExcess}
 use Rattle.grid_exact.proofs.TestFacts.{lt_in}
