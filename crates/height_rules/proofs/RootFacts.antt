@@ -1,8 +1,13 @@
 -- Comparisons with a root whose factor is the rise for each nautical mile, by squares of 64 bits.
-use Rattle.std.proofs.Common.{◌≡◌, ℕ, ℤ, pos, negsuc, ◌*◌, ◌≤◌, ◌<◌, ◌≤ℤ◌, ◌<ℤ◌, unsigned_abs, arith, to_z-of_z}
+use Rattle.std.proofs.Common.{◌≡◌, ℕ, ℤ, pos, negsuc, ◌*◌, ◌≤◌, ◌<◌, ◌≤ℤ◌, ◌<ℤ◌, ◌^◌, unsigned_abs, arith, to_z-of_z}
 use Rattle.std.proofs.lemmas.Int.{ints}
+use Rattle.std.proofs.lemmas.Nat.{mul-le}
 use Rattle.grid_exact.specs.Root.{AtLeastRoot, AboveRoot}
 use Rattle.height_rules.specs.declared.limit.TheConstants.{RISE_PER_MILE}
+
+-- the square of a great number is great
+pub great_square : (n : ℕ) → 2 ^ 30 ≤ n → 2 ^ 60 ≤ n * n
+great_square n h = mul-le (2 ^ 30) (2 ^ 30) n n h h
 
 abbrev factor : ℕ
 factor = unsigned_abs RISE_PER_MILE * unsigned_abs RISE_PER_MILE

@@ -1,10 +1,11 @@
 -- The heights of a structure above the ground that the rules look at, and its tops.
-use Rattle.std.specs.Prelude.{ℤ, pos, ◌+ℤ◌, if◌then◌else◌}
+use Rattle.std.specs.Prelude.{ℤ, pos, ◌+ℤ◌, ◌≡◌, ◌≤ℤ◌, if◌then◌else◌}
 use Rattle.std.specs.Int.{int_max}
+use Rattle.grid_exact.specs.Level.{IsLevel}
 use Rattle.airfields.specs.Sites.{Site}
 use Rattle.airfields.specs.declared.structure.StructureKind.TheVariants as kinds
 use Rattle.airfields.specs.declared.structure.StructureKind.{StructureKind}
-use Rattle.height_rules.specs.declared.heights.TheConstants.{INTERSTATE_RAISED, ROAD_RAISED, PRIVATE_RAISED, RAIL_RAISED}
+use Rattle.height_rules.specs.declared.heights.TheConstants.{INTERSTATE_RAISED, ROAD_RAISED, PRIVATE_RAISED, RAIL_RAISED, TOP_MOST}
 
 -- how far a traverse way is raised for the traffic on it (77.9(c)): 17 feet over an Interstate highway, 15 over another public
 -- roadway, the greater of 10 feet and the highest mobile object over a private road, 23 over a railroad, and the highest mobile
@@ -29,3 +30,14 @@ notice_top s = s.terrain +ℤ (s.height +ℤ allowance_of s)
 -- service is not raised (77.17(b))
 abbrev pub standards_top : Site → ℤ
 standards_top s = if s.flags.controlled then s.terrain +ℤ s.height else notice_top s
+
+-- these levels are the tops of the structure: not below the ground, and not above each top that can be
+pub record HasTops (s : Site) (standards notice : ℤ) : Type 0 where
+  pub standards_is : standards ≡ standards_top s
+  pub standards_level : IsLevel standards
+  pub standards_low : s.terrain ≤ℤ standards
+  pub standards_high : standards ≤ℤ TOP_MOST
+  pub notice_is : notice ≡ notice_top s
+  pub notice_level : IsLevel notice
+  pub notice_low : s.terrain ≤ℤ notice
+  pub notice_high : notice ≤ℤ TOP_MOST

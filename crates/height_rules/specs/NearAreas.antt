@@ -17,6 +17,13 @@ pub record HasLimit (a : Airport) : Type 0 where
   pub described : is_described a.category ≡ true
   pub long : list_any is_long a.runways ≡ true
 
+-- the airport has that limit, this reference point and this elevation
+pub record IsLimited (a : Airport) (arp : Point) (elevation : ℤ) : Type 0 where
+  pub limit : HasLimit a
+  pub x_is : a.arp.x ≡ arp.x
+  pub y_is : a.arp.y ≡ arp.y
+  pub elevation_is : a.elevation ≡ elevation
+
 -- a whole point, on the grid or past its edge, is at most 5.99 nautical miles from the reference point
 abbrev pub IsWithin : Point → (x y : ℤ) → Type 0
 IsWithin arp x y = AtLeastRoot (OUTER_HUNDREDTHS *ℤ NAUTICAL_MILE) (pos 100) (length_of (x -ℤ arp.x) (y -ℤ arp.y))

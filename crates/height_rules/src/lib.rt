@@ -9,6 +9,7 @@ mod laws;
 mod limit;
 mod near_airport;
 mod search;
+mod structure;
 
 pub use above_ground::{NOTICE_HEIGHT, OBSTRUCTION_HEIGHT, excess_200, excess_499};
 pub use area::{OUTER_REACH, near_area};
@@ -19,3 +20,4 @@ pub use heights::{
 pub use laws::{height_excess_is, near_excess_is, notice_excess_is};
 pub use limit::{INNER_HEIGHT, INNER_RADIUS, NAUTICAL_MILE, RISE_PER_MILE};
 pub use near_airport::{OUTER_HUNDREDTHS, excess_near_airport, excess_near_limited};
+pub use structure::Structure;

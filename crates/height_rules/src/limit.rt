@@ -38,11 +38,40 @@ pub(crate) fn is_inside(square_distance: u64) -> bool
     square_distance <= INNER_RADIUS * INNER_RADIUS
 }
 
-/// The square of a number of 64 bits, in one product.
-fn squared(number: u64) -> u128
-    ensures value { result ≡ number * number }
+/// A reach from this one on is that of a level above the limit, however far away the point is: the square of no distance that is asked,
+/// times that of the rise, has as many bits as its square.
+const GREAT_REACH: u64 = 1 << 30;
+
+/// The square of a reach that is not so great, which 64 bits hold.
+fn squared(reach: u64) -> u64
+    requires { reach ≤ 2 ^ 30 }
+    ensures { result ≡ reach * reach }
 {
-    number as u128 * number as u128
+    reach * reach
+}
+
+/// Whether `square` is at most the square of a reach.
+#[tactic(auto, using(crate::proofs::RootFacts::great_square))]
+fn is_at_most_square(square: u64, reach: u64) -> bool
+    requires { square < 2 ^ 60 }
+    ensures { IsTrue result ↔ square ≤ reach * reach }
+{
+    if reach >= GREAT_REACH {
+        return true;
+    }
+    square <= squared(reach)
+}
+
+/// Whether `square` is below the square of a reach.
+#[tactic(auto, using(crate::proofs::RootFacts::great_square))]
+fn is_below_square(square: u64, reach: u64) -> bool
+    requires { square < 2 ^ 60 }
+    ensures { IsTrue result ↔ square < reach * reach }
+{
+    if reach >= GREAT_REACH {
+        return true;
+    }
+    square < squared(reach)
 }
 
 impl NearLimit {
@@ -79,10 +108,11 @@ impl NearLimit {
     }
 
     /// The square of the distance, times that of the rise for each nautical mile: what the square of a reach is compared with.
-    fn square_reach(&self) -> u128
-        ensures { result ≡ unsigned_abs RISE_PER_MILE * unsigned_abs RISE_PER_MILE * self.now.square_distance }
+    fn square_reach(&self) -> u64
+        ensures value { result ≡ unsigned_abs RISE_PER_MILE * unsigned_abs RISE_PER_MILE * self.now.square_distance }
+        ensures size { result < 2 ^ 60 }
     {
-        ((RISE_PER_MILE * RISE_PER_MILE) as u64 * self.square_distance) as u128
+        (RISE_PER_MILE * RISE_PER_MILE) as u64 * self.square_distance
     }
 }
 
@@ -98,7 +128,7 @@ impl Rising for NearLimit {
         if reach < 0 {
             return false;
         }
-        self.square_reach() <= squared(reach as u64)
+        is_at_most_square(self.square_reach(), reach as u64)
     }
 
     ghost rises = { λ l y z h k. reach_rises l.square_distance l.base y z h k };
@@ -116,7 +146,7 @@ impl Sloping for NearLimit {
         if reach < 0 {
             return false;
         }
-        self.square_reach() < squared(reach as u64)
+        is_below_square(self.square_reach(), reach as u64)
     }
 
     ghost exceeds_reaches = { λ l z h. reach_above (reach_of l.base z) l.square_distance h };

@@ -1,20 +1,24 @@
 //! Heights near an airport's reference point.
 
-ghost use Rattle.std.specs.Prelude.{◌≡◌, ◌↔◌, ◌*◌, ◌≤◌, ◌^◌, ◌≤ℤ◌, ◌*ℤ◌, pos, IsTrue, IfSome};
+ghost use Rattle.std.specs.Prelude.{◌≡◌, ◌↔◌, ◌*◌, ◌≤◌, ◌^◌, ◌≤ℤ◌, ◌-ℤ◌, ◌*ℤ◌, pos, IsTrue, IfSome};
+ghost use Rattle.std.specs.Int.{int_max};
 ghost use Rattle.grid_exact.specs.Excess.{IsExcess, covering};
 ghost use Rattle.grid_exact.specs.Level.{IsLevel};
 ghost use Rattle.grid_exact.specs.Root.{AtLeastRoot};
+ghost use Rattle.grid_exact.specs.Vector.{length_of};
+ghost use Rattle.airfields.specs.declared.airfield.Airport.{Airport as AnAirport};
 ghost use Rattle.airfields.specs.declared.limits.TheConstants.{ELEVATION_LEAST};
 ghost use Rattle.height_rules.specs.Heights.{standards_top};
-ghost use Rattle.height_rules.specs.NearAirport.{near_surface, near_excess, square_distance as square_distance_of, base_of};
+ghost use Rattle.height_rules.specs.NearAirport.{near_surface, near_excess};
 ghost use Rattle.height_rules.specs.Limits.{IsAboveLimit, IsAtLimit, IsLow};
-ghost use Rattle.height_rules.specs.NearAreas.{HasLimit};
+ghost use Rattle.height_rules.specs.NearAreas.{IsLimited};
 
 use crate::area::has_limit;
-use crate::heights::top_for_standards;
+use crate::heights::TOP_MOST;
 use crate::limit::{INNER_HEIGHT, NAUTICAL_MILE, NearLimit, is_inside};
+use crate::structure::Structure;
 use airfields::{Airport, Filing};
-use grid_exact::{Vector, flat_excess};
+use grid_exact::{Point, Vector, flat_excess};
 
 /// The limit goes out to 5.99 nautical miles, 77.17(a)(2): so many hundredths of one.
 pub const OUTER_HUNDREDTHS: i64 = 599;
@@ -33,11 +37,11 @@ fn squared(number: u64) -> u64
 }
 
 /// The square of the distance between the structure and the airport's reference point.
-fn square_distance(airport: &Airport, filing: &Filing) -> u64
-    ensures value { result ≡ square_distance_of airport.now filing.now }
+fn square_distance(arp: &Point, at: &Point) -> u64
+    ensures value { result ≡ length_of (at.now.x -ℤ arp.now.x) (at.now.y -ℤ arp.now.y) }
     ensures size { result ≤ 2 ^ 55 }
 {
-    let way = Vector::between(&airport.arp, &filing.at);
+    let way = Vector::between(arp, at);
     squared(way.x.unsigned_abs()) + squared(way.y.unsigned_abs())
 }
 
@@ -51,11 +55,11 @@ fn is_within(square_distance: u64) -> bool
 }
 
 /// The higher of the ground at the site and the airport.
-fn base(airport: &Airport, filing: &Filing) -> i64
-    ensures value { result ≡ base_of airport.now filing.now }
+fn base(elevation: i64, filing: &Filing) -> i64
+    ensures value { result ≡ int_max filing.now.terrain elevation }
     ensures least { ELEVATION_LEAST ≤ℤ result }
 {
-    filing.ground.max(airport.elevation)
+    filing.ground.max(elevation)
 }
 
 /// How far `top` is above the limit over a point at this square of the distance.
@@ -72,34 +76,49 @@ fn excess_at(base: i64, square_distance: u64, top: i64) -> Option<u32>
     NearLimit::new(base, square_distance).excess(top)
 }
 
-/// How far the structure is above the limit. A top that is not above the lowest level of the limit is left out before any distance
-/// is worked out; that also leaves out each airport whose elevation nothing else here bounds.
-fn excess_over_limit(airport: &Airport, filing: &Filing) -> Option<u32>
-    requires limit { HasLimit airport.now }
-    ensures exact { IsExcess (near_surface airport.now filing.now) (standards_top filing.now) result }
+/// How far the structure is above the limit of each airport that has one, this reference point and this elevation. A top that is not
+/// above the lowest level of the limit is left out before any distance is worked out; that also leaves out each airport whose elevation
+/// nothing else here bounds.
+#[inline(always)]
+fn excess_over_limit(arp: &Point, elevation: i64, filing: &Filing, top: i64) -> Option<u32>
+    requires top { top ≡ standards_top filing.now }
+    requires level { IsLevel top }
+    requires most { top ≤ℤ TOP_MOST }
+    ensures exact { (a : AnAirport) → IsLimited a arp.now elevation → IsExcess (near_surface a filing.now) (standards_top filing.now) result }
     ensures size { IfSome result (λ e. e ≤ 2 ^ 26) }
 {
-    let top = top_for_standards(filing);
-    let base = base(airport, filing);
+    let base = base(elevation, filing);
     if top - INNER_HEIGHT <= base {
         return None;
     }
-    let square = square_distance(airport, filing);
+    let square = square_distance(arp, &filing.at);
     if !is_within(square) {
         return None;
     }
     excess_at(base, square, top)
 }
 
-/// How far the structure is above the limit of 77.17(a)(2) of this airport, of which it is known that it has one: neither its category
-/// nor its runways are looked at.
+/// How far the structure is above the limit of 77.17(a)(2) of an airport of which it is known that it has one, by its reference point
+/// and its elevation: nothing else of it is looked at.
 #[tactic(auto, using(crate::proofs::NearFacts::near_listed))]
-pub fn excess_near_limited(airport: &Airport, filing: &Filing) -> Option<u32>
-    requires limit { HasLimit airport.now }
-    ensures exact { IsExcess (near_surface airport.now filing.now) (standards_top filing.now) result }
-    ensures value { result ≡ near_excess airport.now filing.now }
+#[inline(always)]
+pub fn excess_near_limited(arp: &Point, elevation: i64, structure: &Structure) -> Option<u32>
+    ensures exact { (a : AnAirport) → IsLimited a arp.now elevation → IsExcess (near_surface a structure.now) (standards_top structure.now) result }
+    ensures value { (a : AnAirport) → IsLimited a arp.now elevation → result ≡ near_excess a structure.now }
 {
-    excess_over_limit(airport, filing)
+    excess_over_limit(
+        arp,
+        elevation,
+        structure.filing(),
+        structure.standards_top(),
+    )
+}
+
+/// The elevation of an airport.
+fn elevation(airport: &Airport) -> i64
+    ensures { result ≡ airport.now.elevation }
+{
+    airport.elevation
 }
 
 /// How far the structure is above the limit of 77.17(a)(2) of this airport, in tenths of a foot: 200 feet over the higher of
@@ -112,5 +131,5 @@ pub fn excess_near_airport(airport: &Airport, filing: &Filing) -> Option<u32>
     if !has_limit(airport) {
         return None;
     }
-    excess_near_limited(airport, filing)
+    excess_near_limited(&airport.arp, elevation(airport), &Structure::of(filing))
 }

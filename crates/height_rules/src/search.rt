@@ -8,18 +8,35 @@ ghost use Rattle.height_rules.specs.Limits.{reach_of};
 
 use crate::limit::{INNER_RADIUS, NAUTICAL_MILE, NearLimit, RISE_PER_MILE};
 use grid_exact::{Rising, Sloping, least_reached};
-use std::num::{nearest_i64_to_f64, saturating_f64_to_u32};
+use std::num::f64_to_bits_with_nan;
+
+/// Of the floats from this one on, 2^52, the last bits count whole numbers.
+const WHOLE_FLOATS: f64 = 4_503_599_627_370_496.0;
+
+/// How many numbers of 32 bits there are.
+const HALF_WORDS: u64 = 1 << 32;
+
+/// About a number, rounded up, but for one that is above a whole number by very little; any number where it is not from 0 to below 2^32.
+/// The machine has the last bits of a float in fewer steps than a cast.
+fn about_up(number: f64) -> u32 {
+    (f64_to_bits_with_nan(number + 0.4999999 + WHOLE_FLOATS) % HALF_WORDS) as u32
+}
 
 impl NearLimit {
-    /// About how far above its lowest level it is, rounded down, and one more.
+    /// About how far the point is from the airport's reference point, in tenths of a foot. Of the square so many last bits are left out that
+    /// 32 bits hold it, and it is a float in one step of the machine.
+    fn about_distance(&self) -> f64 {
+        32.0 * f64::from((self.square_distance / 1_024) as u32).sqrt()
+    }
+
+    /// About how far above its lowest level it is, rounded up.
     fn about_rise(&self) -> i64
         ensures least { pos 0 ≤ℤ result }
         ensures most { result ≤ℤ pos (2 ^ 50) }
     {
-        let distance = nearest_i64_to_f64(self.square_distance as i64).sqrt();
-        let rise = nearest_i64_to_f64(RISE_PER_MILE) / nearest_i64_to_f64(NAUTICAL_MILE);
-        let further = distance - nearest_i64_to_f64(INNER_RADIUS as i64);
-        i64::from(saturating_f64_to_u32(further * rise)) + 1
+        let rise = f64::from(RISE_PER_MILE as i32) / f64::from(NAUTICAL_MILE as i32);
+        let further = self.about_distance() - f64::from(INNER_RADIUS as u32);
+        i64::from(about_up(further * rise))
     }
 
     /// About the least level that reaches it, and none above `top`.
@@ -58,7 +75,8 @@ impl NearLimit {
         least_reached(self, self.lowest(), top)
     }
 
-    /// How far `top` is above it, rounded down.
+    /// How far `top` is above it, rounded down. It is kept apart, as few structures stand so far away and so high.
+    #[inline(never)]
     pub(crate) fn excess(&self, top: i64) -> Option<u32>
         requires top { IsLevel top }
         ensures excess { IsExcess (covering (λ z. AboveRoot (reach_of self.now.base z) RISE_PER_MILE self.now.square_distance) (λ z. AtLeastRoot (reach_of self.now.base z) RISE_PER_MILE self.now.square_distance)) top result }

@@ -26,10 +26,16 @@ pub(crate) fn about_length(vector: &Vector) -> f64 {
     (x * x + y * y).sqrt()
 }
 
-/// A number from 0 to below 2^32, rounded to a whole one; for others it is any number. Among the floats from 2^52 on there are whole
-/// numbers alone, and their last bits count them: the machine has that in fewer steps than a cast.
+/// Of the floats from this one on, 2^52, the last bits count whole numbers.
+const WHOLE_FLOATS: f64 = 4_503_599_627_370_496.0;
+
+/// How many numbers of 32 bits there are.
+const HALF_WORDS: u64 = 1 << 32;
+
+/// A number from 0 to below 2^32, rounded to a whole one; for others it is any number. The machine has the last
+/// bits of a float in fewer steps than a cast.
 fn nearest_whole(number: f64) -> u32 {
-    (f64_to_bits_with_nan(number + 4503599627370496.0) % 4294967296) as u32
+    (f64_to_bits_with_nan(number + WHOLE_FLOATS) % HALF_WORDS) as u32
 }
 
 /// About a number that is not negative, rounded up, but for one that is above a whole number by very little.

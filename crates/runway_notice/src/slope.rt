@@ -62,8 +62,8 @@ impl Sub {
     /// How much it rises over a distance of one, as a float.
     fn grade(self) -> f64 {
         match self {
-            Sub::B1 => 0.01,
-            Sub::B2 => 0.02,
+            Sub::B1 => 1.0 / f64::from(RATIO_B1 as i32),
+            Sub::B2 => 1.0 / f64::from(RATIO_B2 as i32),
         }
     }
 

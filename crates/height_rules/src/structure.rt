@@ -1,0 +1,80 @@
+//! Structures with their tops.
+
+ghost use Rattle.std.specs.Prelude.{◌≡◌, ◌≤ℤ◌};
+ghost use Rattle.grid_exact.specs.Level.{IsLevel};
+ghost use Rattle.height_rules.specs.Heights.{notice_top, standards_top};
+
+use crate::heights::{TOP_MOST, top_for_notice, top_for_standards};
+use airfields::Filing;
+use grid_exact::Point;
+use std::marker::Model;
+
+/// The structure of a filing with both of its tops, which each airfield near it asks for and which are worked out once; seen as the
+/// structure of the filing.
+#[derive(Drop)]
+pub struct Structure {
+    filing: Filing,
+    standards_top: i64,
+    notice_top: i64,
+}
+
+impl Model for Structure {
+    ghost use Rattle.airfields.specs.Sites.{Site};
+    ghost use Rattle.height_rules.specs.Heights.{HasTops};
+
+    ghost Value = { Site };
+
+    ghost view = { λ s. s.filing };
+
+    ghost invariant = { λ s. HasTops s.filing s.standards_top s.notice_top };
+}
+
+impl Structure {
+    /// The structure of a filing.
+    pub fn of(filing: &Filing) -> Structure
+        ensures { result ≡ filing.now }
+    {
+        Structure {
+            filing: *filing,
+            standards_top: top_for_standards(filing),
+            notice_top: top_for_notice(filing),
+        }
+    }
+
+    /// What was filed.
+    pub fn filing(&self) -> &Filing
+        ensures { result.now ≡ self.now }
+    {
+        &self.filing
+    }
+
+    /// Where it stands.
+    #[inline(always)]
+    pub fn at(&self) -> &Point
+        ensures { result.now ≡ self.now.at }
+    {
+        &self.filing.at
+    }
+
+    /// The top that the standards look at.
+    #[inline(always)]
+    pub fn standards_top(&self) -> i64
+        ensures value { result ≡ standards_top self.now }
+        ensures level { IsLevel result }
+        ensures low { self.now.terrain ≤ℤ result }
+        ensures high { result ≤ℤ TOP_MOST }
+    {
+        self.standards_top
+    }
+
+    /// The top that the notice rules look at.
+    #[inline(always)]
+    pub fn notice_top(&self) -> i64
+        ensures value { result ≡ notice_top self.now }
+        ensures level { IsLevel result }
+        ensures low { self.now.terrain ≤ℤ result }
+        ensures high { result ≤ℤ TOP_MOST }
+    {
+        self.notice_top
+    }
+}
