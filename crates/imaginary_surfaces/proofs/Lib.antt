@@ -6,3 +6,6 @@ pub mod AreaFacts
 pub mod ZoneFacts
 pub mod RootFacts
 pub mod PlaceFacts
+pub mod ClearanceFacts
+pub mod ClearSurfaces
+pub mod PreparedFacts

@@ -1,5 +1,5 @@
 -- Sizes of what a runway that keeps its limits has.
-use Rattle.std.proofs.Common.{inl, inr, ℕ, ◌*◌, ◌^◌, ◌≤◌, ℤ, pos, ◌*ℤ◌, ◌≤ℤ◌, unsigned_abs, arith, Bool, true, false, int_lt}
+use Rattle.std.proofs.Common.{inl, inr, ℕ, ◌*◌, ◌^◌, ◌<◌, ◌≤◌, ℤ, pos, ◌-ℤ◌, ◌*ℤ◌, ◌≤ℤ◌, unsigned_abs, arith, Bool, true, false, int_lt}
 use Rattle.std.proofs.Math.Nat.{mul-le-mul_left}
 use Rattle.std.proofs.lemmas.Bool.{cases_Bool}
 use Rattle.std.proofs.lemmas.Int.{ints, unsigned_abs-mul}
@@ -110,6 +110,10 @@ clamped_within m n =
       ]
     ]
 
+profile_some : (r : Runway) → IsProper r → 0 < square (profile_of r).line
+unfolding profile_of
+profile_some r p = (runway_square r p.within_length).some
+
 profile_size : (r : Runway) (x : Point) → IsProper r → unsigned_abs (elevation (profile_of r) x) ≤ 2 ^ 19
 unfolding profile_of
 profile_size r x p =
@@ -118,6 +122,19 @@ profile_size r x p =
     let t = clamped_within o.along o.square in
     let c = climb_size rise (clamped o.along o.square) o.square (runway_square r p.within_length).some t.0 t.1 in
     omega (arith, ints, c, p.elevation1, p.elevation2)
+
+-- nowhere lower than the first end less what the second one is higher or lower
+profile_least : (r : Runway) (x : Point) → IsProper r → ((profile_of r).z -ℤ pos (unsigned_abs (profile_of r).rise)) ≤ℤ elevation (profile_of r) x
+profile_least r x p =
+    let o = offset (profile_of r).line x in
+    let rise = (profile_of r).rise in
+    let t = clamped_within o.along o.square in
+    let c = climb_size rise (clamped o.along o.square) o.square (profile_some r p) t.0 t.1 in
+    omega (arith, ints, c)
+
+pub elevation_least : (r : Runway) (x : Point) → IsProper r → ((primary_of r).profile.z -ℤ pos (unsigned_abs (primary_of r).profile.rise)) ≤ℤ elevation (primary_of r).profile x
+unfolding primary_of
+elevation_least r x p = profile_least r x p
 
 pub elevation_size : (r : Runway) (x : Point) → IsProper r → unsigned_abs (elevation (primary_of r).profile x) ≤ 2 ^ 19
 unfolding primary_of

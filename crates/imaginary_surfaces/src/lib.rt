@@ -6,6 +6,7 @@ mod approach;
 mod areas;
 mod beside_approach;
 mod beside_primary;
+mod clearance;
 mod excesses;
 mod laws;
 mod measures;

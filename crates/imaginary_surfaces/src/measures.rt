@@ -28,3 +28,6 @@ pub(crate) const APPROACH_FACTOR: i64 = WIDENING_SCALE * TRANSITION_SLOPE;
 
 /// The 5,000 feet in the widening's scale.
 pub(crate) const SCALED_REACH: i64 = WIDENING_SCALE * TRANSITION_REACH;
+
+/// No half width of an approach surface grows by more, in the widening's scale.
+pub(crate) const MOST_WIDENING: i64 = 6;

@@ -1,7 +1,9 @@
 //! Where a point lies by a line, in numbers of 64 bits.
 
-ghost use Rattle.std.specs.Prelude.{◌≡◌, ◌^◌, ◌≤◌, ◌<ℤ◌, ◌-ℤ◌, neg_ℤ, pos, unsigned_abs};
+ghost use Rattle.std.specs.Prelude.{◌≡◌, ◌^◌, ◌≤◌, ◌≤ℤ◌, ◌<ℤ◌, ◌-ℤ◌, neg_ℤ, pos, unsigned_abs};
+ghost use Rattle.std.specs.Int.{int_max};
 ghost use Rattle.grid_exact.specs.Lines.{IsOffset, IsReach, IsSquare};
+ghost use Rattle.imaginary_surfaces.specs.Clearances.{past_end};
 
 use crate::roots::short;
 use grid_exact::Offset;
@@ -25,6 +27,15 @@ impl Model for Place {
     ghost invariant = { λ p. IsOffset p.along p.aside p.square };
 
     ghost inverse = { λ v. record { along = v.along; aside = v.aside; square = v.square } };
+}
+
+/// How far past an end of what goes from 0 to `length` a point lies.
+fn past_either(along: i64, length: i64) -> i64
+    requires along { unsigned_abs along ≤ 2 ^ 45 }
+    requires length { unsigned_abs length ≤ 2 ^ 45 }
+    ensures { result ≡ int_max (int_max (neg_ℤ along) (along -ℤ length)) (pos 0) }
+{
+    (-along).max(along - length).max(0)
 }
 
 impl Place {
@@ -69,6 +80,23 @@ impl Place {
             aside: self.aside,
             square: self.square,
         }
+    }
+
+    /// How far the point is past an end of the line, times the line's length.
+    pub(crate) fn ahead(&self) -> i64
+        ensures value { result ≡ past_end self.now }
+        ensures least { pos 0 ≤ℤ result }
+        ensures most { result ≤ℤ pos (2 ^ 46) }
+    {
+        past_either(self.along, self.square as i64)
+    }
+
+    /// How far it is to a side of the line, times the line's length.
+    pub(crate) fn short_aside(&self) -> i64
+        ensures value { result ≡ pos self.now.aside }
+        ensures most { result ≤ℤ pos (2 ^ 45) }
+    {
+        self.aside as i64
     }
 
     /// How far the point is from the start in the line's direction, times the line's length.

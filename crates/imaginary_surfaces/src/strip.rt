@@ -11,6 +11,7 @@ ghost use Rattle.imaginary_surfaces.specs.Strips.{primary_of, approach_of, IsStr
 ghost use Rattle.imaginary_surfaces.specs.Strips.{primary_transition_surface, approach_transition_surface, primary_transition_excess, approach_transition_excess};
 
 use crate::approach::ApproachSurface;
+use crate::clearance::Clearance;
 use crate::excesses::StripExcesses;
 use crate::place::Place;
 use crate::prepare::{approach, primary};
@@ -23,10 +24,12 @@ use std::marker::Model;
 /// The imaginary surfaces of a runway, prepared for many points; seen as the runway.
 #[derive(Drop)]
 pub struct Strip {
-    runway: Runway,
+    /// It stands next to the line of the primary surface, since for most points nothing else is asked for.
+    pub(crate) clearance: Clearance,
     pub(crate) primary: PrimarySurface,
     approach1: ApproachSurface,
     approach2: ApproachSurface,
+    runway: Runway,
 }
 
 impl Model for Strip {
@@ -37,7 +40,7 @@ impl Model for Strip {
 
     ghost view = { λ s. s.runway };
 
-    ghost invariant = { λ s. IsPrepared s.runway s.primary s.approach1 s.approach2 };
+    ghost invariant = { λ s. IsPrepared s.runway s.primary s.approach1 s.approach2 s.clearance };
 }
 
 impl Strip {
@@ -48,11 +51,15 @@ impl Strip {
     {
         let one = center(runway, End::One);
         let two = center(runway, End::Two);
+        let primary = primary(runway, &one, &two);
+        let approach1 = approach(runway, End::One, &one, &two);
+        let approach2 = approach(runway, End::Two, &two, &one);
         Strip {
+            clearance: Clearance::of(&primary, &approach1, &approach2),
+            primary,
+            approach1,
+            approach2,
             runway: *runway,
-            primary: primary(runway, &one, &two),
-            approach1: approach(runway, End::One, &one, &two),
-            approach2: approach(runway, End::Two, &two, &one),
         }
     }
 
@@ -190,6 +197,16 @@ impl Strip {
         ensures value { IsStripExcesses self.now x.now top cap.now result }
     {
         let at = self.by_primary(x);
+        if self.is_clear(&at, x, top) {
+            return StripExcesses {
+                primary: None,
+                approach1: None,
+                approach2: None,
+                beside_primary: None,
+                beside_approach1: None,
+                beside_approach2: None,
+            };
+        }
         if !self.primary.is_past_start(&at) {
             return self.excesses_before(&at, x, top, cap);
         }

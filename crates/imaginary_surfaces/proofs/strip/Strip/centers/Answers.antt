@@ -35,7 +35,7 @@ tied a b d e = ((a, b), (d, e))
 all_same : (a a' b b' d d' e e' : ℤ) → a ≡ a' → b ≡ b' → d ≡ d' → e ≡ e' → tied a b d e ≡ tied a' b' d' e'
 all_same a a' b b' d d' e e' p q s t = rw (p, q, s, t) refl
 
-told : (i : Inside) (r : Runway) → IsPrepared i.runway i.primary i.approach1 i.approach2 → i.runway ≡ r →
+told : (i : Inside) (r : Runway) → IsPrepared i.runway i.primary i.approach1 i.approach2 i.clearance → i.runway ≡ r →
     tied (handed i.approach1.axis.from.x) (handed i.approach1.axis.from.y) (handed i.approach2.axis.from.x) (handed i.approach2.axis.from.y) ≡ centers r
 told i r p e =
     let from1 = i.approach1.axis.from in

@@ -1,0 +1,155 @@
+//! Points so far from a runway that a top is above none of its surfaces, as most are.
+
+ghost use Rattle.std.specs.Prelude.{◌≡◌, ◌↔◌, ◌*◌, ◌^◌, ◌≤◌, ◌+ℤ◌, ◌-ℤ◌, ◌*ℤ◌, ◌≤ℤ◌, ◌<ℤ◌, pos, unsigned_abs, IsTrue};
+ghost use Rattle.grid_exact.specs.Level.{IsLevel};
+ghost use Rattle.imaginary_surfaces.specs.Primaries.{IsWidth};
+
+use crate::approach::ApproachSurface;
+use crate::measures::{APPROACH_FACTOR, HALF_WIDTH_SCALE, MOST_WIDENING, SECOND_SLOPE_DROP};
+use crate::place::Place;
+use crate::primary::PrimarySurface;
+use crate::roots::square;
+use crate::strip::Strip;
+use grid_exact::{Point, product};
+use runway_classes::{PRECISION_SLOPE, WIDENING_SCALE};
+use std::num::{nearest_i64_to_f64, saturating_f64_to_u32};
+
+/// No line of a primary surface is longer.
+const MOST_LENGTH: u32 = 524_288;
+
+/// What tells of most points that a top is above no surface of a runway there, with a few numbers and no root.
+#[derive(Clone, Copy)]
+pub(crate) struct Clearance {
+    /// At least the length of the line of the primary surface.
+    length: u32,
+    /// No surface is lower.
+    lowest: i64,
+    /// The width of the primary surface.
+    width: i64,
+    ghost low: { unsigned_abs lowest ≤ 2 ^ 20 },
+    ghost wide: { IsWidth width },
+}
+
+/// At least the root of `n`, and not much more.
+fn root_above(n: u128) -> u32
+    requires { n ≤ 2 ^ 37 }
+    ensures { n ≤ result * result }
+{
+    let root = saturating_f64_to_u32(nearest_i64_to_f64(n as i64).sqrt() + 1.0);
+    if n <= square(u64::from(root)) {
+        root
+    } else {
+        MOST_LENGTH
+    }
+}
+
+/// No level of a centerline of this elevation and rise is lower.
+fn level_below(z: i64, rise: i64) -> i64
+    requires z { unsigned_abs z ≤ 2 ^ 18 }
+    requires rise { unsigned_abs rise ≤ 2 ^ 18 }
+    ensures low { result ≤ℤ (z -ℤ pos (unsigned_abs rise)) }
+    ensures size { unsigned_abs result ≤ 2 ^ 19 }
+{
+    if rise < 0 { z + rise } else { z - rise }
+}
+
+/// A level that no surface of a runway is below.
+fn lowest(primary: &PrimarySurface, one: &ApproachSurface, two: &ApproachSurface) -> i64
+    ensures level { result ≤ℤ (primary.now.centerline.z -ℤ pos (unsigned_abs primary.now.centerline.rise)) }
+    ensures level1 { result ≤ℤ (one.now.z -ℤ SECOND_SLOPE_DROP) }
+    ensures level2 { result ≤ℤ (two.now.z -ℤ SECOND_SLOPE_DROP) }
+    ensures size { unsigned_abs result ≤ 2 ^ 20 }
+{
+    let level = level_below(primary.centerline.z, primary.centerline.rise);
+    level.min(one.z).min(two.z) - SECOND_SLOPE_DROP
+}
+
+impl Clearance {
+    ghost use Rattle.imaginary_surfaces.specs.Clearances.{IsClear, IsClearance, IsFarAhead, IsFarAside, rise_to};
+    ghost use Rattle.imaginary_surfaces.specs.Shapes.{approach_shape, primary_shape};
+
+    /// Of the surfaces of a runway.
+    pub(crate) fn of(
+        primary: &PrimarySurface,
+        one: &ApproachSurface,
+        two: &ApproachSurface,
+    ) -> Clearance
+        requires width1 { one.now.width ≡ primary.now.width }
+        requires width2 { two.now.width ≡ primary.now.width }
+        ensures { IsClearance (primary_shape primary.now) (approach_shape one.now) (approach_shape two.now) result }
+    {
+        Clearance {
+            length: root_above(primary.axis.way.square_length()),
+            lowest: lowest(primary, one, two),
+            width: primary.width,
+        }
+    }
+
+    /// How far a top is above the lowest level.
+    fn rise_to(&self, top: i64) -> i64
+        requires top { IsLevel top }
+        ensures value { result ≡ rise_to self.now top }
+        ensures least { pos 0 ≤ℤ result }
+        ensures most { result ≤ℤ pos (2 ^ 26) }
+    {
+        (top - self.lowest).max(0)
+    }
+
+    /// Whether a part is longer than a factor times the length.
+    fn is_longer(&self, part: i64, factor: i64) -> bool
+        ensures { IsTrue result ↔ ((factor *ℤ pos self.now.length) <ℤ part) }
+    {
+        product(factor, i64::from(self.length)) < part as i128
+    }
+
+    /// Whether a point is so far ahead that no approach surface is as low there.
+    fn is_far_ahead(&self, rise: i64, ahead: i64) -> bool
+        requires least { pos 0 ≤ℤ rise }
+        requires most { rise ≤ℤ pos (2 ^ 26) }
+        ensures { IsTrue result ↔ IsFarAhead self.now rise ahead }
+    {
+        self.is_longer(ahead, PRECISION_SLOPE * rise)
+    }
+
+    /// Whether a point is so far aside that no transitional surface is as low there.
+    fn is_far_aside(&self, rise: i64, ahead: i64, aside: i64) -> bool
+        requires least { pos 0 ≤ℤ rise }
+        requires most { rise ≤ℤ pos (2 ^ 26) }
+        requires ahead_least { pos 0 ≤ℤ ahead }
+        requires ahead_most { ahead ≤ℤ pos (2 ^ 46) }
+        requires aside_least { pos 0 ≤ℤ aside }
+        requires aside_most { aside ≤ℤ pos (2 ^ 45) }
+        ensures { IsTrue result ↔ IsFarAside self.now rise ahead aside }
+    {
+        self.is_longer(
+            WIDENING_SCALE * aside - MOST_WIDENING * ahead,
+            HALF_WIDTH_SCALE * self.width + APPROACH_FACTOR * rise,
+        )
+    }
+
+    /// Whether a point that lies so by the line of the primary surface is so far from it that a top is above no surface there.
+    fn is_clear(&self, at: &Place, top: i64) -> bool
+        requires top { IsLevel top }
+        ensures { IsTrue result → IsClear self.now at.now top }
+    {
+        let rise = self.rise_to(top);
+        let ahead = at.ahead();
+        self.is_far_ahead(rise, ahead) || self.is_far_aside(rise, ahead, at.short_aside())
+    }
+}
+
+impl Strip {
+    ghost use Rattle.grid_exact.specs.Lines.{offset as offset_of};
+    ghost use Rattle.grid_exact.specs.declared.cap.Cap.{Cap as ACap};
+    ghost use Rattle.imaginary_surfaces.specs.Clearances.{none_exceeded};
+    ghost use Rattle.imaginary_surfaces.specs.Strips.{IsStripExcesses, primary_of};
+
+    /// Whether a few numbers tell that a top is above no surface at a point that lies so by the line of the primary surface.
+    pub(crate) fn is_clear(&self, at: &Place, x: &Point, top: i64) -> bool
+        requires at { at.now ≡ offset_of (primary_of self.now).line x.now }
+        requires top { IsLevel top }
+        ensures none { IsTrue result → (cap : ACap) → IsStripExcesses self.now x.now top cap none_exceeded }
+    {
+        self.clearance.is_clear(at, top)
+    }
+}
