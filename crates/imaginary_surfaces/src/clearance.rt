@@ -1,21 +1,17 @@
 //! Points so far from a runway that a top is above none of its surfaces, as most are.
 
-ghost use Rattle.std.specs.Prelude.{◌≡◌, ◌↔◌, ◌*◌, ◌^◌, ◌≤◌, ◌+ℤ◌, ◌-ℤ◌, ◌*ℤ◌, ◌≤ℤ◌, ◌<ℤ◌, pos, unsigned_abs, IsTrue};
+ghost use Rattle.std.specs.Prelude.{◌≡◌, ◌↔◌, ◌^◌, ◌≤◌, ◌*ℤ◌, ◌≤ℤ◌, ◌<ℤ◌, pos, unsigned_abs, IsTrue};
 ghost use Rattle.grid_exact.specs.Level.{IsLevel};
 ghost use Rattle.imaginary_surfaces.specs.Primaries.{IsWidth};
 
 use crate::approach::ApproachSurface;
-use crate::measures::{APPROACH_FACTOR, HALF_WIDTH_SCALE, MOST_WIDENING, SECOND_SLOPE_DROP};
+use crate::least::{lowest, root_above};
+use crate::measures::{APPROACH_FACTOR, HALF_WIDTH_SCALE, MOST_WIDENING};
 use crate::place::Place;
 use crate::primary::PrimarySurface;
-use crate::roots::square;
 use crate::strip::Strip;
 use grid_exact::{Point, product};
 use runway_classes::{PRECISION_SLOPE, WIDENING_SCALE};
-use std::num::{nearest_i64_to_f64, saturating_f64_to_u32};
-
-/// No line of a primary surface is longer.
-const MOST_LENGTH: u32 = 524_288;
 
 /// What tells of most points that a top is above no surface of a runway there, with a few numbers and no root.
 #[derive(Clone, Copy)]
@@ -28,40 +24,6 @@ pub(crate) struct Clearance {
     width: i64,
     ghost low: { unsigned_abs lowest ≤ 2 ^ 20 },
     ghost wide: { IsWidth width },
-}
-
-/// At least the root of `n`, and not much more.
-fn root_above(n: u128) -> u32
-    requires { n ≤ 2 ^ 37 }
-    ensures { n ≤ result * result }
-{
-    let root = saturating_f64_to_u32(nearest_i64_to_f64(n as i64).sqrt() + 1.0);
-    if n <= square(u64::from(root)) {
-        root
-    } else {
-        MOST_LENGTH
-    }
-}
-
-/// No level of a centerline of this elevation and rise is lower.
-fn level_below(z: i64, rise: i64) -> i64
-    requires z { unsigned_abs z ≤ 2 ^ 18 }
-    requires rise { unsigned_abs rise ≤ 2 ^ 18 }
-    ensures low { result ≤ℤ (z -ℤ pos (unsigned_abs rise)) }
-    ensures size { unsigned_abs result ≤ 2 ^ 19 }
-{
-    if rise < 0 { z + rise } else { z - rise }
-}
-
-/// A level that no surface of a runway is below.
-fn lowest(primary: &PrimarySurface, one: &ApproachSurface, two: &ApproachSurface) -> i64
-    ensures level { result ≤ℤ (primary.now.centerline.z -ℤ pos (unsigned_abs primary.now.centerline.rise)) }
-    ensures level1 { result ≤ℤ (one.now.z -ℤ SECOND_SLOPE_DROP) }
-    ensures level2 { result ≤ℤ (two.now.z -ℤ SECOND_SLOPE_DROP) }
-    ensures size { unsigned_abs result ≤ 2 ^ 20 }
-{
-    let level = level_below(primary.centerline.z, primary.centerline.rise);
-    level.min(one.z).min(two.z) - SECOND_SLOPE_DROP
 }
 
 impl Clearance {

@@ -9,6 +9,7 @@ mod beside_primary;
 mod clearance;
 mod excesses;
 mod laws;
+mod least;
 mod measures;
 mod place;
 mod prepare;

@@ -191,7 +191,8 @@ impl Strip {
     }
 
     /// How far `top` is above each of the six surfaces at a point: 77.19(c), (d) and (e). `cap` is where the horizontal and conical
-    /// surfaces end upward at the point. Where the point lies by a line is worked out once for the surfaces along it.
+    /// surfaces end upward at the point. It is called for many points that are clear of the runway, so the rest stands by itself.
+    #[inline(always)]
     pub fn excesses(&self, x: &Point, top: i64, cap: &Cap) -> StripExcesses
         requires top { IsLevel top }
         ensures value { IsStripExcesses self.now x.now top cap.now result }
@@ -207,13 +208,23 @@ impl Strip {
                 beside_approach2: None,
             };
         }
-        if !self.primary.is_past_start(&at) {
-            return self.excesses_before(&at, x, top, cap);
+        self.excesses_near(&at, x, top, cap)
+    }
+
+    /// The same at a point that lies so by the line of the primary surface, which is worked out once for the surfaces along it.
+    #[inline(never)]
+    fn excesses_near(&self, at: &Place, x: &Point, top: i64, cap: &Cap) -> StripExcesses
+        requires at { at.now ≡ offset_of (primary_of self.now).line x.now }
+        requires top { IsLevel top }
+        ensures value { IsStripExcesses self.now x.now top cap.now result }
+    {
+        if !self.primary.is_past_start(at) {
+            return self.excesses_before(at, x, top, cap);
         }
-        if !self.primary.is_before_end(&at) {
-            return self.excesses_past(&at, x, top, cap);
+        if !self.primary.is_before_end(at) {
+            return self.excesses_past(at, x, top, cap);
         }
-        self.excesses_between(&at, x, top, cap)
+        self.excesses_between(at, x, top, cap)
     }
 
     /// The two ends of the primary surface on the extended centerline, each by its two coordinates: 77.19(c). They are the ends of

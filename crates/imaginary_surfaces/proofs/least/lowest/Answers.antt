@@ -1,8 +1,8 @@
 use Rattle.std.proofs.Common.{◌≡◌, ◌≤◌, ◌^◌, ◌-ℤ◌, ◌≤ℤ◌, pos, unsigned_abs, FitsSigned, w64, to_z-of_z, arith}
 use Rattle.std.specs.Int.{int_min}
 use Rattle.std.proofs.lemmas.Int.{ints, clamps}
-use Rattle.imaginary_surfaces.proofs.clearance.lowest.Goals as goal
-use Rattle.imaginary_surfaces.proofs.clearance.lowest.Goals.{After-min-2}
+use Rattle.imaginary_surfaces.proofs.least.lowest.Goals as goal
+use Rattle.imaginary_surfaces.proofs.least.lowest.Goals.{After-min-2}
 
 record Least (c : After-min-2) : Type 0 where
   low : c.min-2.result ≡ int_min (int_min c.level_below-level.result c.args.one.now.z) c.args.two.now.z
