@@ -2,11 +2,12 @@
 
 ghost use Rattle.std.specs.Prelude.{◌≡◌, ◌^◌, ◌≤◌, ◌≤ℤ◌, ◌<ℤ◌, ◌-ℤ◌, neg_ℤ, pos, unsigned_abs};
 ghost use Rattle.std.specs.Int.{int_max};
-ghost use Rattle.grid_exact.specs.Lines.{IsOffset, IsReach, IsSquare};
+ghost use Rattle.grid_exact.specs.Axes.{line_of};
+ghost use Rattle.grid_exact.specs.Lines.{IsOffset, IsReach, IsSquare, offset as offset_of};
 ghost use Rattle.imaginary_surfaces.specs.Clearances.{past_end};
 
 use crate::roots::short;
-use grid_exact::Offset;
+use grid_exact::{Axis, Point};
 use std::marker::Model;
 
 /// Where a point lies by a line: an offset whose numbers have 64 bits.
@@ -29,6 +30,14 @@ impl Model for Place {
     ghost inverse = { λ v. record { along = v.along; aside = v.aside; square = v.square } };
 }
 
+/// The same square of a length in 64 bits.
+fn short_square(square: u128) -> u64
+    requires { square ≤ 2 ^ 55 }
+    ensures { result ≡ square }
+{
+    square as u64
+}
+
 /// How far past an end of what goes from 0 to `length` a point lies.
 fn past_either(along: i64, length: i64) -> i64
     requires along { unsigned_abs along ≤ 2 ^ 45 }
@@ -39,13 +48,14 @@ fn past_either(along: i64, length: i64) -> i64
 }
 
 impl Place {
-    /// The same offset.
-    pub(crate) fn of(at: &Offset) -> Place
-        ensures { result ≡ at.now }
+    /// Of a point by a line.
+    pub(crate) fn by(axis: &Axis, x: &Point) -> Place
+        ensures { result ≡ offset_of (line_of axis.now) x.now }
     {
-        let along = short(at.along());
-        let aside = short(at.aside());
-        let square = at.square() as u64;
+        let way = axis.from.to_point(x);
+        let along = short(way.dot(&axis.way));
+        let aside = short(way.cross(&axis.way));
+        let square = short_square(axis.way.square_length());
         Place {
             along,
             aside: aside.unsigned_abs(),

@@ -84,14 +84,14 @@ impl Strip {
     pub(crate) fn by_primary(&self, x: &Point) -> Place
         ensures { result ≡ offset_of (primary_of self.now).line x.now }
     {
-        Place::of(&self.primary.axis.offset(x))
+        Place::by(&self.primary.axis, x)
     }
 
     /// Where a point lies by the line of the approach surface of this end.
     pub(crate) fn by_approach(&self, end: End, x: &Point) -> Place
         ensures { result ≡ offset_of (approach_of self.now end).line x.now }
     {
-        Place::of(&self.approach(end).axis.offset(x))
+        Place::by(&self.approach(end).axis, x)
     }
 
     /// How far `top` is above the primary surface at a point that lies so by its line.
