@@ -10,7 +10,7 @@ use crate::measures::{APPROACH_FACTOR, HALF_WIDTH_SCALE, MOST_WIDENING};
 use crate::place::Place;
 use crate::primary::PrimarySurface;
 use crate::strip::Strip;
-use grid_exact::{Point, product};
+use grid_exact::Point;
 use runway_classes::{PRECISION_SLOPE, WIDENING_SCALE};
 
 /// What tells of most points that a top is above no surface of a runway there, with a few numbers and no root.
@@ -22,8 +22,18 @@ pub(crate) struct Clearance {
     lowest: i64,
     /// The width of the primary surface.
     width: i64,
+    ghost short: { length ≤ 2 ^ 19 },
     ghost low: { unsigned_abs lowest ≤ 2 ^ 20 },
     ghost wide: { IsWidth width },
+}
+
+/// A factor times a length.
+fn scaled(factor: i64, length: i64) -> i64
+    requires factor { unsigned_abs factor ≤ 2 ^ 36 }
+    requires length { unsigned_abs length ≤ 2 ^ 19 }
+    ensures { result ≡ factor *ℤ length }
+{
+    factor * length
 }
 
 impl Clearance {
@@ -59,9 +69,10 @@ impl Clearance {
 
     /// Whether a part is longer than a factor times the length.
     fn is_longer(&self, part: i64, factor: i64) -> bool
+        requires { unsigned_abs factor ≤ 2 ^ 36 }
         ensures { IsTrue result ↔ ((factor *ℤ pos self.now.length) <ℤ part) }
     {
-        product(factor, i64::from(self.length)) < part as i128
+        scaled(factor, i64::from(self.length)) < part
     }
 
     /// Whether a point is so far ahead that no approach surface is as low there.

@@ -14,10 +14,11 @@ const MOST_LENGTH: u32 = 524_288;
 /// At least the root of `n`, and not much more.
 pub(crate) fn root_above(n: u128) -> u32
     requires { n ≤ 2 ^ 37 }
-    ensures { n ≤ result * result }
+    ensures root { n ≤ result * result }
+    ensures most { result ≤ 2 ^ 19 }
 {
     let root = saturating_f64_to_u32(nearest_i64_to_f64(n as i64).sqrt() + 1.0);
-    if n <= square(u64::from(root)) {
+    if root <= MOST_LENGTH && n <= square(u64::from(root)) {
         root
     } else {
         MOST_LENGTH
