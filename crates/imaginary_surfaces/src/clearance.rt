@@ -107,7 +107,9 @@ impl Clearance {
     {
         let rise = self.rise_to(top);
         let ahead = at.ahead();
-        self.is_far_ahead(rise, ahead) || self.is_far_aside(rise, ahead, at.short_aside())
+        let far_ahead = self.is_far_ahead(rise, ahead);
+        let far_aside = self.is_far_aside(rise, ahead, at.short_aside());
+        far_ahead | far_aside // no branch, which many points would have the processor guess wrong
     }
 }
 
