@@ -34,6 +34,7 @@ impl Collector for Findings {
 
     ghost fails = { ⊤ };
 
+    #[inline(always)]
     fn take(&mut self, finding: Finding) -> Result<(), NoMemory> {
         self.push(finding)?;
         Ok(())
@@ -53,6 +54,7 @@ impl Collector for Verdict {
 
     ghost fails = { ⊥ };
 
+    #[inline(always)]
     fn take(&mut self, finding: Finding) -> Result<(), NoMemory> {
         if finding.rule.is_notice() {
             self.notice = true;

@@ -43,6 +43,7 @@ pub fn runway_key(field: FieldId, runway: RunwayName, part: u8) -> SurfaceKey
 }
 
 /// Hands over the entry of a rule, where it is exceeded.
+#[inline(always)]
 pub fn put_entry<C: Collector>(
     out: &mut C,
     rule: Rule,
@@ -59,6 +60,7 @@ pub fn put_entry<C: Collector>(
 }
 
 /// Hands over the entry of a surface of an airfield, where it is exceeded.
+#[inline(always)]
 pub fn put_on_field<C: Collector>(
     out: &mut C,
     rule: Rule,
@@ -73,6 +75,7 @@ pub fn put_on_field<C: Collector>(
 }
 
 /// Hands over the entry of a surface of a runway, where it is exceeded.
+#[inline(always)]
 pub fn put_on_runway<C: Collector>(
     out: &mut C,
     rule: Rule,

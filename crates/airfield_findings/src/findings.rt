@@ -1,6 +1,6 @@
 //! Lists of findings.
 
-ghost use Rattle.std.specs.Prelude.{◌≡◌, ◌∷◌, ◌++◌, ◌↔◌, [], length, slice_get, option_copied, IfOk, OnOk, OnErr, IsTrue};
+ghost use Rattle.std.specs.Prelude.{◌≡◌, ◌∷◌, ◌++◌, ◌↔◌, ◌<◌, [], length, vec_capacity, vec_len, slice_get, option_copied, IfOk, OnOk, OnErr, IsTrue};
 
 use crate::finding::Finding;
 use grid_exact::NoMemory;
@@ -13,6 +13,29 @@ pub struct Findings {
     items: Vec<Finding>,
     /// Room for the findings of another list while this one is made, kept from list to list.
     spare: Vec<Finding>,
+}
+
+/// Makes room for more findings.
+#[cold]
+#[inline(never)]
+fn make_room(items: &mut Vec<Finding>) -> Result<(), NoMemory>
+    ensures items { items.new.items ≡ items.old.items }
+    ensures room { OnOk result (vec_len items.new < vec_capacity items.new) }
+{
+    items.reserve(1)?;
+    Ok(())
+}
+
+/// Makes room for one finding, where there is none: seldom, since the room is kept from list to list.
+#[inline(always)]
+fn see_to_room(items: &mut Vec<Finding>) -> Result<(), NoMemory>
+    ensures items { items.new.items ≡ items.old.items }
+    ensures room { OnOk result (vec_len items.new < vec_capacity items.new) }
+{
+    if items.len() < items.capacity() {
+        return Ok(());
+    }
+    make_room(items)
 }
 
 impl Model for Findings {
@@ -35,18 +58,19 @@ impl Findings {
         }
     }
 
-    /// Appends a finding.
+    /// Appends a finding. Its parts are written to their place one by one where it is made, and copied nowhere before.
     ///
     /// # Errors
     ///
     /// `NoMemory` where memory was refused; the list is then unchanged.
+    #[inline(always)]
     pub fn push(&mut self, finding: Finding) -> Result<(), NoMemory>
         ensures pushed { OnOk result (self.new ≡ self.old ++ finding ∷ []) }
         ensures kept { OnErr result (self.new ≡ self.old) }
     {
         // by way of an array, since a parameter that holds options gets no proof when it is pushed
         let [item] = [finding];
-        self.items.reserve(1)?;
+        see_to_room(&mut self.items)?;
         self.items.push_reserved(item);
         Ok(())
     }

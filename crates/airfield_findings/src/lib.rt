@@ -5,6 +5,7 @@
 
 mod bounds;
 mod collector;
+mod datum;
 mod entry;
 mod finding;
 mod findings;

@@ -1,10 +1,11 @@
 //! Airports with their surfaces, prepared for many structures.
 
-ghost use Rattle.std.specs.Prelude.{◌≡◌, [], List, IfOk, take, false};
+ghost use Rattle.std.specs.Prelude.{◌≡◌, ℤ, [], List, IfOk, take, false};
 ghost use Rattle.std.specs.List.{All};
 ghost use Rattle.airfields.specs.Airfields.{IsHeldAirport};
 ghost use Rattle.airfields.specs.Runways.{IsProper};
-ghost use Rattle.height_rules.specs.Heights.{notice_top, standards_top};
+ghost use Rattle.grid_exact.specs.Level.{IsLevel};
+ghost use Rattle.height_rules.specs.Heights.{notice_top};
 ghost use Rattle.height_rules.specs.NearAirport.{near_excess};
 ghost use Rattle.horizontal_hull.specs.Arcs.{dome_of};
 ghost use Rattle.runway_notice.specs.Notices.{notice_slope};
@@ -13,10 +14,11 @@ ghost use Rattle.airfield_findings.specs.Entries.{of_surfaces};
 ghost use Rattle.airfield_findings.specs.Reaches.{IsInPlace};
 
 use crate::bounds::Bounds;
+use crate::datum::Datum;
 use crate::reach::{place, surfaces_area};
-use airfields::{Airport, Filing, Runway};
-use grid_exact::{Area, NoMemory};
-use height_rules::{excess_near_limited, near_area, top_for_notice};
+use airfields::{Airport, FieldId, Runway};
+use grid_exact::{Area, NoMemory, Point};
+use height_rules::{Structure, excess_near_limited, near_area};
 use horizontal_hull::Hull;
 use imaginary_surfaces::Strip;
 use runway_notice::{LoneRunway, Slope, excess_notice, notice_area};
@@ -33,12 +35,15 @@ pub struct PreparedAirport {
     surfaces: Bounds,
     /// The box of 77.9(b), where notice is asked about the airport.
     notice: Bounds,
-    /// The airport stands next to them, since its reference point and elevation are asked for first.
-    airport: Airport,
+    /// Its reference point and elevation stand next to them, since they are asked for first.
+    datum: Datum,
+    /// Its name, which each entry has.
+    id: FieldId,
     /// The runway that notice is measured from, ready, where the airport has no other.
     lone: Option<LoneRunway>,
     hull: Hull,
     strips: Vec<Strip>,
+    airport: Airport,
 }
 
 impl Model for PreparedAirport {
@@ -51,7 +56,7 @@ impl Model for PreparedAirport {
 
     ghost view = { λ p. p.airport };
 
-    ghost invariant = { λ p. IsPreparedAirport p.airport p.hull p.strips.items p.lone (Some (box_of p.near)) (Some (box_of p.notice)) (Some (box_of p.surfaces)) };
+    ghost invariant = { λ p. IsPreparedAirport p.airport p.datum p.id p.hull p.strips.items p.lone (Some (box_of p.near)) (Some (box_of p.notice)) (Some (box_of p.surfaces)) };
 }
 
 /// The surfaces of runways, each prepared.
@@ -78,8 +83,10 @@ impl PreparedAirport {
         let surfaces = Bounds::of(&surfaces_area(&hull, strips.as_slice()));
         let notice = Bounds::of(&notice_area(airport));
         let lone = LoneRunway::of(airport);
+        let datum = Datum::of(&airport.arp, airport.elevation);
+        let id = airport.id;
         let airport = Airport {
-            id: airport.id,
+            id,
             category: airport.category,
             arp: airport.arp,
             elevation: airport.elevation,
@@ -89,10 +96,12 @@ impl PreparedAirport {
             near,
             surfaces,
             notice,
+            datum,
+            id,
             lone,
-            airport,
             hull,
             strips,
+            airport,
         })
     }
 
@@ -102,6 +111,14 @@ impl PreparedAirport {
         ensures held { IsHeldAirport result.now }
     {
         &self.airport
+    }
+
+    /// Its name.
+    #[inline(always)]
+    pub(crate) fn id(&self) -> FieldId
+        ensures { result ≡ self.now.id }
+    {
+        self.id
     }
 
     /// Its horizontal and conical surfaces.
@@ -119,34 +136,47 @@ impl PreparedAirport {
     }
 
     /// How far the structure is above the limit near the airport, 77.17(a)(2).
-    pub(crate) fn excess_near(&self, filing: &Filing) -> Option<u32>
-        ensures { result ≡ near_excess self.now filing.now }
+    #[inline(always)]
+    pub(crate) fn excess_near(&self, structure: &Structure) -> Option<u32>
+        ensures { result ≡ near_excess self.now structure.now }
     {
-        if !self.near.has(&filing.at) {
+        if !self.near.has(structure.at()) {
             return None;
         }
-        excess_near_limited(&self.airport, filing)
+        excess_near_limited(&self.datum.point(), self.datum.elevation(), structure)
     }
 
     /// The slope of 77.9(b) that the structure is above.
-    pub(crate) fn excess_notice(&self, filing: &Filing) -> Option<Slope>
-        ensures { result ≡ notice_slope self.now filing.now.at (notice_top filing.now) }
+    #[inline(always)]
+    pub(crate) fn excess_notice(&self, structure: &Structure) -> Option<Slope>
+        ensures { result ≡ notice_slope self.now structure.now.at (notice_top structure.now) }
     {
-        if !self.notice.has(&filing.at) {
+        let at = structure.at();
+        let top = structure.notice_top();
+        if !self.notice.has(at) {
             return None;
         }
-        let top = top_for_notice(filing);
+        self.slope_over(at, top)
+    }
+
+    /// The slope of 77.9(b) that a top is above, where the box of 77.9(b) may have its point.
+    #[inline(never)]
+    fn slope_over(&self, at: &Point, top: i64) -> Option<Slope>
+        requires { IsLevel top }
+        ensures { result ≡ notice_slope self.now at.now top }
+    {
         match &self.lone {
-            Some(lone) => lone.excess(&self.airport, &filing.at, top),
-            None => excess_notice(&self.airport, &filing.at, top),
+            Some(lone) => lone.excess(&self.airport, at, top),
+            None => excess_notice(&self.airport, at, top),
         }
     }
 
-    /// Whether a surface of 77.19 may lie over the structure's point.
-    pub(crate) fn has_surfaces_over(&self, filing: &Filing) -> bool
-        ensures none { result ≡ false → of_surfaces filing.now.at (standards_top filing.now) self.now ≡ [] }
+    /// Whether a surface of 77.19 may lie over the point.
+    #[inline(always)]
+    pub(crate) fn has_surfaces_over(&self, at: &Point) -> bool
+        ensures none { result ≡ false → (top : ℤ) → IsLevel top → of_surfaces at.now top self.now ≡ [] }
     {
-        self.surfaces.has(&filing.at)
+        self.surfaces.has(at)
     }
 
     /// The area outside of which the airport gives no findings.

@@ -14,7 +14,7 @@ use crate::prepared_airport::PreparedAirport;
 use crate::surfaces::Surfaces;
 use airfields::Filing;
 use grid_exact::NoMemory;
-use height_rules::top_for_notice;
+use height_rules::Structure;
 use heliport_surfaces::Pad;
 use runway_notice::Sub;
 
@@ -42,19 +42,19 @@ fn rule_b3(filing: &Filing) -> Rule
 }
 
 /// Hands over the entry of the notice slope of an airport.
+#[inline(always)]
 fn put_airport_slope<C: Collector>(
     out: &mut C,
-    filing: &Filing,
+    structure: &Structure,
     prepared: &PreparedAirport,
 ) -> Result<(), NoMemory>
-    ensures taken { OnOk result ((list : List AFinding) → C.taken out.old list → C.taken out.new (list ++ slope_entries filing.now (AnAirport prepared.now))) }
+    ensures taken { OnOk result ((list : List AFinding) → C.taken out.old list → C.taken out.new (list ++ slope_entries structure.now (AnAirport prepared.now))) }
     ensures fails { OnErr result C.fails }
 {
-    let airport = prepared.airport();
-    if let Some(slope) = prepared.excess_notice(filing) {
+    if let Some(slope) = prepared.excess_notice(structure) {
         out.take(Finding {
-            rule: rule_b(filing, slope.sub),
-            key: runway_key(airport.id, slope.runway, 0),
+            rule: rule_b(structure.filing(), slope.sub),
+            key: runway_key(prepared.id(), slope.runway, 0),
             excess: slope.excess,
         })?;
     }
@@ -62,25 +62,36 @@ fn put_airport_slope<C: Collector>(
 }
 
 /// Hands over the entry of the notice slope of a heliport.
-fn put_heliport_slope<C: Collector>(out: &mut C, filing: &Filing, pad: &Pad) -> Result<(), NoMemory>
-    ensures taken { OnOk result ((list : List AFinding) → C.taken out.old list → C.taken out.new (list ++ slope_entries filing.now (AHeliport pad.now))) }
+#[inline(never)]
+fn put_heliport_slope<C: Collector>(
+    out: &mut C,
+    structure: &Structure,
+    pad: &Pad,
+) -> Result<(), NoMemory>
+    ensures taken { OnOk result ((list : List AFinding) → C.taken out.old list → C.taken out.new (list ++ slope_entries structure.now (AHeliport pad.now))) }
     ensures fails { OnErr result C.fails }
 {
-    let excess = pad.excess_notice(&filing.at, top_for_notice(filing));
-    put_on_field(out, rule_b3(filing), pad.heliport().id, 0, excess)
+    let excess = pad.excess_notice(structure.at(), structure.notice_top());
+    put_on_field(
+        out,
+        rule_b3(structure.filing()),
+        pad.heliport().id,
+        0,
+        excess,
+    )
 }
 
 /// Hands over the entry of the notice slope of one airfield.
 pub fn put_slope<C: Collector>(
     out: &mut C,
-    filing: &Filing,
+    structure: &Structure,
     prepared: &Prepared,
 ) -> Result<(), NoMemory>
-    ensures taken { OnOk result ((list : List AFinding) → C.taken out.old list → C.taken out.new (list ++ slope_entries filing.now (airfield_of prepared.now))) }
+    ensures taken { OnOk result ((list : List AFinding) → C.taken out.old list → C.taken out.new (list ++ slope_entries structure.now (airfield_of prepared.now))) }
     ensures fails { OnErr result C.fails }
 {
     match &prepared.surfaces {
-        Surfaces::Airport(airport) => put_airport_slope(out, filing, airport),
-        Surfaces::Heliport(pad) => put_heliport_slope(out, filing, pad),
+        Surfaces::Airport(airport) => put_airport_slope(out, structure, airport),
+        Surfaces::Heliport(pad) => put_heliport_slope(out, structure, pad),
     }
 }

@@ -17,9 +17,9 @@ use crate::finding::Rule;
 use crate::prepared::Prepared;
 use crate::prepared_airport::PreparedAirport;
 use crate::surfaces::Surfaces;
-use airfields::{FieldId, Filing};
+use airfields::FieldId;
 use grid_exact::{Cap, NoMemory, Point};
-use height_rules::top_for_standards;
+use height_rules::Structure;
 use heliport_surfaces::Pad;
 use imaginary_surfaces::Strip;
 
@@ -109,21 +109,25 @@ fn put_runways<C: Collector>(
 
 /// Hands over the entries of the surfaces of an airport: horizontal, conical, then those of its runways in order of name. How the
 /// point stands under the first two is found once, for them and for the limit of the transitional surfaces.
+#[inline(always)]
 fn put_surfaces<C: Collector>(
     out: &mut C,
-    filing: &Filing,
+    structure: &Structure,
     prepared: &PreparedAirport,
 ) -> Result<(), NoMemory>
-    ensures taken { OnOk result ((list : List AFinding) → C.taken out.old list → C.taken out.new (list ++ of_surfaces filing.now.at (standards_top filing.now) prepared.now)) }
+    ensures taken { OnOk result ((list : List AFinding) → C.taken out.old list → C.taken out.new (list ++ of_surfaces structure.now.at (standards_top structure.now) prepared.now)) }
     ensures fails { OnErr result C.fails }
 {
-    if !prepared.has_surfaces_over(filing) {
+    let at = structure.at();
+    let top = structure.standards_top();
+    if !prepared.has_surfaces_over(at) {
         return Ok(());
     }
-    put_surfaces_over(out, &filing.at, top_for_standards(filing), prepared)
+    put_surfaces_over(out, at, top, prepared)
 }
 
-/// The same where one of them may lie over the point.
+/// The same where one of them may lie over the point. It is kept apart, as most airports near a structure need none of it.
+#[inline(never)]
 fn put_surfaces_over<C: Collector>(
     out: &mut C,
     at: &Point,
@@ -174,39 +178,40 @@ fn put_pad<C: Collector>(out: &mut C, at: &Point, top: i64, pad: &Pad) -> Result
 }
 
 /// Hands over the entries of an airport.
+#[inline(always)]
 fn put_airport<C: Collector>(
     out: &mut C,
-    filing: &Filing,
+    structure: &Structure,
     prepared: &PreparedAirport,
 ) -> Result<(), NoMemory>
-    ensures taken { OnOk result ((list : List AFinding) → C.taken out.old list → C.taken out.new (list ++ of_airfield filing.now (AnAirport prepared.now))) }
+    ensures taken { OnOk result ((list : List AFinding) → C.taken out.old list → C.taken out.new (list ++ of_airfield structure.now (AnAirport prepared.now))) }
     ensures fails { OnErr result C.fails }
 {
-    let airport = prepared.airport();
-    let near = prepared.excess_near(filing);
-    put_on_field(out, Rule::Near, airport.id, 0, near)?;
-    put_surfaces(out, filing, prepared)
+    let near = prepared.excess_near(structure);
+    put_on_field(out, Rule::Near, prepared.id(), 0, near)?;
+    put_surfaces(out, structure, prepared)
 }
 
 /// Hands over the entries of a heliport.
-fn put_heliport<C: Collector>(out: &mut C, filing: &Filing, pad: &Pad) -> Result<(), NoMemory>
-    ensures taken { OnOk result ((list : List AFinding) → C.taken out.old list → C.taken out.new (list ++ of_airfield filing.now (AHeliport pad.now))) }
+#[inline(never)]
+fn put_heliport<C: Collector>(out: &mut C, structure: &Structure, pad: &Pad) -> Result<(), NoMemory>
+    ensures taken { OnOk result ((list : List AFinding) → C.taken out.old list → C.taken out.new (list ++ of_airfield structure.now (AHeliport pad.now))) }
     ensures fails { OnErr result C.fails }
 {
-    put_pad(out, &filing.at, top_for_standards(filing), pad)
+    put_pad(out, structure.at(), structure.standards_top(), pad)
 }
 
 /// Hands over the standards of one airfield.
 pub fn put_airfield<C: Collector>(
     out: &mut C,
-    filing: &Filing,
+    structure: &Structure,
     prepared: &Prepared,
 ) -> Result<(), NoMemory>
-    ensures taken { OnOk result ((list : List AFinding) → C.taken out.old list → C.taken out.new (list ++ of_airfield filing.now (airfield_of prepared.now))) }
+    ensures taken { OnOk result ((list : List AFinding) → C.taken out.old list → C.taken out.new (list ++ of_airfield structure.now (airfield_of prepared.now))) }
     ensures fails { OnErr result C.fails }
 {
     match &prepared.surfaces {
-        Surfaces::Airport(airport) => put_airport(out, filing, airport),
-        Surfaces::Heliport(pad) => put_heliport(out, filing, pad),
+        Surfaces::Airport(airport) => put_airport(out, structure, airport),
+        Surfaces::Heliport(pad) => put_heliport(out, structure, pad),
     }
 }

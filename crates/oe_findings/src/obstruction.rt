@@ -7,23 +7,23 @@ ghost use Rattle.airfield_findings.specs.Verdicts.{is_obstruction};
 ghost use Rattle.oe_findings.specs.Screenings.{exceeds_over};
 
 use airfield_findings::{Prepared, Verdict, put_airfield};
-use airfields::Filing;
 use grid_exact::NoMemory;
+use height_rules::Structure;
 use surface_tree::Visitor;
 
 /// Whether a structure exceeds a standard of one of the airfields that were visited.
 #[derive(Drop)]
 pub(crate) struct Obstruction {
-    pub(crate) filing: Filing,
+    pub(crate) structure: Structure,
     pub(crate) is_found: bool,
 }
 
 /// Whether a structure exceeds a standard of one airfield.
-fn exceeds(filing: &Filing, prepared: &Prepared) -> bool
-    ensures { result ≡ is_obstruction (of_airfield filing.now (airfield_of prepared.now)) }
+fn exceeds(structure: &Structure, prepared: &Prepared) -> bool
+    ensures { result ≡ is_obstruction (of_airfield structure.now (airfield_of prepared.now)) }
 {
     let mut verdict = Verdict::none();
-    match put_airfield(&mut verdict, filing, prepared) {
+    match put_airfield(&mut verdict, structure, prepared) {
         Ok(()) => verdict.obstruction,
         Err(NoMemory) => unreachable!(),
     }
@@ -34,13 +34,13 @@ impl Visitor<Prepared> for Obstruction {
     ghost use Rattle.airfield_findings.specs.Prepared.{airfield_of};
     ghost use Rattle.oe_findings.specs.Screenings.{exceeds_over};
 
-    ghost seen = { λ start s items. (s.filing ≡ start.filing) × (start.is_found ≡ false → s.is_found ≡ exceeds_over s.filing (map airfield_of items)) };
+    ghost seen = { λ start s items. (s.structure ≡ start.structure) × (start.is_found ≡ false → s.is_found ≡ exceeds_over s.structure (map airfield_of items)) };
 
     #[tactic(auto, using(crate::proofs::Standards::exceeds_more, crate::proofs::Standards::exceeds_still))]
     fn item(&mut self, item: &Prepared) {
         if self.is_found {
             return;
         }
-        self.is_found = exceeds(&self.filing, item);
+        self.is_found = exceeds(&self.structure, item);
     }
 }

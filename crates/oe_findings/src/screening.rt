@@ -12,14 +12,14 @@ use airfield_findings::{Collector, Prepared, Rule, no_field, put_airfield, put_e
 use airfields::Filing;
 use airport_register::Register;
 use grid_exact::NoMemory;
-use height_rules::{excess_200, excess_499};
+use height_rules::{Structure, excess_200, excess_499};
 use notice_slopes::exempt;
 use surface_tree::Visitor;
 
 /// What a structure exceeds over the airfields that were visited: the standards, and the notice rules that come behind all of them.
 #[derive(Drop)]
 pub(crate) struct Screening<C: Collector + Drop> {
-    pub(crate) filing: Filing,
+    pub(crate) structure: Structure,
     pub(crate) is_due: bool,
     pub(crate) standards: C,
     pub(crate) notices: C,
@@ -35,9 +35,9 @@ impl<C: Collector + Drop> Screening<C> {
     pub(crate) fn begin(standards: C, notices: C, filing: &Filing) -> Result<Screening<C>, NoMemory>
         requires standards { C.taken standards [] }
         requires notices { C.taken notices [] }
-        ensures filing { IfOk result (λ s. s.filing ≡ filing.now) }
+        ensures filing { IfOk result (λ s. s.structure ≡ filing.now) }
         ensures due { IfOk result (λ s. s.is_due ≡ is_none (exemption_of filing.now)) }
-        ensures seen { IfOk result (λ s. HasSeen C.taken C.fails s.filing s.is_due s.standards s.notices s.refused []) }
+        ensures seen { IfOk result (λ s. HasSeen C.taken C.fails s.structure s.is_due s.standards s.notices s.refused []) }
         ensures fails { IfErr result (λ _. C.fails) }
     {
         let mut standards = standards;
@@ -48,7 +48,7 @@ impl<C: Collector + Drop> Screening<C> {
             put_entry(&mut notices, rule_a(filing), no_field(), excess_200(filing))?;
         }
         Ok(Screening {
-            filing: *filing,
+            structure: Structure::of(filing),
             is_due,
             standards,
             notices,
@@ -58,15 +58,15 @@ impl<C: Collector + Drop> Screening<C> {
 
     /// Takes the entries of one airfield more.
     fn put(&mut self, prepared: &Prepared) -> Result<(), NoMemory>
-        ensures same { (self.new.filing ≡ self.old.filing) }
+        ensures same { (self.new.structure ≡ self.old.structure) }
         ensures due { self.new.is_due ≡ self.old.is_due }
         ensures going { self.new.refused ≡ self.old.refused }
-        ensures taken { OnOk result ((airfields : List AnAirfield) → Gathers C.taken self.old.filing self.old.is_due self.old.standards self.old.notices airfields → Gathers C.taken self.new.filing self.new.is_due self.new.standards self.new.notices (airfields ++ airfield_of prepared.now ∷ [])) }
+        ensures taken { OnOk result ((airfields : List AnAirfield) → Gathers C.taken self.old.structure self.old.is_due self.old.standards self.old.notices airfields → Gathers C.taken self.new.structure self.new.is_due self.new.standards self.new.notices (airfields ++ airfield_of prepared.now ∷ [])) }
         ensures fails { OnErr result C.fails }
     {
-        put_airfield(&mut self.standards, &self.filing, prepared)?;
+        put_airfield(&mut self.standards, &self.structure, prepared)?;
         if self.is_due {
-            put_slope(&mut self.notices, &self.filing, prepared)?;
+            put_slope(&mut self.notices, &self.structure, prepared)?;
         }
         Ok(())
     }
@@ -77,9 +77,9 @@ impl<C: Collector + Drop> Screening<C> {
     ///
     /// `NoMemory` where memory was refused.
     pub(crate) fn finish(self, register: &Register) -> Result<C, NoMemory>
-        requires due { self.is_due ≡ is_none (exemption_of self.filing) }
-        requires seen { HasSeen C.taken C.fails self.filing self.is_due self.standards self.notices self.refused register.now }
-        ensures taken { IfOk result (λ c. C.taken c (findings_of register.now self.filing)) }
+        requires due { self.is_due ≡ is_none (exemption_of self.structure) }
+        requires seen { HasSeen C.taken C.fails self.structure self.is_due self.standards self.notices self.refused register.now }
+        ensures taken { IfOk result (λ c. C.taken c (findings_of register.now self.structure)) }
         ensures fails { IfErr result (λ _. C.fails) }
     {
         if self.refused {
@@ -87,7 +87,7 @@ impl<C: Collector + Drop> Screening<C> {
         }
         let mut notices = self.notices;
         if self.is_due {
-            put_on_airfield(&mut notices, register, &self.filing)?;
+            put_on_airfield(&mut notices, register, self.structure.filing())?;
         }
         self.standards.join(notices)
     }
@@ -98,7 +98,7 @@ impl<C: Collector + Drop> Visitor<Prepared> for Screening<C> {
     ghost use Rattle.airfield_findings.specs.Prepared.{airfield_of};
     ghost use Rattle.oe_findings.specs.Screenings.{HasSeen};
 
-    ghost seen = { λ start s items. (s.filing ≡ start.filing) × (s.is_due ≡ start.is_due) × HasSeen C.taken C.fails s.filing s.is_due s.standards s.notices s.refused (map airfield_of items) };
+    ghost seen = { λ start s items. (s.structure ≡ start.structure) × (s.is_due ≡ start.is_due) × HasSeen C.taken C.fails s.structure s.is_due s.standards s.notices s.refused (map airfield_of items) };
 
     fn item(&mut self, item: &Prepared) {
         if self.refused {

@@ -13,6 +13,7 @@ use airfield_findings::{Collector, Prepared};
 use airfields::Filing;
 use airport_register::{Changed, Register};
 use grid_exact::{NoMemory, Steps};
+use height_rules::Structure;
 use std::alloc::Global;
 use std::marker::Model;
 use std::sync::Arc;
@@ -89,13 +90,13 @@ impl Surroundings {
         screening: &mut Screening<C>,
         steps: &mut Steps<L>,
     )
-        requires { HasSeen C.taken C.fails screening.old.filing screening.old.is_due screening.old.standards screening.old.notices screening.old.refused [] }
-        ensures filing { screening.new.filing ≡ screening.old.filing }
+        requires { HasSeen C.taken C.fails screening.old.structure screening.old.is_due screening.old.standards screening.old.notices screening.old.refused [] }
+        ensures filing { screening.new.structure ≡ screening.old.structure }
         ensures due { screening.new.is_due ≡ screening.old.is_due }
-        ensures seen { HasSeen C.taken C.fails screening.new.filing screening.new.is_due screening.new.standards screening.new.notices screening.new.refused self.now }
+        ensures seen { HasSeen C.taken C.fails screening.new.structure screening.new.is_due screening.new.standards screening.new.notices screening.new.refused self.now }
         ensures steps { steps.new ≤ steps.old + (TOP_LEVEL + 1) + length self.now }
     {
-        let at = screening.filing.at;
+        let at = *screening.structure.at();
         self.tree.visit(&at, screening, steps);
     }
 
@@ -105,7 +106,7 @@ impl Surroundings {
         ensures steps { steps.new ≤ steps.old + (TOP_LEVEL + 1) + length self.now }
     {
         let mut obstruction = Obstruction {
-            filing: *filing,
+            structure: Structure::of(filing),
             is_found: false,
         };
         self.tree.visit(&filing.at, &mut obstruction, steps);

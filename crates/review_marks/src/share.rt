@@ -19,6 +19,7 @@ use airfield_findings::{Finding, Findings, Prepared, Rule, SurfaceKey, put_airfi
 use airfields::{Airfield, FieldId, Filing};
 use airport_register::Changed;
 use grid_exact::{Area, NoMemory};
+use height_rules::Structure;
 use notice_slopes::exempt;
 use std::alloc::Global;
 use std::marker::Model;
@@ -68,7 +69,7 @@ fn standards_of(alloc: Global, prepared: &Prepared, filing: &Filing) -> Result<F
     ensures { IfOk result (λ l. l ≡ of_airfield filing.now (airfield_of prepared.now)) }
 {
     let mut list = Findings::new(alloc);
-    put_airfield(&mut list, filing, prepared)?;
+    put_airfield(&mut list, &Structure::of(filing), prepared)?;
     Ok(list)
 }
 
@@ -77,7 +78,7 @@ fn slope_of(alloc: Global, prepared: &Prepared, filing: &Filing) -> Result<Findi
     ensures { IfOk result (λ l. l ≡ slope_entries filing.now (airfield_of prepared.now)) }
 {
     let mut list = Findings::new(alloc);
-    put_slope(&mut list, filing, prepared)?;
+    put_slope(&mut list, &Structure::of(filing), prepared)?;
     Ok(list)
 }
 
