@@ -96,6 +96,9 @@ impl Surroundings {
         ensures seen { HasSeen C.taken C.fails screening.new.structure screening.new.is_due screening.new.standards screening.new.notices screening.new.refused self.now }
         ensures steps { steps.new ≤ steps.old + (TOP_LEVEL + 1) + length self.now }
     {
+        // their contracts tell that both tops are levels
+        let _standards = screening.structure.standards_top();
+        let _notice = screening.structure.notice_top();
         let at = *screening.structure.at();
         self.tree.visit(&at, screening, steps);
     }
