@@ -1,15 +1,17 @@
--- What is written behind the bytes of a page, and how long numbers are.
-use Rattle.std.proofs.Common.{◌≡◌, ℕ, true, nat_lt, [], ◌∷◌, get_or, ◌+◌, ◌/◌, ◌^◌, ◌<◌, ◌≤◌, List, ◌++◌, length, take, drop, ap, sym, ◌∙◌, subst, arith, length-append, append_assoc}
-use Rattle.std.proofs.Math.Seq.{take-append-add, take-add}
+-- What is written behind the bytes of a page, and the digits of numbers.
+use Rattle.std.proofs.Common.{◌≡◌, ℕ, zero, suc, Bool, true, ◌&&◌, T, eqb, eqb→eq, eq-zero-or-pos, nat_lt, [], ◌∷◌, get_or, ◌+◌, ◌-◌, ◌*◌, ◌/◌, ◌%◌, ◌^◌, ◌<◌, ◌≤◌, List, ◌++◌, length, take, drop, refl, ap, sym, ◌∙◌, subst, inl, inr, arith, length-append, length-drop, append_assoc, take_all, take-take}
+use Rattle.std.proofs.Math.Seq.{take-append-add}
 use Rattle.std.proofs.lemmas.Bool.Decides.{nat_tests}
-use Rattle.std.proofs.lemmas.List.{flat_map_more, take-append-le, length-take-le, take_at, take_more}
+use Rattle.std.proofs.lemmas.List.{flat_map_more, take-append-le, length-take-le, take-append-drop, take_more}
 use Rattle.std.proofs.lemmas.List.Elements.{All-head, All-tail}
 use Rattle.std.proofs.lemmas.List.Sums.{AllPass-from_list_all}
 use Rattle.std.proofs.lemmas.Str.{IsUtf8-from_ascii}
 use Rattle.std.proofs.lemmas.Str.Ascii.{IsAscii-nil, IsAscii-cons}
 use Rattle.std.specs.List.{flat_map, list_all, AllPass}
 use Rattle.std.specs.Str.{IsAscii, IsUtf8}
-use Rattle.wire_replies.specs.Pages.{is_seven_bit}
+use Rattle.wire_replies.specs.Pages.{is_seven_bit, pair_text}
+use Rattle.wire_replies.specs.declared.page.TheConstants.{PAIRS}
+use lib.Ieee.Fits.{and_l, and_r}
 use Rattle.std.proofs.lemmas.Fmt.{decimal_digit, decimal_step}
 use Rattle.std.specs.Fmt.{decimal}
 use borrow.Rule.Slice.PartMut.{put_mid, post_of}
@@ -21,31 +23,71 @@ put_behind a k n bytes part fits few =
     subst (λ (m : ℕ). take (m + n) (put_mid a k bytes part) ≡ take a bytes ++ take n part) front
     (take-append-add (take a bytes) (part ++ post_of a k bytes) n ∙ ap (λ (t : List ℕ). take a bytes ++ t) (take-append-le n part (post_of a k bytes) few))
 
--- the same where the bytes were written by their place
-pub written_behind : (a r n : ℕ) (new old text rest : List ℕ) → r ≡ a → length text ≡ n → take r new ≡ take r old → drop r new ≡ text ++ rest → take (a + n) new ≡ take a old ++ text
-written_behind a r n new old text rest e long front back =
-    let f : take a new ≡ take a old = subst (λ (m : ℕ). take m new ≡ take m old) e front in
-    let b : drop a new ≡ text ++ rest = subst (λ (m : ℕ). drop m new ≡ text ++ rest) e back in
-    take-add a n new ∙ ap (λ (t : List ℕ). t ++ take n (drop a new)) f ∙ ap (λ (t : List ℕ). take a old ++ take n t) b
-    ∙ ap (λ (t : List ℕ). take a old ++ t) (take_at text rest n long)
+-- the same where a text of four to eight bytes was written by its first four and then by its last four
+pub two_parts_behind : (a e k j : ℕ) (bytes text first last : List ℕ) → a ≤ length bytes → 4 ≤ length text → length text ≤ 8 → e ≡ a + length text →
+    first ≡ take 4 text → last ≡ drop (length text - 4) text → take e (put_mid (e - 4) j (put_mid a k bytes first) last) ≡ take a bytes ++ text
+two_parts_behind a e k j bytes text first last fits least most is front back =
+    let n = length text in
+    let m = n - 4 in
+    let before : a + m ≡ e - 4 = omega arith in
+    let behind : (e - 4) + 4 ≡ e = omega arith in
+    let long_first : length first ≡ 4 = ap length front ∙ length-take-le 4 text least in
+    let long_last : length last ≡ 4 = ap length back ∙ length-drop m text ∙ omega arith in
+    let once : take (a + m) (put_mid a k bytes first) ≡ take a bytes ++ take m first = put_behind a k m bytes first fits (omega (arith, long_first)) in
+    let long_once : e - 4 ≤ length (put_mid a k bytes first) =
+    omega (arith, before, long_first, length-append (take a bytes) (first ++ post_of a k bytes), length-append first (post_of a k bytes), length-take-le a bytes fits) in
+    let twice : take ((e - 4) + 4) (put_mid (e - 4) j (put_mid a k bytes first) last) ≡ take (e - 4) (put_mid a k bytes first) ++ take 4 last =
+    put_behind (e - 4) j 4 (put_mid a k bytes first) last long_once (omega (arith, long_last)) in
+    let whole : take 4 last ≡ drop m text = take_all 4 last (omega (arith, long_last)) ∙ back in
+    let part : take m first ≡ take m text = ap (take m) front ∙ take-take m 4 text (omega arith) in
+    let start : take (e - 4) (put_mid a k bytes first) ≡ take a bytes ++ take m text =
+    subst (λ (i : ℕ). take i (put_mid a k bytes first) ≡ take a bytes ++ take m text) before (once ∙ ap (λ (t : List ℕ). take a bytes ++ t) part) in
+    ap (λ (i : ℕ). take i (put_mid (e - 4) j (put_mid a k bytes first) last)) (sym behind) ∙ twice
+    ∙ ap (λ (t : List ℕ). t ++ take 4 last) start ∙ ap (λ (t : List ℕ). (take a bytes ++ take m text) ++ t) whole
+    ∙ append_assoc (take a bytes) (take m text) (drop m text) ∙ ap (λ (t : List ℕ). take a bytes ++ t) (take-append-drop m text)
 
-pub one_digit : (n : ℕ) → n < 10 → 1 ≡ length (decimal n)
-one_digit n h = sym (ap length (decimal_digit n h))
+-- four items of a list, one by one
+pub four_of : (i : ℕ) (xs : List ℕ) → i + 4 ≤ length xs → get_or xs i 0 ∷ get_or xs (i + 1) 0 ∷ get_or xs (i + 2) 0 ∷ get_or xs (i + 3) 0 ∷ [] ≡ take 4 (drop i xs)
+four_of zero [] h = absurd (omega arith)
+four_of zero (a ∷ []) h = absurd (omega arith)
+four_of zero (a ∷ b ∷ []) h = absurd (omega arith)
+four_of zero (a ∷ b ∷ c ∷ []) h = absurd (omega arith)
+four_of zero (a ∷ b ∷ c ∷ d ∷ xs) h = refl
+four_of (suc i) [] h = absurd (omega arith)
+four_of (suc i) (x ∷ xs) h =
+    let a : suc i + 1 ≡ suc (i + 1) = omega arith in
+    let b : suc i + 2 ≡ suc (i + 2) = omega arith in
+    let c : suc i + 3 ≡ suc (i + 3) = omega arith in
+    rw (a, b, c) (four_of i xs (omega arith))
 
-next_digit : (k n : ℕ) → 10 ≤ n → n < 2 ^ 64 → k ≡ length (decimal (n / 10)) → k + 1 ≡ length (decimal n)
-next_digit k n lo hi e = ap (λ (m : ℕ). m + 1) e ∙ sym (ap length (decimal_step n lo hi) ∙ length-append _ _)
+abbrev are_pairs : ℕ → Bool
+are_pairs zero = true
+are_pairs (suc p) = (eqb (get_or PAIRS (p * 2) 0) (48 + p / 10) && eqb (get_or PAIRS (p * 2 + 1) 0) (48 + p % 10)) && are_pairs p
 
-pub two_digits : (n : ℕ) → 10 ≤ n → n < 100 → 2 ≡ length (decimal n)
-two_digits n lo hi = next_digit 1 n lo (omega arith) (one_digit (n / 10) (omega arith))
+pairs_below : (n p : ℕ) → T (are_pairs n) → p < n → (get_or PAIRS (p * 2) 0 ≡ 48 + p / 10) × (get_or PAIRS (p * 2 + 1) 0 ≡ 48 + p % 10)
+pairs_below zero p t h = absurd (omega arith)
+pairs_below (suc n) p t h =
+    elim (eq-zero-or-pos (n - p)) [
+      | inl z ↦ let e : p ≡ n = omega arith in let a = and_l _ (are_pairs n) t in rw e (eqb→eq _ _ (and_l _ _ a), eqb→eq _ _ (and_r _ _ a))
+      | inr g ↦ pairs_below n p (and_r _ (are_pairs n) t) (omega arith)
+    ]
 
-pub three_digits : (n : ℕ) → 100 ≤ n → n < 1000 → 3 ≡ length (decimal n)
-three_digits n lo hi = next_digit 2 n (omega arith) (omega arith) (two_digits (n / 10) (omega arith) (omega arith))
+-- the digits that the table of pairs has
+pub pairs_at : (p : ℕ) → p < 100 → (get_or PAIRS (p * 2) 0 ≡ 48 + p / 10) × (get_or PAIRS (p * 2 + 1) 0 ≡ 48 + p % 10)
+pairs_at p h = pairs_below 100 p tt h
 
-pub four_digits : (n : ℕ) → 1000 ≤ n → n < 10000 → 4 ≡ length (decimal n)
-four_digits n lo hi = next_digit 3 n (omega arith) (omega arith) (three_digits (n / 10) (omega arith) (omega arith))
+pub one_digit : (n : ℕ) → n < 10 → decimal n ≡ (48 + n) ∷ []
+one_digit n h = decimal_digit n h
 
-pub five_digits : (n : ℕ) → 10000 ≤ n → n < 100000 → 5 ≡ length (decimal n)
-five_digits n lo hi = next_digit 4 n (omega arith) (omega arith) (four_digits (n / 10) (omega arith) (omega arith))
+pub two_digits : (n : ℕ) → 10 ≤ n → n < 100 → decimal n ≡ pair_text n
+two_digits n lo hi = rw (decimal_step n lo (omega arith), decimal_digit (n / 10) (omega arith)) refl
+
+pub more_digits : (n : ℕ) → 100 ≤ n → n < 2 ^ 64 → decimal n ≡ decimal (n / 100) ++ pair_text (n % 100)
+more_digits n lo hi =
+    let a : n / 10 / 10 ≡ n / 100 = omega arith in
+    let b : n / 10 % 10 ≡ n % 100 / 10 = omega arith in
+    let c : n % 10 ≡ n % 100 % 10 = omega arith in
+    rw (decimal_step n (omega arith) hi, decimal_step (n / 10) (omega arith) (omega arith), append_assoc, a, b, ← c) refl
 
 seven_bits : (bs : List ℕ) → AllPass is_seven_bit bs → IsAscii bs
 seven_bits [] h = IsAscii-nil

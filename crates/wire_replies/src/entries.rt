@@ -13,31 +13,40 @@ use airfield_findings::{Finding, Rule, SurfaceKey};
 use airfields::RunwayName;
 use grid_exact::NoMemory;
 
-// A comma, the word of a rule and a space, padded to eight bytes, and how long they are.
+// A comma, the word of each rule and a space, in the order of the rules, padded to eight bytes.
+static WORDS: [[u8; 8]; 19] = [
+    *b",17a1 \0\0",
+    *b",17a2 \0\0",
+    *b",19a \0\0\0",
+    *b",19b \0\0\0",
+    *b",19c \0\0\0",
+    *b",19d \0\0\0",
+    *b",19e \0\0\0",
+    *b",23p \0\0\0",
+    *b",23a \0\0\0",
+    *b",23t \0\0\0",
+    *b",9a \0\0\0\0",
+    *b",9b1 \0\0\0",
+    *b",9b2 \0\0\0",
+    *b",9b3 \0\0\0",
+    *b",9d \0\0\0\0",
+    *b",9c-a \0\0",
+    *b",9c-b1 \0",
+    *b",9c-b2 \0",
+    *b",9c-b3 \0",
+];
+
+// How long each of them is.
+static LENGTHS: [u8; 19] = [6, 6, 5, 5, 5, 5, 5, 5, 5, 5, 4, 5, 5, 5, 4, 6, 7, 7, 7];
+
+// A comma, the word of a rule and a space, padded to eight bytes, and how long they are. They are read from tables, since a branch for each
+// rule is often guessed wrong.
+#[inline(always)]
 fn rule_head(rule: Rule) -> ([u8; 8], usize)
     ensures { IsPiece result.0 result.1 (codes "," ++ spec.rule_word rule ++ codes " ") }
 {
-    match rule {
-        Rule::H499 => (*b",17a1 \0\0", 6),
-        Rule::Near => (*b",17a2 \0\0", 6),
-        Rule::Horizontal => (*b",19a \0\0\0", 5),
-        Rule::Conical => (*b",19b \0\0\0", 5),
-        Rule::Primary => (*b",19c \0\0\0", 5),
-        Rule::Approach => (*b",19d \0\0\0", 5),
-        Rule::Transition => (*b",19e \0\0\0", 5),
-        Rule::PadPrimary => (*b",23p \0\0\0", 5),
-        Rule::PadApproach => (*b",23a \0\0\0", 5),
-        Rule::PadTransition => (*b",23t \0\0\0", 5),
-        Rule::NoticeA => (*b",9a \0\0\0\0", 4),
-        Rule::NoticeB1 => (*b",9b1 \0\0\0", 5),
-        Rule::NoticeB2 => (*b",9b2 \0\0\0", 5),
-        Rule::NoticeB3 => (*b",9b3 \0\0\0", 5),
-        Rule::NoticeD => (*b",9d \0\0\0\0", 4),
-        Rule::WayA => (*b",9c-a \0\0", 6),
-        Rule::WayB1 => (*b",9c-b1 \0", 7),
-        Rule::WayB2 => (*b",9c-b2 \0", 7),
-        Rule::WayB3 => (*b",9c-b3 \0", 7),
-    }
+    let at = rule as usize;
+    (WORDS[at], usize::from(LENGTHS[at]))
 }
 
 // Puts the airfield of an entry.

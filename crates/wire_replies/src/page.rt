@@ -1,15 +1,15 @@
 //! A page on which the entries of a list are gathered, so that a text grows once for a page and not once for each part of an entry.
 
-ghost use Rattle.std.specs.Prelude.{◌≡◌, ◌+◌, ◌<◌, ◌≤◌, ◌++◌, true, [], ◌∷◌, length, take, OnOk, OnErr, string_bytes};
+ghost use Rattle.std.specs.Prelude.{◌≡◌, ◌+◌, ◌/◌, ◌%◌, ◌<◌, ◌≤◌, ◌++◌, true, [], ◌∷◌, length, take, drop, OnOk, OnErr, string_bytes};
 ghost use Rattle.std.specs.Fmt.{decimal};
 ghost use Rattle.std.specs.List.{list_all};
 ghost use Rattle.grid_exact.specs.Texts.{Extends};
-ghost use Rattle.wire_replies.specs.Pages.{is_seven_bit};
+ghost use Rattle.wire_replies.specs.Pages.{is_seven_bit, pair_text};
 ghost use Rattle.wire_replies.specs.declared.page.TheConstants.{ROOM, SIZE};
 
 use airfields::{FieldId, RunwayName};
 use grid_exact::NoMemory;
-use itoa::{Buffer, write_digits};
+use itoa::Buffer;
 use std::marker::Model;
 use wire_values::append_text;
 
@@ -19,7 +19,8 @@ pub(crate) const SIZE: usize = 1024;
 // How many bytes of it the parts of one entry may take.
 pub(crate) const ROOM: usize = 128;
 
-// Some bytes of text, at the front of their room.
+// Some bytes of text, at the front of their room. What puts a part reads how many there are once, before it writes: as the part could be
+// written over their number for all that a compiler knows, they would be read again after it.
 #[derive(Drop)]
 pub(crate) struct Page {
     bytes: [u8; SIZE],
@@ -38,20 +39,29 @@ impl Model for Page {
     ghost invariant = { λ p. (p.len ≤ SIZE) × IsUtf8 (take p.len p.bytes) };
 }
 
-// How many digits a number of at most five has.
+// The two digits of each number below 100, one number behind the other.
+static PAIRS: [u8; 200] =
+    *b"00010203040506070809101112131415161718192021222324252627282930313233343536373839404142434445464748495051525354555657585960616263646566676869707172737475767778798081828384858687888990919293949596979899";
+
+// The tens and the ones of a number of at most two digits.
 #[inline(always)]
-fn digits(number: u64) -> usize
-    requires { number < 100000 }
-    ensures exact { result ≡ length (decimal number) }
-    ensures few { result ≤ 5 }
+fn pair_digits(number: u64) -> (u8, u8)
+    requires { number < 100 }
+    ensures tens { result.0 ≡ 48 + number / 10 }
+    ensures ones { result.1 ≡ 48 + number % 10 }
 {
-    if number < 100 {
-        return if number < 10 { 1 } else { 2 };
-    }
-    if number < 1_000 {
-        return 3;
-    }
-    if number < 10_000 { 4 } else { 5 }
+    let at = number as usize * 2;
+    (PAIRS[at], PAIRS[at + 1])
+}
+
+// Four bytes of a text from a place on. They are held on their own, since a copy from one slice into another asks whether the two
+// overlap.
+#[inline(always)]
+fn four_bytes(text: &[u8], from: usize) -> [u8; 4]
+    requires { from + 4 ≤ length text.now }
+    ensures { result ≡ take 4 (drop from text.now) }
+{
+    [text[from], text[from + 1], text[from + 2], text[from + 3]]
 }
 
 impl Page {
@@ -84,8 +94,9 @@ impl Page {
         ensures put { self.new ≡ self.old ++ byte ∷ [] }
         ensures few { length self.new ≤ length self.old + 1 }
     {
-        self.bytes[self.len] = byte;
-        self.len += 1;
+        let at = self.len;
+        self.bytes[at] = byte;
+        self.len = at + 1;
     }
 
     // Puts a word of `len` bytes, which is copied as one number of eight, whatever its length is.
@@ -97,8 +108,42 @@ impl Page {
         ensures put { self.new ≡ self.old ++ take len word }
         ensures few { length self.new ≤ length self.old + 8 }
     {
-        self.bytes[self.len..self.len + 8].copy_from_slice(&word);
-        self.len += len;
+        let at = self.len;
+        self.bytes[at..at + 8].copy_from_slice(&word);
+        self.len = at + len;
+    }
+
+    // Puts a text of four to eight bytes: its first four, and its last four, which may be some of the first.
+    #[inline(always)]
+    fn put_two_parts(&mut self, part: &str)
+        requires room { length self.old + 8 ≤ SIZE }
+        requires least { 4 ≤ length part.now }
+        requires most { length part.now ≤ 8 }
+        ensures put { self.new ≡ self.old ++ part.now }
+        ensures few { length self.new ≤ length self.old + 8 }
+    {
+        let at = self.len;
+        let end = at + part.len();
+        let first = four_bytes(part.as_bytes(), 0);
+        let last = four_bytes(part.as_bytes(), part.len() - 4);
+        self.bytes[at..at + 4].copy_from_slice(&first);
+        self.bytes[end - 4..end].copy_from_slice(&last);
+        self.len = end;
+    }
+
+    // Puts a name. Most have at least four bytes, which are copied as two numbers.
+    #[inline(always)]
+    fn put_name(&mut self, name: &str)
+        requires room { length self.old + 8 ≤ SIZE }
+        requires most { length name.now ≤ 8 }
+        ensures put { self.new ≡ self.old ++ name.now }
+        ensures few { length self.new ≤ length self.old + 8 }
+    {
+        if name.len() < 4 {
+            self.put(name);
+        } else {
+            self.put_two_parts(name);
+        }
     }
 
     // Puts the name of an airfield.
@@ -108,7 +153,7 @@ impl Page {
         ensures put { self.new ≡ self.old ++ name.now }
         ensures few { length self.new ≤ length self.old + 8 }
     {
-        self.put(unsafe { str::from_utf8_unchecked(name.as_bytes()) });
+        self.put_name(unsafe { str::from_utf8_unchecked(name.as_bytes()) });
     }
 
     // Puts the name of a runway.
@@ -118,20 +163,63 @@ impl Page {
         ensures put { self.new ≡ self.old ++ name.now }
         ensures few { length self.new ≤ length self.old + 8 }
     {
-        self.put(unsafe { str::from_utf8_unchecked(name.as_bytes()) });
+        self.put_name(unsafe { str::from_utf8_unchecked(name.as_bytes()) });
     }
 
-    // Puts a number of at most five digits, which most are.
+    // Puts the tens and the ones of a number of at most two digits.
+    #[inline(always)]
+    fn put_pair(&mut self, number: u64)
+        requires room { length self.old + 2 ≤ SIZE }
+        requires short { number < 100 }
+        ensures put { self.new ≡ self.old ++ pair_text number }
+        ensures few { length self.new ≤ length self.old + 2 }
+    {
+        let (tens, ones) = pair_digits(number);
+        self.put_byte(tens);
+        self.put_byte(ones);
+    }
+
+    // Puts a number of at most two digits.
+    #[inline(always)]
+    fn put_first(&mut self, number: u64)
+        requires room { length self.old + 2 ≤ SIZE }
+        requires short { number < 100 }
+        ensures put { self.new ≡ self.old ++ decimal number }
+        ensures few { length self.new ≤ length self.old + 2 }
+    {
+        if number < 10 {
+            self.put_byte(b'0' + number as u8);
+        } else {
+            self.put_pair(number);
+        }
+    }
+
+    // Puts a number of three or four digits.
+    #[inline(always)]
+    fn put_hundreds(&mut self, number: u64)
+        requires room { length self.old + 4 ≤ SIZE }
+        requires least { 100 ≤ number }
+        requires short { number < 10000 }
+        ensures put { self.new ≡ self.old ++ decimal number }
+        ensures few { length self.new ≤ length self.old + 4 }
+    {
+        self.put_first(number / 100);
+        self.put_pair(number % 100);
+    }
+
+    // Puts a number of at most four digits, which most are.
     #[inline(always)]
     fn put_short(&mut self, number: u64)
-        requires room { length self.old + 20 ≤ SIZE }
-        requires short { number < 100000 }
+        requires room { length self.old + 4 ≤ SIZE }
+        requires short { number < 10000 }
         ensures put { self.new ≡ self.old ++ decimal number }
-        ensures few { length self.new ≤ length self.old + 20 }
+        ensures few { length self.new ≤ length self.old + 4 }
     {
-        let end = self.len + digits(number);
-        write_digits(number, &mut self.bytes, end);
-        self.len = end;
+        if number < 100 {
+            self.put_first(number);
+        } else {
+            self.put_hundreds(number);
+        }
     }
 
     // Puts a number of any length.
@@ -152,7 +240,7 @@ impl Page {
         ensures put { self.new ≡ self.old ++ decimal number }
         ensures few { length self.new ≤ length self.old + 20 }
     {
-        if number < 100_000 {
+        if number < 10_000 {
             self.put_short(number);
         } else {
             self.put_long(number);
