@@ -13,9 +13,9 @@ use Rattle.surface_tree.specs.declared.square.TheConstants.{PLANE_LIMIT, TOP_LEV
 use Rattle.surface_tree.specs.Levels.{side_of}
 use Rattle.surface_tree.specs.Squares.{in_cell, in_reach}
 
--- the box of an entry
+-- the box of an entry, which keeps the opposites of the high ends
 abbrev pub box_of : Bounds → Area
-box_of b = record { x0 = b.x0; y0 = b.y0; x1 = b.x1; y1 = b.y1 }
+box_of b = record { x0 = b.x0; y0 = b.y0; x1 = neg_ℤ b.opposite_x1; y1 = neg_ℤ b.opposite_y1 }
 
 -- the item of an entry
 abbrev pub item_of : {T : Type 0} → Entry T → T
