@@ -36,8 +36,9 @@ fn put_runway<C: Collector>(
     ensures taken { OnOk result ((list : List AFinding) → C.taken out.old list → C.taken out.new (list ++ of_runway field at.now top cap.now strip.now)) }
     ensures fails { OnErr result C.fails }
 {
-    let name = strip.runway().name;
     let excesses = strip.excesses(at, top, cap);
+    // read last, since most points are clear of the runway and its name is then not asked for
+    let name = strip.runway().name;
     put_on_runway(out, Rule::Primary, field, name, 0, excesses.primary)?;
     put_on_runway(out, Rule::Approach, field, name, 1, excesses.approach1)?;
     put_on_runway(out, Rule::Approach, field, name, 2, excesses.approach2)?;
