@@ -5,6 +5,7 @@ use Rattle.airfields.specs.Airfields.{IsHeldAirport}
 use Rattle.horizontal_hull.specs.Arcs.{Dome, dome_of}
 use Rattle.airfields.specs.declared.runway.Runway.{Runway}
 use Rattle.airfields.specs.declared.airfield.Airport.{Airport}
+use Rattle.airfields.specs.declared.category.Category.{Category}
 use Rattle.runway_notice.specs.LoneRunways.{IsLoneOf}
 use Rattle.airfield_findings.specs.Reaches.{IsAirportReach}
 use Rattle.airfield_findings.specs.declared.datum.Datum.{Datum}
@@ -17,10 +18,11 @@ pub record IsDatumOf (a : Airport) (d : Datum) : Type 0 where
 
 -- the airport keeps its limits, what is kept beside it is its own, the surfaces are those of its runways, the boxes are how far its parts reach, and a runway that is kept apart
 -- is the only one
-pub record IsPreparedAirport (a : Airport) (datum : Datum) (id : List ℕ) (hull : Dome) (strips : List Runway) (lone : Option Runway) (near notice surfaces : Option Area) : Type 0 where
+pub record IsPreparedAirport (a : Airport) (datum : Datum) (id : List ℕ) (category : Category) (hull : Dome) (strips : List Runway) (lone : Option Runway) (near notice surfaces : Option Area) : Type 0 where
   pub held : IsHeldAirport a
   pub datum_is : IsDatumOf a datum
   pub id_is : id ≡ a.id
+  pub category_is : category ≡ a.category
   pub hull_is : hull ≡ dome_of a
   pub strips_are : strips ≡ a.runways
   pub reach : IsAirportReach a near notice surfaces

@@ -16,7 +16,7 @@ ghost use Rattle.airfield_findings.specs.Reaches.{IsInPlace};
 use crate::bounds::Bounds;
 use crate::datum::Datum;
 use crate::reach::{place, surfaces_area};
-use airfields::{Airport, FieldId, Runway};
+use airfields::{Airport, Category, FieldId, Runway};
 use grid_exact::{Area, NoMemory, Point};
 use height_rules::{Structure, excess_near_limited, near_area};
 use horizontal_hull::Hull;
@@ -39,10 +39,11 @@ pub struct PreparedAirport {
     datum: Datum,
     /// Its name, which each entry has.
     id: FieldId,
-    /// The runway that notice is measured from, ready, where the airport has no other.
-    lone: Option<LoneRunway>,
+    category: Category,
     hull: Hull,
     strips: Vec<Strip>,
+    /// The runway that notice is measured from, ready, where the airport has no other.
+    lone: Option<LoneRunway>,
     airport: Airport,
 }
 
@@ -56,7 +57,7 @@ impl Model for PreparedAirport {
 
     ghost view = { λ p. p.airport };
 
-    ghost invariant = { λ p. IsPreparedAirport p.airport p.datum p.id p.hull p.strips.items p.lone (Some (box_of p.near)) (Some (box_of p.notice)) (Some (box_of p.surfaces)) };
+    ghost invariant = { λ p. IsPreparedAirport p.airport p.datum p.id p.category p.hull p.strips.items p.lone (Some (box_of p.near)) (Some (box_of p.notice)) (Some (box_of p.surfaces)) };
 }
 
 /// The surfaces of runways, each prepared.
@@ -85,9 +86,10 @@ impl PreparedAirport {
         let lone = LoneRunway::of(airport);
         let datum = Datum::of(&airport.arp, airport.elevation);
         let id = airport.id;
+        let category = airport.category;
         let airport = Airport {
             id,
-            category: airport.category,
+            category,
             arp: airport.arp,
             elevation: airport.elevation,
             runways: airport.runways.copy(alloc)?,
@@ -98,9 +100,10 @@ impl PreparedAirport {
             notice,
             datum,
             id,
-            lone,
+            category,
             hull,
             strips,
+            lone,
             airport,
         })
     }
@@ -119,6 +122,14 @@ impl PreparedAirport {
         ensures { result ≡ self.now.id }
     {
         self.id
+    }
+
+    /// Its category.
+    #[inline(always)]
+    pub(crate) fn category(&self) -> Category
+        ensures { result ≡ self.now.category }
+    {
+        self.category
     }
 
     /// Its horizontal and conical surfaces.

@@ -101,11 +101,10 @@ fn put_runways<C: Collector>(
     ensures taken { OnOk result ((list : List AFinding) → C.taken out.old list → C.taken out.new (list ++ of_runways at.now top prepared.now)) }
     ensures fails { OnErr result C.fails }
 {
-    let airport = prepared.airport();
-    if !airport.category.civil_surfaces() {
+    if !prepared.category().civil_surfaces() {
         return Ok(());
     }
-    put_strips(out, airport.id, at, top, cap, prepared.strips())
+    put_strips(out, prepared.id(), at, top, cap, prepared.strips())
 }
 
 /// Hands over the entries of the surfaces of an airport: horizontal, conical, then those of its runways in order of name. How the
@@ -139,7 +138,7 @@ fn put_surfaces_over<C: Collector>(
     ensures taken { OnOk result ((list : List AFinding) → C.taken out.old list → C.taken out.new (list ++ of_surfaces at.now top prepared.now)) }
     ensures fails { OnErr result C.fails }
 {
-    let field = prepared.airport().id;
+    let field = prepared.id();
     let hull = prepared.hull();
     let standing = hull.standing(at);
     let horizontal = hull.excess_horizontal_at(&standing, top);

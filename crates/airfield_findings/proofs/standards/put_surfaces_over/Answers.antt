@@ -1,5 +1,4 @@
-use Rattle.std.proofs.Common.{◌≡◌, ap, ◌∙◌, FitsSigned, w64, to_z-of_z}
-use Rattle.airfields.specs.declared.airfield.Airport.{Airport}
+use Rattle.std.proofs.Common.{◌≡◌, ℕ, List, ap, ◌∙◌, FitsSigned, w64, to_z-of_z}
 use Rattle.horizontal_hull.specs.Arcs.{Dome, dome_of}
 use Rattle.horizontal_hull.specs.Within.{horizontal_excess, conical_excess}
 use Rattle.airfield_findings.specs.Entries.{entries, field_key, of_runways}
@@ -14,9 +13,9 @@ returns-clause-taken g c =
     let a = c.args.prepared.now in
     let at = c.args.at.now in
     let top = c.args.top in
-    let here = field_key c.airport.result.now.id 0 in
+    let here = field_key c.id-field.result 0 in
     let key = field_key a.id 0 in
-    let same = ap (λ (b : Airport). field_key b.id 0) c.airport.ensures.airport in
+    let same = ap (λ (b : List ℕ). field_key b 0) c.id-field.ensures in
     let o0 = T c.args.out.now in
     let o1 = T c.put_on_field.new.out in
     let o2 = T c.put_on_field-2.new.out in

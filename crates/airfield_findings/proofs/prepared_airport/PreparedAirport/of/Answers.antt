@@ -27,12 +27,13 @@ invariant_of-result c =
     let held = c.requires.held in
     let fe : FitsSigned w64 a.elevation = omega (arith, ints, held.elevation.least, held.elevation.most) in
     let e : to_z w64 (of_z w64 a.elevation) ≡ a.elevation = to_z-of_z fe in
-    subst (λ (b : Airport). IsPreparedAirport b c.of-datum.result a.id c.in_ok-hull.hull c.in_ok-strips.strips.items c.of-lone.result (Some (box_of c.of-near.result)) (Some (box_of c.of-notice.result)) (Some (box_of c.of-surfaces.result)))
+    subst (λ (b : Airport). IsPreparedAirport b c.of-datum.result a.id a.category c.in_ok-hull.hull c.in_ok-strips.strips.items c.of-lone.result (Some (box_of c.of-near.result)) (Some (box_of c.of-notice.result)) (Some (box_of c.of-surfaces.result)))
     (same a (to_z w64 (of_z w64 a.elevation)) c.in_ok-copy.field-0 e c.in_ok-copy.ensures.copied)
     (record {
       held = held;
       datum_is = record { x_is = c.of-datum.ensures.x; y_is = c.of-datum.ensures.y; elevation_is = c.of-datum.ensures.elevation ∙ e };
       id_is = refl;
+      category_is = refl;
       hull_is = c.in_ok-hull.ensures.dome;
       strips_are = c.in_ok-strips.ensures.strips ∙ c.as_slice.ensures.value;
       lone_is = c.of-lone.ensures.lone;
