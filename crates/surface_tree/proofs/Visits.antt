@@ -118,7 +118,3 @@ pub in_south_east : (k : ℕ) (w s : ℤ) (p : Point) → 0 < k → IsIn k w s p
 in_south_east k w s p l i x y =
     let e = side-pred k l in
     record { not_west = grind (arith, ints, x); not_east = omega (arith, ints, i, e); not_south = i.not_south; not_north = grind (arith, ints, y) }
-
-pub in_south_west : (k : ℕ) (w s : ℤ) (p : Point) → 0 < k → IsIn k w s p → int_le (w +ℤ pos (side_of (k - 1))) p.x ≡ false → int_le (s +ℤ pos (side_of (k - 1))) p.y ≡ false → IsIn (k - 1) w s p
-in_south_west k w s p l i x y =
-    record { not_west = i.not_west; not_east = grind (arith, ints, x); not_south = i.not_south; not_north = grind (arith, ints, y) }
