@@ -1,6 +1,5 @@
 -- Boxes whose coordinates are kept within the plane of a tree.
 use Rattle.std.proofs.Common.{◌≡◌, ◌↔◌, ◌≤ℤ◌, ◌-ℤ◌, ℤ, pos, neg_ℤ, arith}
-use Rattle.std.specs.Prelude.{int_le}
 use Rattle.std.specs.Int.{int_max, int_min}
 use Rattle.std.proofs.lemmas.Int.{ints, clamps}
 use Rattle.grid_exact.specs.Area.{Has}
@@ -37,9 +36,3 @@ same_points a b x i = (has_kept a b x i, kept_has a b x i)
 -- a box that begins at the end of the plane has none
 pub no_points : (b : Area) (x : Point) → PLANE_LIMIT ≤ℤ b.x0 → ¬ Has b x
 no_points b x l h = absurd (omega (arith, ints, l, h.west, x.on_grid))
-
--- how far apart two numbers are tells which is at most the other
-pub apart_order : (a b : ℤ) → int_le (pos 0) (b -ℤ a) ≡ int_le a b
-apart_order a b = grind (arith, ints)
-
-pub ruleset apart = (apart_order)

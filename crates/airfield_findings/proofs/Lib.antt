@@ -6,3 +6,4 @@ pub mod ReachFacts
 pub mod Counts
 pub mod PlaceFacts
 pub mod BoundsFacts
+pub mod Glances

@@ -133,6 +133,12 @@ impl Findings {
         ensures { IfOk result (λ f. f ≡ self ++ rest) }
     {
         let mut items = self.items;
+        if rest.items.is_empty() {
+            return Ok(Findings {
+                items,
+                spare: rest.items,
+            });
+        }
         items.extend_from_slice(rest.items.as_slice())?;
         Ok(Findings {
             items,

@@ -14,6 +14,7 @@ mod prepared_airport;
 mod reach;
 mod slopes;
 mod standards;
+mod strips;
 mod surfaces;
 mod verdict;
 

@@ -1,29 +1,29 @@
 //! Airports with their surfaces, prepared for many structures.
 
-ghost use Rattle.std.specs.Prelude.{◌≡◌, ℤ, [], List, IfOk, take, false};
-ghost use Rattle.std.specs.List.{All};
+ghost use Rattle.std.specs.Prelude.{◌≡◌, ℤ, [], List, IfOk, false, true};
 ghost use Rattle.airfields.specs.Airfields.{IsHeldAirport};
-ghost use Rattle.airfields.specs.Runways.{IsProper};
 ghost use Rattle.grid_exact.specs.Level.{IsLevel};
 ghost use Rattle.height_rules.specs.Heights.{notice_top};
 ghost use Rattle.height_rules.specs.NearAirport.{near_excess};
 ghost use Rattle.horizontal_hull.specs.Arcs.{dome_of};
 ghost use Rattle.runway_notice.specs.Notices.{notice_slope};
 ghost use Rattle.airfields.specs.declared.airfield.Airfield.TheVariants.{Airport as AnAirport};
-ghost use Rattle.airfield_findings.specs.Entries.{of_surfaces};
+ghost use Rattle.airfield_findings.specs.Entries.{of_airfield, of_surfaces, slope_entries};
 ghost use Rattle.airfield_findings.specs.Reaches.{IsInPlace};
 
-use crate::bounds::Bounds;
+use crate::bounds::bounds_of;
 use crate::datum::Datum;
 use crate::reach::{place, surfaces_area};
-use airfields::{Airport, Category, FieldId, Runway};
+use crate::strips::Strips;
+use airfields::{Airport, Category, FieldId};
 use grid_exact::{Area, NoMemory, Point};
-use height_rules::{Structure, excess_near_limited, near_area};
+use height_rules::{Structure, excess_near_limited, is_above_lowest, near_area};
 use horizontal_hull::Hull;
 use imaginary_surfaces::Strip;
 use runway_notice::{LoneRunway, Slope, excess_notice, notice_area};
 use std::alloc::Global;
 use std::marker::Model;
+use surface_tree::Bounds;
 
 /// An airport with its surfaces; seen as the airport.
 #[derive(Drop)]
@@ -41,35 +41,24 @@ pub struct PreparedAirport {
     id: FieldId,
     category: Category,
     hull: Hull,
-    strips: Vec<Strip>,
     /// The runway that notice is measured from, ready, where the airport has no other.
     lone: Option<LoneRunway>,
+    strips: Strips,
     airport: Airport,
 }
 
 impl Model for PreparedAirport {
     ghost use Rattle.airfields.specs.declared.airfield.Airport.{Airport};
     ghost use Rattle.std.specs.Prelude.{Some};
-    ghost use Rattle.airfield_findings.specs.Bounds.{box_of};
+    ghost use Rattle.surface_tree.specs.Parts.{box_of};
     ghost use Rattle.airfield_findings.specs.PreparedAirports.{IsPreparedAirport};
+    ghost use Rattle.airfield_findings.specs.StripLists.{runways_of};
 
     ghost Value = { Airport };
 
     ghost view = { λ p. p.airport };
 
-    ghost invariant = { λ p. IsPreparedAirport p.airport p.datum p.id p.category p.hull p.strips.items p.lone (Some (box_of p.near)) (Some (box_of p.notice)) (Some (box_of p.surfaces)) };
-}
-
-/// The surfaces of runways, each prepared.
-fn strips_of(alloc: Global, runways: &[Runway]) -> Result<Vec<Strip>, NoMemory>
-    requires proper { All IsProper runways.now }
-    ensures strips { IfOk result (λ s. s.items ≡ runways.now) }
-{
-    let mut strips = Vec::with_capacity(alloc, runways.len())?;
-    for runway in runways {
-        strips.push(Strip::of(runway))?;
-    }
-    Ok(strips)
+    ghost invariant = { λ p. IsPreparedAirport p.airport p.datum p.id p.category p.hull (runways_of p.strips) p.lone (Some (box_of p.near)) (Some (box_of p.notice)) (Some (box_of p.surfaces)) };
 }
 
 impl PreparedAirport {
@@ -79,10 +68,10 @@ impl PreparedAirport {
         ensures airport { IfOk result (λ p. p ≡ airport.now) }
     {
         let hull = Hull::of(alloc, airport)?;
-        let strips = strips_of(alloc, airport.runways.as_slice())?;
-        let near = Bounds::of(&near_area(airport));
-        let surfaces = Bounds::of(&surfaces_area(&hull, strips.as_slice()));
-        let notice = Bounds::of(&notice_area(airport));
+        let strips = Strips::of(alloc, airport.runways.as_slice())?;
+        let near = bounds_of(&near_area(airport));
+        let surfaces = bounds_of(&surfaces_area(&hull, strips.as_slice()));
+        let notice = bounds_of(&notice_area(airport));
         let lone = LoneRunway::of(airport);
         let datum = Datum::of(&airport.arp, airport.elevation);
         let id = airport.id;
@@ -102,8 +91,8 @@ impl PreparedAirport {
             id,
             category,
             hull,
-            strips,
             lone,
+            strips,
             airport,
         })
     }
@@ -190,15 +179,29 @@ impl PreparedAirport {
         self.surfaces.has(at)
     }
 
+    /// Whether its boxes and its elevation tell that the airport gives no findings of the structure. It takes no branch.
+    #[inline(always)]
+    pub(crate) fn is_clear_of(&self, structure: &Structure) -> bool
+        ensures standards { result ≡ true → of_airfield structure.now (AnAirport self.now) ≡ [] }
+        ensures slopes { result ≡ true → slope_entries structure.now (AnAirport self.now) ≡ [] }
+    {
+        // their contracts tell that both tops are levels
+        let _standards = structure.standards_top();
+        let _notice = structure.notice_top();
+        let at = structure.at();
+        let is_near = self.near.has(at) & is_above_lowest(self.datum.elevation(), structure);
+        !(is_near | self.notice.has(at) | self.surfaces.has(at))
+    }
+
     /// The area outside of which the airport gives no findings.
     pub(crate) fn area(&self) -> Area
         ensures { IsInPlace result (AnAirport self.now) }
     {
         place(
             &self.airport.arp,
-            &self.near.reach(),
-            &self.notice.reach(),
-            &self.surfaces.reach(),
+            &Some(self.near.area()),
+            &Some(self.notice.area()),
+            &Some(self.surfaces.area()),
         )
     }
 }

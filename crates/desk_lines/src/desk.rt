@@ -5,13 +5,13 @@ ghost use Rattle.grid_exact.specs.Texts.{Extends};
 ghost use Rattle.desk_rules.specs.States.{empty};
 ghost use Rattle.desk_lines.specs.Desk.{Answers, Serving, Step, serving};
 
-use crate::fulfil::fulfil;
+use crate::fulfil::{ask, fulfil};
 use filing_desk::Clerk;
 use grid_exact::{LINE_LIMIT, NoMemory, Steps};
 use oe_findings::Findings;
 use oe_keeper::Keeper;
 use oe_session::Answering;
-use oe_wire::{ReadRefusal, RecordReader, Refusal, Reply, append_reply};
+use oe_wire::{ReadRefusal, RecordReader, Refusal, Reply, append_reply, question};
 use placed_keeper::NoKeeper;
 use std::alloc::Global;
 use std::marker::Model;
@@ -52,7 +52,10 @@ fn append_answer<K: Keeper, L: Ledger>(
     if line.is_empty() {
         return Ok(());
     }
-    match records.read(line) {
+    if let Some(query) = question(line) {
+        return ask(alloc, clerk, list, steps, &query, text);
+    }
+    match records.record(line) {
         Ok(request) => fulfil(alloc, clerk, list, steps, &request, text),
         Err(ReadRefusal::Malformed { field }) => {
             append_reply(text, &Reply::Refused(Refusal::Malformed { field }))

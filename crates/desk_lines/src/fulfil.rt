@@ -187,6 +187,28 @@ fn make_change<K: Keeper>(
     append_reply(text, &reply_of(answer))
 }
 
+/// Appends the reply to a question.
+pub(crate) fn ask<K: Keeper, L: Ledger>(
+    alloc: Global,
+    clerk: &Clerk<K>,
+    list: &mut Findings,
+    steps: &mut Steps<L>,
+    query: &Query,
+    text: &mut String,
+) -> Result<(), NoMemory>
+    ensures ok { OnOk result (Tells (serving clerk.now) (requests.Query query.now) (string_bytes text.old) (string_bytes text.new) (serving clerk.now)) }
+    ensures part { OnErr result (Extends (string_bytes text.old) (string_bytes text.new)) }
+{
+    match query {
+        Query::Screen(filing) => append_findings(alloc, clerk, list, steps, filing, text),
+        Query::Verdict(filing) => append_verdict(clerk, steps, filing, text),
+        Query::Case(number) => append_case(clerk, *number, text),
+        Query::Review => append_review(alloc, clerk, text),
+        Query::Report(kind) => append_report(alloc, clerk, *kind, text),
+        Query::Airfield(id) => append_named(clerk, id, text),
+    }
+}
+
 /// Does what a request asks for, and appends the reply.
 pub(crate) fn fulfil<K: Keeper, L: Ledger>(
     alloc: Global,
@@ -200,14 +222,7 @@ pub(crate) fn fulfil<K: Keeper, L: Ledger>(
     ensures part { OnErr result (Extends (string_bytes text.old) (string_bytes text.new)) }
 {
     match request {
-        Request::Query(Query::Screen(filing)) => append_findings(
-            alloc, clerk, list, steps, filing, text,
-        ),
-        Request::Query(Query::Verdict(filing)) => append_verdict(clerk, steps, filing, text),
-        Request::Query(Query::Case(number)) => append_case(clerk, *number, text),
-        Request::Query(Query::Review) => append_review(alloc, clerk, text),
-        Request::Query(Query::Report(kind)) => append_report(alloc, clerk, *kind, text),
-        Request::Query(Query::Airfield(id)) => append_named(clerk, id, text),
+        Request::Query(query) => ask(alloc, clerk, list, steps, query, text),
         Request::Change(change) => make_change(alloc, clerk, change, text),
     }
 }

@@ -27,33 +27,66 @@ pub(crate) struct Screening<C: Collector + Drop> {
 }
 
 impl<C: Collector + Drop> Screening<C> {
-    /// Before the first airfield: the rules that look at the structure alone. Both collectors have taken nothing.
-    ///
-    /// # Errors
-    ///
-    /// `NoMemory` where memory was refused.
-    pub(crate) fn begin(standards: C, notices: C, filing: &Filing) -> Result<Screening<C>, NoMemory>
-        requires standards { C.taken standards [] }
-        requires notices { C.taken notices [] }
-        ensures filing { IfOk result (λ s. s.structure ≡ filing.now) }
-        ensures due { IfOk result (λ s. s.is_due ≡ is_none (exemption_of filing.now)) }
-        ensures seen { IfOk result (λ s. HasSeen C.taken C.fails s.structure s.is_due s.standards s.notices s.refused []) }
-        ensures fails { IfErr result (λ _. C.fails) }
+    /// Before anything is asked. Both collectors have taken nothing.
+    #[inline(always)]
+    pub(crate) fn new(standards: C, notices: C, filing: &Filing) -> Screening<C>
+        ensures structure { result.structure ≡ filing.now }
+        ensures due { result.is_due ≡ is_none (exemption_of filing.now) }
+        ensures going { result.refused ≡ false }
+        ensures standards { result.standards ≡ standards }
+        ensures notices { result.notices ≡ notices }
     {
-        let mut standards = standards;
-        let mut notices = notices;
-        put_entry(&mut standards, Rule::H499, no_field(), excess_499(filing))?;
-        let is_due = exempt(filing).is_none();
-        if is_due {
-            put_entry(&mut notices, rule_a(filing), no_field(), excess_200(filing))?;
-        }
-        Ok(Screening {
+        Screening {
             structure: Structure::of(filing),
-            is_due,
+            is_due: exempt(filing).is_none(),
             standards,
             notices,
             refused: false,
-        })
+        }
+    }
+
+    /// Takes the entries of the rules that look at the structure alone.
+    #[inline(always)]
+    fn put_heights(&mut self) -> Result<(), NoMemory>
+        requires standards { C.taken self.old.standards [] }
+        requires notices { C.taken self.old.notices [] }
+        ensures same { self.new.structure ≡ self.old.structure }
+        ensures due { self.new.is_due ≡ self.old.is_due }
+        ensures going { self.new.refused ≡ self.old.refused }
+        ensures taken { OnOk result (Gathers C.taken self.old.structure self.old.is_due self.new.standards self.new.notices []) }
+        ensures fails { OnErr result C.fails }
+    {
+        let filing = self.structure.filing();
+        put_entry(
+            &mut self.standards,
+            Rule::H499,
+            no_field(),
+            excess_499(filing),
+        )?;
+        if self.is_due {
+            put_entry(
+                &mut self.notices,
+                rule_a(filing),
+                no_field(),
+                excess_200(filing),
+            )?;
+        }
+        Ok(())
+    }
+
+    /// Before the first airfield: takes what the structure alone tells. Both collectors have taken nothing.
+    #[inline(always)]
+    pub(crate) fn begin(&mut self)
+        requires going { self.old.refused ≡ false }
+        requires standards { C.taken self.old.standards [] }
+        requires notices { C.taken self.old.notices [] }
+        ensures same { self.new.structure ≡ self.old.structure }
+        ensures due { self.new.is_due ≡ self.old.is_due }
+        ensures seen { HasSeen C.taken C.fails self.old.structure self.old.is_due self.new.standards self.new.notices self.new.refused [] }
+    {
+        if self.put_heights().is_err() {
+            self.refused = true;
+        }
     }
 
     /// Takes the entries of one airfield more.
@@ -76,6 +109,7 @@ impl<C: Collector + Drop> Screening<C> {
     /// # Errors
     ///
     /// `NoMemory` where memory was refused.
+    #[inline(always)]
     pub(crate) fn finish(self, register: &Register) -> Result<C, NoMemory>
         requires due { self.is_due ≡ is_none (exemption_of self.structure) }
         requires seen { HasSeen C.taken C.fails self.structure self.is_due self.standards self.notices self.refused register.now }
@@ -99,6 +133,11 @@ impl<C: Collector + Drop> Visitor<Prepared> for Screening<C> {
     ghost use Rattle.oe_findings.specs.Screenings.{HasSeen};
 
     ghost seen = { λ start s items. (s.structure ≡ start.structure) × (s.is_due ≡ start.is_due) × HasSeen C.taken C.fails s.structure s.is_due s.standards s.notices s.refused (map airfield_of items) };
+
+    #[inline(always)]
+    fn passes(&self, item: &Prepared) -> bool {
+        item.is_clear_of(&self.structure)
+    }
 
     fn item(&mut self, item: &Prepared) {
         if self.refused {

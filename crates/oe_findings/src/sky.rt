@@ -113,7 +113,8 @@ impl Sky {
         ensures fails { IfErr result (λ _. C.fails) }
         ensures steps { steps.new ≤ steps.old + (TOP_LEVEL + 1) + length self.now }
     {
-        let mut screening = Screening::begin(standards, notices, filing)?;
+        let mut screening = Screening::new(standards, notices, filing);
+        screening.begin();
         self.surroundings.visit(&mut screening, steps);
         screening.finish(&self.register)
     }

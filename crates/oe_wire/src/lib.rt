@@ -12,6 +12,6 @@ pub use wire_replies::{
 };
 pub use wire_requests::{
     Act, Change, Impact, Party, Query, ReadRefusal, RecordReader, Request, Submission,
-    canonical_line, first_bad_field, one_reading, plain_of, read_record,
+    canonical_line, first_bad_field, one_reading, plain_of, question, read_record,
 };
 pub use wire_values::{Plain, ReportKind, Word};

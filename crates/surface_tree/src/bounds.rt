@@ -1,8 +1,8 @@
-//! An area as a square holds it.
+//! Areas in half the room.
 
-ghost use Rattle.std.specs.Prelude.{◌≡◌, ◌&&◌, int_le, ◌≤ℤ◌, neg_ℤ};
-ghost use Rattle.grid_exact.specs.Area.{has_point};
-ghost use Rattle.surface_tree.specs.Levels.{IsPlaced};
+ghost use Rattle.std.specs.Prelude.{◌≡◌, ◌↔◌, ◌&&◌, int_le, ◌≤ℤ◌, neg_ℤ, IsTrue};
+ghost use Rattle.grid_exact.specs.Area.{Has, has_point};
+ghost use Rattle.surface_tree.specs.Levels.{IsInPlane};
 ghost use Rattle.surface_tree.specs.declared.square.TheConstants.{PLANE_LIMIT};
 
 use grid_exact::{Area, Point};
@@ -13,11 +13,11 @@ use grid_exact::{Area, Point};
 /// Of the high ends the opposites are kept: so each of the four ends is the lower side of the same test, and they stand in the order
 /// of the tests. A processor then makes all four tests by one instruction.
 #[derive(Clone, Copy)]
-pub(crate) struct Bounds {
-    pub(crate) x0: i32,
-    pub(crate) opposite_x1: i32,
-    pub(crate) y0: i32,
-    pub(crate) opposite_y1: i32,
+pub struct Bounds {
+    x0: i32,
+    opposite_x1: i32,
+    y0: i32,
+    opposite_y1: i32,
 }
 
 /// A coordinate of the tree's plane.
@@ -65,9 +65,11 @@ fn is_between(low: i32, coordinate: i32, opposite_high: i32) -> bool
 impl Bounds {
     ghost use Rattle.surface_tree.specs.Parts.{box_of};
 
-    /// Those of an area.
-    pub(crate) fn of(area: &Area) -> Bounds
-        requires { IsPlaced area.now }
+    /// Those of an area, whose ends need not be in order; it then has no points.
+    ///
+    /// Its coordinates go from `-PLANE_LIMIT` to `PLANE_LIMIT`.
+    pub fn of(area: &Area) -> Bounds
+        requires { IsInPlane area.now }
         ensures { box_of result ≡ area.now }
     {
         Bounds {
@@ -78,9 +80,23 @@ impl Bounds {
         }
     }
 
-    /// Whether the area has the point.
-    pub(crate) fn has(&self, point: &Point) -> bool
-        ensures { result ≡ has_point (box_of self.now) point.now }
+    /// The area.
+    pub fn area(&self) -> Area
+        ensures { result ≡ box_of self.now }
+    {
+        Area {
+            x0: i64::from(self.x0),
+            y0: i64::from(self.y0),
+            x1: -i64::from(self.opposite_x1),
+            y1: -i64::from(self.opposite_y1),
+        }
+    }
+
+    /// Whether the area has the point. It takes no branch.
+    #[inline(always)]
+    pub fn has(&self, point: &Point) -> bool
+        ensures test { result ≡ has_point (box_of self.now) point.now }
+        ensures inside { IsTrue result ↔ Has (box_of self.now) point.now }
     {
         is_between(self.x0, narrow(point.x), self.opposite_x1)
             & is_between(self.y0, narrow(point.y), self.opposite_y1)

@@ -19,6 +19,7 @@ mod tree;
 mod visit;
 mod visitor;
 
+pub use bounds::Bounds;
 pub use laws::{close_is_near, larger_sizes_have_one_level, one_size_comes_in_order};
 pub use level::MIDDLE_LEVEL;
 pub use placed::Placed;

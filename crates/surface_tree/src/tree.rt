@@ -174,7 +174,8 @@ impl<T: Placed + Drop> Tree<T> {
         Ok(Tree { root, by_key })
     }
 
-    /// Gives the visitor each item whose area has the point, once, and no other. It takes no memory.
+    /// Has the visitor see each item whose area has the point, once, and no other. It is not shown those that it passes over, in which it has
+    /// nothing to see. It takes no memory.
     ///
     /// The items come in the order of their keys where squares of one size hold them all, as they do areas with an extent above
     /// 131,072 tenths of a foot. Otherwise those of larger squares come first.

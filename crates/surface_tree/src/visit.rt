@@ -7,7 +7,7 @@ ghost use Rattle.grid_exact.specs.declared.area.Area.{Area};
 ghost use Rattle.surface_tree.specs.declared.entry.Entry.{Entry};
 ghost use Rattle.surface_tree.specs.declared.visit.TheConstants.{BLOCK};
 ghost use Rattle.surface_tree.specs.Parts.{CellHolds, PartHolds, box_of, item_of};
-ghost use Rattle.surface_tree.specs.Visits.{HasPoint, SeesMore, hits, looks};
+ghost use Rattle.surface_tree.specs.Visits.{HasPoint, PassesOver, SeesMore, hits, looks};
 
 use crate::entry::Entry;
 use crate::part::{Cell, Part};
@@ -45,6 +45,27 @@ fn pick<T: Drop, L: Ledger>(
     count
 }
 
+/// Writes those of the places whose items the visitor is to be shown into `wanted`, and tells how many there are. It takes no branch, as `pick`.
+fn sift<T: Placed + Drop, W: Visitor<T>>(
+    entries: &[Entry<T>],
+    picks: &[u8],
+    visitor: &W,
+    wanted: &mut [u8; BLOCK],
+) -> usize
+    requires few { length picks.now ≤ BLOCK }
+    requires within { All (λ i. i < length entries.now) picks.now }
+    ensures few { result ≤ length picks.now }
+    ensures within { All (λ i. i < length entries.now) (take result wanted.new) }
+    ensures passed { (d : Entry T) → PassesOver W.seen visitor.now (map (λ i. item_of (slice_index_or entries.now i d)) (take result wanted.new)) (map (λ i. item_of (slice_index_or entries.now i d)) picks.now) }
+{
+    let mut count = 0;
+    for pick in picks {
+        wanted[count] = *pick;
+        count += usize::from(!visitor.passes(&entries[*pick as usize].item));
+    }
+    count
+}
+
 /// Gives the visitor the items at these places.
 fn hand_out<T: Placed + Drop, W: Visitor<T>>(entries: &[Entry<T>], picks: &[u8], visitor: &mut W)
     requires within { All (λ i. i < length entries.now) picks.now }
@@ -69,7 +90,9 @@ fn visit_block<T: Placed + Drop, L: Ledger, W: Visitor<T>>(
 {
     let mut picks = [0; BLOCK];
     let count = pick(entries, x, &mut picks, steps);
-    hand_out(entries, &picks[..count], visitor);
+    let mut wanted = [0; BLOCK];
+    let count = sift(entries, &picks[..count], visitor, &mut wanted);
+    hand_out(entries, &wanted[..count], visitor);
 }
 
 /// Gives the visitor those of the items whose areas have the point.

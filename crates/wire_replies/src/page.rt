@@ -14,7 +14,7 @@ use std::marker::Model;
 use wire_values::append_text;
 
 // How many bytes a page has.
-pub(crate) const SIZE: usize = 1024;
+pub(crate) const SIZE: usize = 512;
 
 // How many bytes of it the parts of one entry may take.
 pub(crate) const ROOM: usize = 128;

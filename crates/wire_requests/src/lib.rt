@@ -23,3 +23,4 @@ pub use laws::{canonical_line, first_bad_field, one_reading};
 pub use read::{RecordReader, read_record};
 pub use request::{Change, Query, ReadRefusal, Request};
 pub use wire_values::ReportKind;
+pub use written::question;

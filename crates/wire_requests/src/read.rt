@@ -8,7 +8,6 @@ use crate::change::change;
 use crate::form::{Form, named_form};
 use crate::queries::{airfield, case, report, review, screen, verdict};
 use crate::request::{ReadRefusal, Request};
-use crate::written::question;
 use csv::ByteRecord;
 use grid_exact::LINE_LIMIT;
 use record_fields::{Fields, find_fields};
@@ -68,18 +67,7 @@ impl RecordReader {
     /// # Errors
     ///
     /// `Malformed` where the line is the record of no request, and `NoMemory` where memory was refused.
-    pub fn read(&mut self, line: &[u8]) -> Result<Request, ReadRefusal>
-        ensures found { IfOk result (λ r. IsRecord line.now r) }
-        ensures malformed { IfErr result (λ e. IsRefusal line.now e) }
-    {
-        match question(line) {
-            Some(query) => Ok(Request::Query(query)),
-            None => self.record(line),
-        }
-    }
-
-    // The same for any line, by the list of its fields.
-    fn record(&mut self, line: &[u8]) -> Result<Request, ReadRefusal>
+    pub fn record(&mut self, line: &[u8]) -> Result<Request, ReadRefusal>
         ensures found { IfOk result (λ r. IsRecord line.now r) }
         ensures malformed { IfErr result (λ e. IsRefusal line.now e) }
     {

@@ -269,10 +269,11 @@ fn asks_for_all(word: &[u8]) -> Option<bool>
     }
 }
 
-/// The question about a structure whose canonical line this is, and `None` where it is not read here.
+/// The question about a structure that the line, without its end, asks, where it is written as a desk writes it. `None` for every other line,
+/// also where it asks one in another spelling: [`RecordReader::record`](crate::RecordReader::record) reads them all.
 #[inline(always)]
 #[tactic(auto, using(crate::proofs::WrittenFacts::screening, crate::proofs::WrittenFacts::verdict))]
-pub(crate) fn question(line: &[u8]) -> Option<Query>
+pub fn question(line: &[u8]) -> Option<Query>
     ensures { IfSome result (λ q. IsRecord line.now (requests.Query q)) }
 {
     let mut text = Text { rest: line };

@@ -1,7 +1,13 @@
 use Rattle.std.proofs.Common.{◌<◌, length}
 use Rattle.airfield_findings.proofs.EntryFacts.{where_ok}
+use Rattle.wire_requests.specs.declared.request.Request.TheVariants as requests
 use Rattle.desk_lines.proofs.StepFacts.{some_bytes, told, refused}
 use Rattle.desk_lines.proofs.desk.append_answer.Goals as goal
+
+pub returns-in-Some-clause-ok : goal.returns-in-Some-clause-ok
+returns-in-Some-clause-ok g c =
+    let some : 0 < length c.args.line.now = some_bytes c.is_empty.result c.args.line.now c.is_empty.ensures (cc (c.if-is_empty.false)) in
+    where_ok c.ask.result (λ tells. told _ _ (requests.Query c.in-Some.query) _ _ _ some c.in-Some.ensures tells) c.ask.ensures.ok
 
 pub returns-in-Ok-clause-ok : goal.returns-in-Ok-clause-ok
 returns-in-Ok-clause-ok g c =

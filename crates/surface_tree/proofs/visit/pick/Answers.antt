@@ -13,7 +13,7 @@ loop-i-preserved g c =
     let es = c.args.entries.now in
     let x = c.index-entries-i.result in
     let test = λ (e : Entry g.row.T.Denot). has_point (box_of e.bounds) c.args.x.now in
-    let b : test x ≡ c.has.result = sym (rw (← c.index-entries-i.is) at c.has.ensures) in
+    let b : test x ≡ c.has.result = sym (rw (← c.index-entries-i.is) at c.has.ensures.test) in
     let k : c.from-count.result ≡ cond c.has.result 1 0 =
     elim (cases_Bool c.has.result) [ inl y ↦ (let h = rw y at c.from-count.ensures in rw y h) | inr y ↦ (let h = rw y at c.from-count.ensures in rw y h) ] in
     let l : c.loop-i.i < length es = c.loop-i-test.true in

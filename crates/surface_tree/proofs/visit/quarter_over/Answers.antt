@@ -1,4 +1,4 @@
-use Rattle.std.proofs.Common.{◌≡◌, sym, ◌∙◌}
+use Rattle.std.proofs.Common.{sym, ◌∙◌}
 use Rattle.surface_tree.proofs.Visits.{in_north_east, in_north_west, in_south_east}
 use Rattle.surface_tree.proofs.visit.quarter_over.Goals as goal
 

@@ -12,10 +12,10 @@ returns c =
       placed = c.place.ensures.placed;
       level = c.place.ensures.level;
       standards = λ site levels n.
-          let o = rw (c.reach.ensures, c.reach-2.ensures, c.reach-3.ensures) at (c.place.ensures.outside site.at n) in
+          let o = rw (c.area.ensures, c.area-2.ensures, c.area-3.ensures) at (c.place.ensures.outside site.at n) in
           subst (λ (b : Airport). of_airfield site (AnAirport b) ≡ []) c.self.view_is
           (rw (r.near_none site o.0, r.surfaces_none site.at (standards_top site) levels.standards_level o.2) refl);
       slopes = λ site levels n.
-          let o = rw (c.reach.ensures, c.reach-2.ensures, c.reach-3.ensures) at (c.place.ensures.outside site.at n) in
+          let o = rw (c.area.ensures, c.area-2.ensures, c.area-3.ensures) at (c.place.ensures.outside site.at n) in
           subst (λ (b : Airport). slope_entries site (AnAirport b) ≡ []) c.self.view_is (rw (r.notice_none site.at (notice_top site) levels.notice_level o.1) refl);
     }

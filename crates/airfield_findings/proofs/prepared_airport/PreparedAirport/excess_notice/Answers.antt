@@ -6,7 +6,7 @@ use Rattle.grid_exact.proofs.Booleans.{not_from_false}
 use Rattle.airfields.specs.declared.airfield.Airport.{Airport}
 use Rattle.height_rules.specs.Heights.{notice_top}
 use Rattle.runway_notice.specs.Notices.{notice_slope}
-use Rattle.airfield_findings.specs.Bounds.{box_of}
+use Rattle.surface_tree.specs.Parts.{box_of}
 use Rattle.airfield_findings.proofs.prepared_airport.PreparedAirport.excess_notice.Goals as goal
 
 pub returns-then-not-has : goal.returns-then-not-has

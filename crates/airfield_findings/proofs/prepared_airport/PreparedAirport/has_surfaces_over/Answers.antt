@@ -2,7 +2,7 @@ use Rattle.std.proofs.Common.{◌≡◌, [], subst}
 use Rattle.grid_exact.specs.Area.{Has}
 use Rattle.grid_exact.proofs.Booleans.{not_from_false}
 use Rattle.airfields.specs.declared.airfield.Airport.{Airport}
-use Rattle.airfield_findings.specs.Bounds.{box_of}
+use Rattle.surface_tree.specs.Parts.{box_of}
 use Rattle.airfield_findings.specs.Entries.{of_surfaces}
 use Rattle.airfield_findings.proofs.prepared_airport.PreparedAirport.has_surfaces_over.Goals as goal
 

@@ -4,7 +4,8 @@ use Rattle.std.specs.Option.{MatchOption}
 use Rattle.grid_exact.specs.declared.area.Area.{Area}
 use Rattle.grid_exact.specs.declared.point.Point.{Point}
 use Rattle.height_rules.specs.NearAreas.{HasLimit, IsNearArea}
-use Rattle.airfield_findings.specs.Bounds.{box_of}
+use Rattle.surface_tree.specs.Parts.{box_of}
+use Rattle.airfield_findings.specs.StripLists.{runways_of}
 use Rattle.airfield_findings.specs.Reaches.{IsOver}
 use Rattle.airfields.specs.declared.runway.Runway.{Runway}
 use Rattle.airfields.specs.declared.airfield.Airport.{Airport}
@@ -27,7 +28,7 @@ invariant_of-result c =
     let held = c.requires.held in
     let fe : FitsSigned w64 a.elevation = omega (arith, ints, held.elevation.least, held.elevation.most) in
     let e : to_z w64 (of_z w64 a.elevation) ≡ a.elevation = to_z-of_z fe in
-    subst (λ (b : Airport). IsPreparedAirport b c.of-datum.result a.id a.category c.in_ok-hull.hull c.in_ok-strips.strips.items c.of-lone.result (Some (box_of c.of-near.result)) (Some (box_of c.of-notice.result)) (Some (box_of c.of-surfaces.result)))
+    subst (λ (b : Airport). IsPreparedAirport b c.of-datum.result a.id a.category c.in_ok-hull.hull (runways_of c.in_ok-strips.strips) c.of-lone.result (Some (box_of c.bounds_of-near.result)) (Some (box_of c.bounds_of-notice.result)) (Some (box_of c.bounds_of-surfaces.result)))
     (same a (to_z w64 (of_z w64 a.elevation)) c.in_ok-copy.field-0 e c.in_ok-copy.ensures.copied)
     (record {
       held = held;
@@ -38,10 +39,10 @@ invariant_of-result c =
       strips_are = c.in_ok-strips.ensures.strips ∙ c.as_slice.ensures.value;
       lone_is = c.of-lone.ensures.lone;
       reach = record {
-        near_limit = λ x h. limited a c.near_area.result c.near_area.ensures.exact x ((c.of-near.ensures x).0 h);
-        near_none = λ site n. c.near_area.ensures.skips site (λ h. n ((c.of-near.ensures site.at).1 h));
-        notice_none = λ x top level n. c.notice_area.ensures.skips x top (λ h. n ((c.of-notice.ensures x).1 h));
+        near_limit = λ x h. limited a c.near_area.result c.near_area.ensures.exact x ((c.bounds_of-near.ensures x).0 h);
+        near_none = λ site n. c.near_area.ensures.skips site (λ h. n ((c.bounds_of-near.ensures site.at).1 h));
+        notice_none = λ x top level n. c.notice_area.ensures.skips x top (λ h. n ((c.bounds_of-notice.ensures x).1 h));
         surfaces_none = λ x top level n.
-            c.surfaces_area.ensures a held c.in_ok-hull.ensures.dome (c.as_slice-2.ensures.value ∙ c.in_ok-strips.ensures.strips ∙ c.as_slice.ensures.value) x top level (λ h. n ((c.of-surfaces.ensures x).1 h));
+            c.surfaces_area.ensures a held c.in_ok-hull.ensures.dome (c.as_slice-2.ensures.value ∙ c.in_ok-strips.ensures.strips ∙ c.as_slice.ensures.value) x top level (λ h. n ((c.bounds_of-surfaces.ensures x).1 h));
       };
     })

@@ -8,4 +8,4 @@ use Rattle.oe_findings.proofs.sky.Sky.gathered.Goals as goal
 pub returns-clause-taken : goal.returns-clause-taken
 returns-clause-taken g c =
     subst (λ (xs : List Airfield). IfOk c.finish.result (λ k. g.C.Collector.taken k (findings_of xs c.args.filing.now))) c.self.view_is
-    (subst (λ (f : Site). IfOk c.finish.result (λ k. g.C.Collector.taken k (findings_of c.self.inside.register f))) (c.visit.ensures.filing ∙ c.in_ok-screening.ensures.filing) c.finish.ensures.taken)
+    (subst (λ (f : Site). IfOk c.finish.result (λ k. g.C.Collector.taken k (findings_of c.self.inside.register f))) (c.visit.ensures.filing ∙ c.begin.ensures.same ∙ c.new-screening.ensures.structure) c.finish.ensures.taken)
