@@ -5,7 +5,7 @@ use Rattle.std.proofs.lemmas.Int.{ints, clamps}
 use Rattle.grid_exact.specs.Area.{Has}
 use Rattle.grid_exact.specs.declared.area.Area.{Area}
 use Rattle.grid_exact.specs.declared.point.Point.{Point}
-use Rattle.surface_tree.specs.declared.square.TheConstants.{PLANE_LIMIT}
+use Rattle.outline_boxes.specs.declared.bounds.TheConstants.{PLANE_LIMIT}
 
 pub record IsKept (a b : Area) : Type 0 where
   pub west : b.x0 ≡ int_min (int_max a.x0 (neg_ℤ PLANE_LIMIT)) PLANE_LIMIT

@@ -6,4 +6,3 @@ pub mod ReachFacts
 pub mod Counts
 pub mod PlaceFacts
 pub mod BoundsFacts
-pub mod Glances

@@ -8,7 +8,7 @@ use Rattle.grid_exact.specs.declared.point.Point.{Point}
 use Rattle.grid_exact.proofs.AreaLemmas.{has_point-Has}
 use Rattle.outline_boxes.specs.Boxes.{Encloses}
 use Rattle.surface_tree.specs.Levels.{IsPlaced, cell_level, greater}
-use Rattle.surface_tree.specs.declared.square.TheConstants.{PLANE_LIMIT}
+use Rattle.outline_boxes.specs.declared.bounds.TheConstants.{PLANE_LIMIT}
 use Rattle.surface_tree.proofs.Even.{cell_middle}
 use Rattle.airfield_findings.specs.declared.reach.TheConstants.{LEAST_REACH}
 
@@ -34,13 +34,13 @@ placed p core a b c e i = record {
   north = omega (arith, ints, clamps, i.north);
 }
 
-wide : (p : Point) (core a b : Area) → IsAbout p core → Encloses a core → IsInPlane a b → pos 131072 <ℤ (b.x1 -ℤ b.x0)
+wide : (p : Point) (core a b : Area) → IsAbout p core → Encloses a core → IsInPlane a b → pos 262144 <ℤ (b.x1 -ℤ b.x0)
 wide p core a b c e i = omega (arith, ints, clamps, c.west, c.east, e.west, e.east, i.west, i.east, p.on_grid)
 
 greater_first : (a b : ℤ) → a ≤ℤ greater a b
 greater_first a b = grind (arith, ints)
 
-pub one_level : (p : Point) (core a b : Area) → IsAbout p core → Encloses a core → IsInPlane a b → cell_level b ≡ 6
+pub one_level : (p : Point) (core a b : Area) → IsAbout p core → Encloses a core → IsInPlane a b → cell_level b ≡ 7
 one_level p core a b c e i = cell_middle b (omega (arith, ints, wide p core a b c e i, greater_first (b.x1 -ℤ b.x0) (b.y1 -ℤ b.y0)))
 
 pub still_has : (a b : Area) (x : Point) → IsInPlane a b → Has a x → Has b x

@@ -4,12 +4,12 @@ ghost use Rattle.std.specs.Prelude.{◌≡◌, ◌↔◌, neg_ℤ};
 ghost use Rattle.std.specs.Int.{int_max, int_min};
 ghost use Rattle.grid_exact.specs.Area.{Has};
 ghost use Rattle.grid_exact.specs.declared.point.Point.{Point as APoint};
-ghost use Rattle.surface_tree.specs.Parts.{box_of};
-ghost use Rattle.surface_tree.specs.declared.square.TheConstants.{PLANE_LIMIT};
+ghost use Rattle.outline_boxes.specs.Bounds.{box_of};
+ghost use Rattle.outline_boxes.specs.declared.bounds.TheConstants.{PLANE_LIMIT};
 ghost use Rattle.airfield_findings.specs.Reaches.{IsOver};
 
 use grid_exact::Area;
-use surface_tree::{Bounds, PLANE_LIMIT};
+use outline_boxes::{Bounds, PLANE_LIMIT};
 
 /// The coordinate of the plane of a tree, which has all points of the grid, that is nearest to this one.
 fn nearest(coordinate: i64) -> i64

@@ -1,15 +1,13 @@
 //! Airfields with their surfaces, prepared for many structures.
 
-ghost use Rattle.std.specs.Prelude.{◌≡◌, [], true, IfOk};
+ghost use Rattle.std.specs.Prelude.{◌≡◌, IfOk};
 ghost use Rattle.airfields.specs.Airfields.{IsHeld};
-ghost use Rattle.airfield_findings.specs.Entries.{of_airfield, slope_entries};
 ghost use Rattle.airfield_findings.specs.Surfaces.{airfield_with};
 ghost use Rattle.airfield_findings.specs.Reaches.{IsInPlace};
 
 use crate::surfaces::Surfaces;
 use airfields::{Airfield, FieldId};
 use grid_exact::{Area, NoMemory};
-use height_rules::Structure;
 use std::alloc::Global;
 use surface_tree::Placed;
 
@@ -36,18 +34,6 @@ impl Prepared {
             area: surfaces.area(),
             surfaces,
         })
-    }
-
-    /// Whether the airfield is seen at a glance to give no findings of the structure.
-    #[inline(always)]
-    pub fn is_clear_of(&self, structure: &Structure) -> bool
-        ensures standards { result ≡ true → of_airfield structure.now (airfield_with self.now.surfaces) ≡ [] }
-        ensures slopes { result ≡ true → slope_entries structure.now (airfield_with self.now.surfaces) ≡ [] }
-    {
-        match &self.surfaces {
-            Surfaces::Airport(airport) => airport.is_clear_of(structure),
-            Surfaces::Heliport(_) => false,
-        }
     }
 }
 

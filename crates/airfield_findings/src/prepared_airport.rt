@@ -1,6 +1,6 @@
 //! Airports with their surfaces, prepared for many structures.
 
-ghost use Rattle.std.specs.Prelude.{◌≡◌, ℤ, [], List, IfOk, false, true};
+ghost use Rattle.std.specs.Prelude.{◌≡◌, ℤ, [], List, IfOk, false};
 ghost use Rattle.airfields.specs.Airfields.{IsHeldAirport};
 ghost use Rattle.grid_exact.specs.Level.{IsLevel};
 ghost use Rattle.height_rules.specs.Heights.{notice_top};
@@ -8,7 +8,7 @@ ghost use Rattle.height_rules.specs.NearAirport.{near_excess};
 ghost use Rattle.horizontal_hull.specs.Arcs.{dome_of};
 ghost use Rattle.runway_notice.specs.Notices.{notice_slope};
 ghost use Rattle.airfields.specs.declared.airfield.Airfield.TheVariants.{Airport as AnAirport};
-ghost use Rattle.airfield_findings.specs.Entries.{of_airfield, of_surfaces, slope_entries};
+ghost use Rattle.airfield_findings.specs.Entries.{of_surfaces};
 ghost use Rattle.airfield_findings.specs.Reaches.{IsInPlace};
 
 use crate::bounds::bounds_of;
@@ -17,13 +17,13 @@ use crate::reach::{place, surfaces_area};
 use crate::strips::Strips;
 use airfields::{Airport, Category, FieldId};
 use grid_exact::{Area, NoMemory, Point};
-use height_rules::{Structure, excess_near_limited, is_above_lowest, near_area};
+use height_rules::{Structure, excess_near_limited, near_area};
 use horizontal_hull::Hull;
 use imaginary_surfaces::Strip;
+use outline_boxes::{Bounds, Spot};
 use runway_notice::{LoneRunway, Slope, excess_notice, notice_area};
 use std::alloc::Global;
 use std::marker::Model;
-use surface_tree::Bounds;
 
 /// An airport with its surfaces; seen as the airport.
 #[derive(Drop)]
@@ -50,7 +50,7 @@ pub struct PreparedAirport {
 impl Model for PreparedAirport {
     ghost use Rattle.airfields.specs.declared.airfield.Airport.{Airport};
     ghost use Rattle.std.specs.Prelude.{Some};
-    ghost use Rattle.surface_tree.specs.Parts.{box_of};
+    ghost use Rattle.outline_boxes.specs.Bounds.{box_of};
     ghost use Rattle.airfield_findings.specs.PreparedAirports.{IsPreparedAirport};
     ghost use Rattle.airfield_findings.specs.StripLists.{runways_of};
 
@@ -140,7 +140,7 @@ impl PreparedAirport {
     pub(crate) fn excess_near(&self, structure: &Structure) -> Option<u32>
         ensures { result ≡ near_excess self.now structure.now }
     {
-        if !self.near.has(structure.at()) {
+        if !self.near.has(structure.spot()) {
             return None;
         }
         excess_near_limited(&self.datum.point(), self.datum.elevation(), structure)
@@ -151,12 +151,11 @@ impl PreparedAirport {
     pub(crate) fn excess_notice(&self, structure: &Structure) -> Option<Slope>
         ensures { result ≡ notice_slope self.now structure.now.at (notice_top structure.now) }
     {
-        let at = structure.at();
         let top = structure.notice_top();
-        if !self.notice.has(at) {
+        if !self.notice.has(structure.spot()) {
             return None;
         }
-        self.slope_over(at, top)
+        self.slope_over(structure.at(), top)
     }
 
     /// The slope of 77.9(b) that a top is above, where the box of 77.9(b) may have its point.
@@ -173,24 +172,10 @@ impl PreparedAirport {
 
     /// Whether a surface of 77.19 may lie over the point.
     #[inline(always)]
-    pub(crate) fn has_surfaces_over(&self, at: &Point) -> bool
-        ensures none { result ≡ false → (top : ℤ) → IsLevel top → of_surfaces at.now top self.now ≡ [] }
+    pub(crate) fn has_surfaces_over(&self, spot: &Spot) -> bool
+        ensures none { result ≡ false → (top : ℤ) → IsLevel top → of_surfaces spot.now top self.now ≡ [] }
     {
-        self.surfaces.has(at)
-    }
-
-    /// Whether its boxes and its elevation tell that the airport gives no findings of the structure. It takes no branch.
-    #[inline(always)]
-    pub(crate) fn is_clear_of(&self, structure: &Structure) -> bool
-        ensures standards { result ≡ true → of_airfield structure.now (AnAirport self.now) ≡ [] }
-        ensures slopes { result ≡ true → slope_entries structure.now (AnAirport self.now) ≡ [] }
-    {
-        // their contracts tell that both tops are levels
-        let _standards = structure.standards_top();
-        let _notice = structure.notice_top();
-        let at = structure.at();
-        let is_near = self.near.has(at) & is_above_lowest(self.datum.elevation(), structure);
-        !(is_near | self.notice.has(at) | self.surfaces.has(at))
+        self.surfaces.has(spot)
     }
 
     /// The area outside of which the airport gives no findings.

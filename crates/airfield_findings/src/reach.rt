@@ -12,7 +12,7 @@ ghost use Rattle.horizontal_hull.specs.Arcs.{dome_of};
 ghost use Rattle.outline_boxes.specs.Boxes.{Encloses};
 ghost use Rattle.surface_tree.specs.Levels.{IsPlaced, cell_level};
 ghost use Rattle.surface_tree.specs.declared.level.TheConstants.{MIDDLE_LEVEL};
-ghost use Rattle.surface_tree.specs.declared.square.TheConstants.{PLANE_LIMIT};
+ghost use Rattle.outline_boxes.specs.declared.bounds.TheConstants.{PLANE_LIMIT};
 ghost use Rattle.airfield_findings.specs.declared.reach.TheConstants.{LEAST_REACH};
 ghost use Rattle.airfield_findings.specs.Entries.{of_surfaces};
 ghost use Rattle.airfield_findings.specs.Reaches.{IsOver, IsRunwayReach};
@@ -20,12 +20,11 @@ ghost use Rattle.airfield_findings.specs.Reaches.{IsOver, IsRunwayReach};
 use grid_exact::{Area, Point};
 use horizontal_hull::Hull;
 use imaginary_surfaces::Strip;
-use outline_boxes::joined;
-use surface_tree::PLANE_LIMIT;
+use outline_boxes::{PLANE_LIMIT, joined};
 
 /// How far an area reaches at least about an airport's reference point or an end of a heliport's axis, so that squares of one size hold
 /// the areas of all airfields; every surface that reaches as far as this is larger.
-pub const LEAST_REACH: i64 = 70_000;
+pub const LEAST_REACH: i64 = 132_000;
 
 /// The least box of several.
 pub(crate) fn joined_all(areas: &[Area]) -> Area

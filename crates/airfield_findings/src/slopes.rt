@@ -82,6 +82,7 @@ fn put_heliport_slope<C: Collector>(
 }
 
 /// Hands over the entry of the notice slope of one airfield.
+#[inline(always)]
 pub fn put_slope<C: Collector>(
     out: &mut C,
     structure: &Structure,

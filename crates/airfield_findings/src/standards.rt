@@ -118,12 +118,11 @@ fn put_surfaces<C: Collector>(
     ensures taken { OnOk result ((list : List AFinding) → C.taken out.old list → C.taken out.new (list ++ of_surfaces structure.now.at (standards_top structure.now) prepared.now)) }
     ensures fails { OnErr result C.fails }
 {
-    let at = structure.at();
     let top = structure.standards_top();
-    if !prepared.has_surfaces_over(at) {
+    if !prepared.has_surfaces_over(structure.spot()) {
         return Ok(());
     }
-    put_surfaces_over(out, at, top, prepared)
+    put_surfaces_over(out, structure.at(), top, prepared)
 }
 
 /// The same where one of them may lie over the point. It is kept apart, as most airports near a structure need none of it.
@@ -202,6 +201,7 @@ fn put_heliport<C: Collector>(out: &mut C, structure: &Structure, pad: &Pad) -> 
 }
 
 /// Hands over the standards of one airfield.
+#[inline(always)]
 pub fn put_airfield<C: Collector>(
     out: &mut C,
     structure: &Structure,

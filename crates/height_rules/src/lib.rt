@@ -19,7 +19,5 @@ pub use heights::{
 };
 pub use laws::{height_excess_is, near_excess_is, notice_excess_is};
 pub use limit::{INNER_HEIGHT, INNER_RADIUS, NAUTICAL_MILE, RISE_PER_MILE};
-pub use near_airport::{
-    OUTER_HUNDREDTHS, excess_near_airport, excess_near_limited, is_above_lowest,
-};
+pub use near_airport::{OUTER_HUNDREDTHS, excess_near_airport, excess_near_limited};
 pub use structure::Structure;

@@ -1,6 +1,6 @@
 //! Heights near an airport's reference point.
 
-ghost use Rattle.std.specs.Prelude.{◌≡◌, ◌↔◌, ◌*◌, ◌≤◌, ◌^◌, ◌≤ℤ◌, ◌-ℤ◌, ◌*ℤ◌, pos, None, false, IsTrue, IfSome};
+ghost use Rattle.std.specs.Prelude.{◌≡◌, ◌↔◌, ◌*◌, ◌≤◌, ◌^◌, ◌≤ℤ◌, ◌-ℤ◌, ◌*ℤ◌, pos, IsTrue, IfSome};
 ghost use Rattle.std.specs.Int.{int_max};
 ghost use Rattle.grid_exact.specs.Excess.{IsExcess, covering};
 ghost use Rattle.grid_exact.specs.Level.{IsLevel};
@@ -74,15 +74,6 @@ fn excess_at(base: i64, square_distance: u64, top: i64) -> Option<u32>
         return flat_excess(base + INNER_HEIGHT, top);
     }
     NearLimit::new(base, square_distance).excess(top)
-}
-
-/// Whether the structure's top is above the lowest level of the limit of an airport at this elevation; else it is not above the limit. It
-/// takes no branch, since about as many tops are above that level as are not.
-#[inline(always)]
-pub fn is_above_lowest(elevation: i64, structure: &Structure) -> bool
-    ensures { result ≡ false → (a : AnAirport) → a.elevation ≡ elevation → near_excess a structure.now ≡ None }
-{
-    base(elevation, structure.filing()) < structure.standards_top() - INNER_HEIGHT
 }
 
 /// How far the structure is above the limit of each airport that has one, this reference point and this elevation. A top that is not

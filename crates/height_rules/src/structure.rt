@@ -7,26 +7,29 @@ ghost use Rattle.height_rules.specs.Heights.{notice_top, standards_top};
 use crate::heights::{TOP_MOST, top_for_notice, top_for_standards};
 use airfields::Filing;
 use grid_exact::Point;
+use outline_boxes::Spot;
 use std::marker::Model;
 
-/// The structure of a filing with both of its tops, which each airfield near it asks for and which are worked out once; seen as the
-/// structure of the filing.
+/// The structure of a filing with both of its tops and with its place ready for the tests of boxes, all of which each airfield near it
+/// asks for and which are worked out once; seen as the structure of the filing.
 #[derive(Drop)]
 pub struct Structure {
     filing: Filing,
+    spot: Spot,
     standards_top: i64,
     notice_top: i64,
 }
 
 impl Model for Structure {
     ghost use Rattle.airfields.specs.Sites.{Site};
+    ghost use Rattle.std.specs.Prelude.{◌≡◌};
     ghost use Rattle.height_rules.specs.Heights.{HasTops};
 
     ghost Value = { Site };
 
     ghost view = { λ s. s.filing };
 
-    ghost invariant = { λ s. HasTops s.filing s.standards_top s.notice_top };
+    ghost invariant = { λ s. HasTops s.filing s.standards_top s.notice_top × (s.spot ≡ s.filing.at) };
 }
 
 impl Structure {
@@ -36,6 +39,7 @@ impl Structure {
     {
         Structure {
             filing: *filing,
+            spot: Spot::of(&filing.at),
             standards_top: top_for_standards(filing),
             notice_top: top_for_notice(filing),
         }
@@ -54,6 +58,14 @@ impl Structure {
         ensures { result.now ≡ self.now.at }
     {
         &self.filing.at
+    }
+
+    /// Where it stands, ready for the tests of boxes.
+    #[inline(always)]
+    pub fn spot(&self) -> &Spot
+        ensures { result.now ≡ self.now.at }
+    {
+        &self.spot
     }
 
     /// The top that the standards look at.

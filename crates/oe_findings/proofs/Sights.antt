@@ -46,22 +46,6 @@ slopes_seen : (site : Site) (due : Bool) (all : List Prepared) → HasLevels sit
 slopes_seen site due all levels =
     ap (λ zs. if due then entries (rule_a site) no_key (notice_excess site) ++ zs else []) (over (slope_entries site) site.at all (λ p. p.in_place.slopes site levels))
 
--- an airfield without entries may stand anywhere among others
-pub among : (f : Airfield → List Finding) (before after : List Prepared) (p : Prepared) → f (airfield_of p) ≡ [] → flat_map f (map airfield_of (before ++ after)) ≡ flat_map f (map airfield_of (before ++ p ∷ after))
-among f [] after p e = rw e refl
-among f (b ∷ before) after p e = ap (λ zs. f (airfield_of b) ++ zs) (among f before after p e)
-
-pub seen_among : {C : Type 0} (taken : C → List Finding → Type 0) (fails : Type 0) (site : Site) (due : Bool) (standards notices : C) (refused : Bool) (before after : List Prepared) (p : Prepared)
-    → of_airfield site (airfield_of p) ≡ [] → slope_entries site (airfield_of p) ≡ []
-    → HasSeen taken fails site due standards notices refused (map airfield_of (before ++ after)) → HasSeen taken fails site due standards notices refused (map airfield_of (before ++ p ∷ after))
-seen_among taken fails site due standards notices refused before after p no_standards no_slopes h = record {
-  gathers = λ e. (let g = h.gathers e in record {
-    all_standards = subst (taken standards) (ap (λ zs. entries rules.H499 no_key (height_excess site) ++ zs) (among (of_airfield site) before after p no_standards)) g.all_standards;
-    all_notices = subst (taken notices) (ap (λ zs. if due then entries (rule_a site) no_key (notice_excess site) ++ zs else []) (among (slope_entries site) before after p no_slopes)) g.all_notices;
-  });
-  stopped = h.stopped;
-}
-
 pub seen_all : {C : Type 0} (taken : C → List Finding → Type 0) (fails : Type 0) (site : Site) (due : Bool) (standards notices : C) (refused : Bool) (all : List Prepared) (x : Point) → x ≡ site.at → HasLevels site
     → HasSeen taken fails site due standards notices refused (map airfield_of (all_hits area_of x all)) → HasSeen taken fails site due standards notices refused (map airfield_of all)
 seen_all taken fails site due standards notices refused all x at levels seen =

@@ -36,11 +36,6 @@ impl Visitor<Prepared> for Obstruction {
 
     ghost seen = { λ start s items. (s.structure ≡ start.structure) × (start.is_found ≡ false → s.is_found ≡ exceeds_over s.structure (map airfield_of items)) };
 
-    #[inline(always)]
-    fn passes(&self, item: &Prepared) -> bool {
-        item.is_clear_of(&self.structure)
-    }
-
     #[tactic(auto, using(crate::proofs::Standards::exceeds_more, crate::proofs::Standards::exceeds_still))]
     fn item(&mut self, item: &Prepared) {
         if self.is_found {

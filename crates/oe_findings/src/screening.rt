@@ -134,11 +134,6 @@ impl<C: Collector + Drop> Visitor<Prepared> for Screening<C> {
 
     ghost seen = { λ start s items. (s.structure ≡ start.structure) × (s.is_due ≡ start.is_due) × HasSeen C.taken C.fails s.structure s.is_due s.standards s.notices s.refused (map airfield_of items) };
 
-    #[inline(always)]
-    fn passes(&self, item: &Prepared) -> bool {
-        item.is_clear_of(&self.structure)
-    }
-
     fn item(&mut self, item: &Prepared) {
         if self.refused {
             return;

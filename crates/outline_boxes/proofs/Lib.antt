@@ -3,3 +3,4 @@ pub mod Covers
 pub mod Corners
 pub mod BoxFacts
 pub mod More
+pub mod Opposites

@@ -7,3 +7,4 @@ pub mod Trapezoids
 pub mod Shapes
 pub mod Edges
 pub mod Reaches
+pub mod Bounds

@@ -44,10 +44,6 @@ struct Numbers {
 impl Visitor<Plot> for Numbers {
     ghost seen = { λ _ v plots. v.refused ≡ false → v.seen.items ≡ map (λ p. p.number) plots };
 
-    fn passes(&self, _plot: &Plot) -> bool {
-        false
-    }
-
     fn item(&mut self, plot: &Plot) {
         if self.seen.push(plot.number).is_err() {
             self.refused = true;

@@ -1,5 +1,5 @@
 -- What the tests of boxes and squares say of each other.
-use Rattle.std.proofs.Common.{◌≡◌, ap, int_eq, ℕ, zero, suc, ◌+◌, ◌<◌, ◌≤◌, ℤ, pos, ◌+ℤ◌, ◌-ℤ◌, ◌≤ℤ◌, ◌<ℤ◌, Bool, true, false, ◌&&◌, ◌∙◌, sym, refl, arith, inl, inr, nat_eq, cond}
+use Rattle.std.proofs.Common.{◌≡◌, ℕ, zero, suc, ◌+◌, ◌<◌, ◌≤◌, ℤ, pos, ◌+ℤ◌, ◌-ℤ◌, ◌≤ℤ◌, ◌<ℤ◌, Bool, true, false, ◌&&◌, ◌∙◌, sym, refl, arith, inl, inr, nat_eq, cond}
 use Rattle.std.specs.Prelude.{int_le, nat_lt}
 use Rattle.std.proofs.lemmas.Bool.{cases_Bool, cases_lt, and_parts, and_from, and_right, false_from_ne_true}
 use Rattle.std.proofs.lemmas.Int.{ints}
@@ -10,31 +10,6 @@ use Rattle.surface_tree.specs.Levels.{side_of, level_of, level_up_to, greater, c
 use Rattle.surface_tree.specs.Squares.{meets, overlaps, in_cell, in_reach, IsIn}
 use Rattle.surface_tree.specs.Visits.{near_middle, near_area, close_side, close_area, hit_at}
 use Rattle.surface_tree.proofs.Sides.{level-side}
-
--- boxes with equal sides are equal
-sides_equal : (a b : ℤ) → int_eq a b ≡ true → a ≡ b
-sides_equal a b h = grind (arith, ints, h)
-
-equal_sides : (a b : ℤ) → a ≡ b → int_eq a b ≡ true
-equal_sides a b h = grind (arith, ints, h)
-
-pub boxes_equal : (a b : Area) → (int_eq a.x0 b.x0 && (int_eq a.y0 b.y0 && (int_eq a.x1 b.x1 && int_eq a.y1 b.y1))) ≡ true → a ≡ b
-boxes_equal a b h =
-    let t = and_parts (int_eq a.x0 b.x0) (int_eq a.y0 b.y0 && (int_eq a.x1 b.x1 && int_eq a.y1 b.y1)) h in
-    let u = and_parts (int_eq a.y0 b.y0) (int_eq a.x1 b.x1 && int_eq a.y1 b.y1) t.1 in
-    let v = and_parts (int_eq a.x1 b.x1) (int_eq a.y1 b.y1) u.1 in
-    let w : a.x0 ≡ b.x0 = sides_equal _ _ t.0 in
-    let s : a.y0 ≡ b.y0 = sides_equal _ _ u.0 in
-    let e : a.x1 ≡ b.x1 = sides_equal _ _ v.0 in
-    let n : a.y1 ≡ b.y1 = sides_equal _ _ v.1 in
-    ap (λ z. box z a.y0 a.x1 a.y1) w ∙ ap (λ z. box b.x0 z a.x1 a.y1) s ∙ ap (λ z. box b.x0 b.y0 z a.y1) e ∙ ap (λ z. box b.x0 b.y0 b.x1 z) n
-  where
-    box : ℤ → ℤ → ℤ → ℤ → Area
-    box x0 y0 x1 y1 = record { x0 = x0; y0 = y0; x1 = x1; y1 = y1 }
-
-pub equal_boxes : (a b : Area) → a ≡ b → (int_eq a.x0 b.x0 && (int_eq a.y0 b.y0 && (int_eq a.x1 b.x1 && int_eq a.y1 b.y1))) ≡ true
-equal_boxes a b h =
-    and_from _ _ (equal_sides _ _ (ap (λ z. z.x0) h)) (and_from _ _ (equal_sides _ _ (ap (λ z. z.y0) h)) (and_from _ _ (equal_sides _ _ (ap (λ z. z.x1) h)) (equal_sides _ _ (ap (λ z. z.y1) h))))
 
 -- a box that has a point of the square meets it
 along_meets : (w : ℤ) (side : ℕ) (from to x : ℤ) → w ≤ℤ x → x <ℤ (w +ℤ pos side) → (int_le from x && int_le x to) ≡ true → meets w side from to ≡ true
@@ -102,7 +77,7 @@ placed_short a h =
 -- squares are no larger than the boxes' size
 squares_most : (l : ℕ) → squares_for l ≤ l
 squares_most l =
-    elim (cases_Bool (nat_lt l 6)) [
+    elim (cases_Bool (nat_lt l 7)) [
       | inl y ↦ rw y (omega arith)
       | inr n ↦ rw n (grind (arith, n))
     ]

@@ -11,7 +11,6 @@ use Rattle.grid_exact.specs.declared.area.Area.{Area}
 use Rattle.grid_exact.specs.declared.point.Point.{Point}
 use Rattle.surface_tree.specs.Levels.{side_of, level_up_to, level_of, greater, cell_level, squares_for}
 use Rattle.surface_tree.specs.Visits.{hit_at, hits, all_hits}
-use Rattle.surface_tree.proofs.Boxes.{side-le}
 use Rattle.surface_tree.proofs.Visits.{filter_none}
 use Rattle.surface_tree.proofs.Wholes.{no_hits, all_hits_at}
 
@@ -64,15 +63,15 @@ level_low (suc n) m e l h =
       ]
     ]
 
-middle_squares : (l : ℕ) → 5 < l → squares_for l ≡ 6
-middle_squares l a = let n : nat_lt l 6 ≡ false = grind (arith, a) in rw n refl
+middle_squares : (l : ℕ) → 6 < l → squares_for l ≡ 7
+middle_squares l a = let n : nat_lt l 7 ≡ false = grind (arith, a) in rw n refl
 
-level_middle : (a : Area) → pos (side_of 5) <ℤ greater (a.x1 -ℤ a.x0) (a.y1 -ℤ a.y0) → 5 < level_of a
+level_middle : (a : Area) → pos (side_of 6) <ℤ greater (a.x1 -ℤ a.x0) (a.y1 -ℤ a.y0) → 6 < level_of a
 unfolding level_of
-level_middle a h = level_low 14 5 (greater (a.x1 -ℤ a.x0) (a.y1 -ℤ a.y0)) (omega arith) h
+level_middle a h = level_low 14 6 (greater (a.x1 -ℤ a.x0) (a.y1 -ℤ a.y0)) (omega arith) h
 
--- an area that is longer than 131,072 stands in squares of 2^18
-pub cell_middle : (a : Area) → pos 131072 <ℤ greater (a.x1 -ℤ a.x0) (a.y1 -ℤ a.y0) → cell_level a ≡ 6
+-- an area that is longer than 262,144 stands in squares of 2^19
+pub cell_middle : (a : Area) → pos 262144 <ℤ greater (a.x1 -ℤ a.x0) (a.y1 -ℤ a.y0) → cell_level a ≡ 7
 unfolding cell_level
 cell_middle a h = middle_squares (level_of a) (level_middle a h)
 

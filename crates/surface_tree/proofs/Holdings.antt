@@ -1,5 +1,5 @@
 -- A part of the tree that a change does not reach.
-use Rattle.std.proofs.Common.{◌≡◌, ℕ, ◌+◌, ◌-◌, ◌<◌, ℤ, pos, ◌+ℤ◌, List, Option, true, false, sym, ◌∙◌, arith, nat_eq}
+use Rattle.std.proofs.Common.{◌≡◌, ℕ, ◌+◌, ◌-◌, ◌<◌, ℤ, pos, ◌+ℤ◌, ◌≤ℤ◌, List, Option, true, false, sym, ◌∙◌, arith, nat_eq}
 use Rattle.std.specs.Prelude.{nat_lt}
 use Rattle.std.specs.Cmp.{IsTotalOrder}
 use Rattle.std.specs.declared.cmp.Ordering.{Ordering}
@@ -11,7 +11,7 @@ use Rattle.surface_tree.specs.declared.part.Part.{Part}
 use Rattle.surface_tree.specs.declared.part.Part.TheVariants.{Bare, Cell'}
 use Rattle.surface_tree.specs.Levels.{side_of, cell_level}
 use Rattle.surface_tree.specs.Squares.{meets, overlaps, in_cell, in_reach}
-use Rattle.surface_tree.specs.Changes.{edited_by, Fits}
+use Rattle.surface_tree.specs.Changes.{edited_by, Fits, LiesIn}
 use Rattle.surface_tree.specs.Parts.{Holds, HoldsOwn}
 use Rattle.surface_tree.proofs.Sides.{side-pred}
 use Rattle.surface_tree.proofs.Boxes.{eq_lt, lt_more}
@@ -72,6 +72,19 @@ cell_reach k w s a n =
     let r : in_reach k w s a ≡ true = and_from _ _ (eq_lt (cell_level a) k (k + 1) (omega arith) t.0) t.1 in
     cc)
 
+-- a square that does not hold a box holds none that lies in it
+meets_more : (low : ℤ) (side : ℕ) (from to first last : ℤ) → first ≤ℤ from → to ≤ℤ last → meets low side from to ≡ true → meets low side first last ≡ true
+meets_more low side from to first last a b h = grind (arith, ints, a, b, h)
+
+pub cell_lies : (k : ℕ) (w s : ℤ) (inner outer : Area) → LiesIn inner outer → in_cell k w s outer ≡ false → in_cell k w s inner ≡ false
+cell_lies k w s inner outer l n =
+    false_from_ne_true _ (λ h.
+    let t = and_parts (nat_eq (cell_level inner) k) (overlaps k w s inner) h in
+    let o = and_parts (meets w (side_of k) inner.x0 inner.x1) (meets s (side_of k) inner.y0 inner.y1) t.1 in
+    let e : nat_eq (cell_level outer) k ≡ true = rw l.level at t.0 in
+    let r : in_cell k w s outer ≡ true = and_from _ _ e (and_from _ _ (meets_more w (side_of k) inner.x0 inner.x1 outer.x0 outer.x1 l.west l.east o.0) (meets_more s (side_of k) inner.y0 inner.y1 outer.y0 outer.y1 l.south l.north o.1)) in
+    cc)
+
 -- nor does it stand in a part of the square of its own level
 pub level_reach : (k : ℕ) (w s : ℤ) (a : Area) → 0 < k → cell_level a ≡ k → in_reach (k - 1) w s a ≡ false
 level_reach k w s a l e =
@@ -88,7 +101,7 @@ larger_cell k w s a l =
 module _ {T K : Type 0} (cmp : K → K → Ordering) (total : IsTotalOrder cmp) (key : T → K) (area : T → Area) (i : K) (a : Area) (item : Option T) (value : List T) (f : Fits cmp key area i a item value) where
   -- entries that the change does not reach
   pub own_past : (k : ℕ) (w s : ℤ) (es : List (Entry T)) → in_cell k w s a ≡ false → HoldsOwn area value k w s es → HoldsOwn area (edited_by cmp key i item value) k w s es
-  own_past k w s es n h = record { boxes = h.boxes; items = h.items ∙ sym (filter_fits_out cmp total key area i a (in_cell k w s) item value n f) }
+  own_past k w s es n h = record { boxes = h.boxes; items = h.items ∙ sym (filter_fits_out cmp total key area i a (in_cell k w s) item value n (λ b l. cell_lies k w s b a l n) f) }
 
   -- a part that the change does not reach
   pub Holds_past : (k : ℕ) (w s : ℤ) (q : Part T) → in_reach k w s a ≡ false → Holds area value k w s q → Holds area (edited_by cmp key i item value) k w s q

@@ -13,7 +13,8 @@ use Rattle.surface_tree.specs.declared.part.Cell.{Cell}
 use Rattle.surface_tree.specs.declared.part.Part.TheVariants.{Bare}
 use Rattle.surface_tree.specs.Squares.{in_cell}
 use Rattle.surface_tree.specs.Changes.{Fits}
-use Rattle.surface_tree.specs.Parts.{box_of, item_of, content_of, IsEntry, HoldsOwn, HoldsNone, HoldsCell}
+use Rattle.outline_boxes.specs.Bounds.{box_of}
+use Rattle.surface_tree.specs.Parts.{item_of, content_of, IsEntry, HoldsOwn, HoldsNone, HoldsCell}
 use Rattle.surface_tree.proofs.Edits.{Rises-filter, filter_fits_in}
 use Rattle.surface_tree.proofs.Holdings.{cell_reach, past_south_west, past_south_east, past_north_west, past_north_east}
 use Rattle.surface_tree.proofs.Visits.{filter_none}

@@ -1,7 +1,7 @@
 -- Sides of squares.
 use Rattle.std.proofs.Common.{◌≡◌, ℕ, zero, suc, ◌+◌, ◌-◌, ◌<◌, ◌≤◌, ◌^◌, ◌*◌, arith, refl, ap}
 use Rattle.std.proofs.Common.{ℤ, pos, neg_ℤ, ◌≤ℤ◌, inl, inr, to_z-of_z}
-use Rattle.std.specs.Prelude.{int_lt, int_le}
+use Rattle.std.specs.Prelude.{int_lt}
 use Rattle.std.proofs.lemmas.Bool.{cases_Bool}
 use Rattle.std.proofs.lemmas.Int.{ints}
 use Rattle.surface_tree.specs.Levels.{side_of, level_up_to}
@@ -24,9 +24,3 @@ level-side (suc n) e h =
     ]
 
 pub ruleset casts = (to_z-of_z)
-
--- the opposites of two numbers are in the other order
-pub opposite_order : (a b : ℤ) → int_le a (neg_ℤ b) ≡ int_le b (neg_ℤ a)
-opposite_order a b = grind (arith, ints)
-
-pub ruleset opposites = (opposite_order)

@@ -15,7 +15,8 @@ use Rattle.surface_tree.specs.declared.entry.Entry.{Entry}
 use Rattle.surface_tree.specs.Levels.{side_of, cell_level}
 use Rattle.surface_tree.specs.Squares.{in_cell, IsIn}
 use Rattle.surface_tree.specs.Visits.{close_area, hit_at, hits, looks}
-use Rattle.surface_tree.specs.Parts.{box_of, item_of, IsEntry, HoldsOwn, HoldsNone}
+use Rattle.outline_boxes.specs.Bounds.{box_of}
+use Rattle.surface_tree.specs.Parts.{item_of, IsEntry, HoldsOwn, HoldsNone}
 use Rattle.surface_tree.proofs.Sides.{side-pred}
 use Rattle.surface_tree.proofs.Boxes.{hit_reach, own_hit, test_once}
 

@@ -19,8 +19,8 @@ use Rattle.ordered_list.proofs.Places.{found_at}
 use Rattle.ordered_list.proofs.Rising.{Rises-removed}
 use Rattle.surface_tree.specs.Levels.{IsPlaced, side_of, level_up_to, level_of, cell_level, greater}
 use Rattle.surface_tree.specs.Squares.{IsIn}
-use Rattle.surface_tree.specs.declared.square.TheConstants.{PLANE_LIMIT}
-use Rattle.surface_tree.specs.Changes.{Fits}
+use Rattle.outline_boxes.specs.declared.bounds.TheConstants.{PLANE_LIMIT}
+use Rattle.surface_tree.specs.Changes.{Fits, LiesIn}
 use Rattle.surface_tree.specs.Visits.{near_area, close_area, hit_at, hits, all_hits, looks}
 use Rattle.ordered_tree.proofs.Order.{not_removed, only_found}
 use Rattle.surface_tree.proofs.Boxes.{cell_most, close_near}
@@ -138,17 +138,20 @@ pub whole_in : (p : Point) → IsIn 14 (neg_ℤ PLANE_LIMIT) (neg_ℤ PLANE_LIMI
 whole_in p = let s : side_of 14 ≡ 67108864 = refl in let g = p.on_grid in record { not_west = omega (arith, ints, g); not_east = omega (arith, ints, s, g); not_south = omega (arith, ints, g); not_north = omega (arith, ints, s, g) }
 
 module _ {T K : Type 0} (cmp : K → K → Ordering) (total : IsTotalOrder cmp) (key : T → K) (area : T → Area) where
+  lies_equal : (a b : Area) → a ≡ b → LiesIn a b
+  lies_equal a b e = rw e (record { level = refl; west = omega (arith, ints); east = omega (arith, ints); south = omega (arith, ints); north = omega (arith, ints) })
+
   -- the removal of what is found fits
   pub fits_found : (k : K) (y : T) (value : List T) → Rises cmp key value → found_by cmp key k value ≡ Some y → Fits cmp key area k (area y) None value
   fits_found k y value r e =
-      record { rises = r; same = λ j d l q. ap area (only_found cmp total key k y value r e j d l q); is_for = tt }
+      record { rises = r; covered = λ j d l q. lies_equal (area (get_or value j d)) (area y) (ap area (only_found cmp total key k y value r e j d l q)); is_for = tt }
 
-  -- an item fits where none stands under its key, or one with its area
-  pub fits_same : (x : T) (value : List T) → Rises cmp key value → ((i : T) → found_by cmp key (key x) value ≡ Some i → area i ≡ area x) → Fits cmp key area (key x) (area x) (Some x) value
-  fits_same x value r h =
-      record { rises = r; same = λ j d l q. h (get_or value j d) (found_at cmp total key (key x) value j d r l (same cmp total (key x) (key (get_or value j d)) q)); is_for = (refl, refl) }
+  -- an item fits where none stands under its key, or one whose area lies in its own
+  pub fits_covered : (x : T) (value : List T) → Rises cmp key value → ((i : T) → found_by cmp key (key x) value ≡ Some i → LiesIn (area i) (area x)) → Fits cmp key area (key x) (area x) (Some x) value
+  fits_covered x value r h =
+      record { rises = r; covered = λ j d l q. h (get_or value j d) (found_at cmp total key (key x) value j d r l (same cmp total (key x) (key (get_or value j d)) q)); is_for = (refl, refl) }
 
   -- and so does a new item where the one under its key was taken out
   pub fits_new : (x : T) (value : List T) → Rises cmp key value → Fits cmp key area (key x) (area x) (Some x) (removed_by cmp key (key x) value)
   fits_new x value r =
-      record { rises = Rises-removed cmp total key (key x) value r; same = λ j d l q. absurd (not_removed cmp total key (key x) value j d l q); is_for = (refl, refl) }
+      record { rises = Rises-removed cmp total key (key x) value r; covered = λ j d l q. absurd (not_removed cmp total key (key x) value j d l q); is_for = (refl, refl) }

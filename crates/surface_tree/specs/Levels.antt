@@ -1,19 +1,9 @@
 -- The sizes of boxes, and the sizes of the squares that hold them.
-use Rattle.std.specs.Prelude.{◌≡◌, ◌≤◌, ℕ, zero, suc, ◌+◌, ◌-◌, ℤ, pos, neg_ℤ, ◌-ℤ◌, ◌≤ℤ◌, ◌<ℤ◌, int_le, int_lt, nat_lt, if◌then◌else◌}
+use Rattle.std.specs.Prelude.{◌≡◌, ◌≤◌, ℕ, zero, suc, ◌+◌, ℤ, pos, neg_ℤ, ◌-ℤ◌, ◌≤ℤ◌, ◌<ℤ◌, int_le, int_lt, nat_lt, if◌then◌else◌}
 use Rattle.grid_exact.specs.declared.area.Area.{Area}
 use Rattle.surface_tree.specs.declared.level.TheConstants.{MIDDLE_LEVEL}
-use Rattle.surface_tree.specs.declared.square.TheConstants.{PLANE_LIMIT, TOP_LEVEL}
-
--- no coordinate of the box is outside of the plane of the tree
-pub record IsInPlane (area : Area) : Type 0 where
-  pub x0_low : neg_ℤ PLANE_LIMIT ≤ℤ area.x0
-  pub x0_high : area.x0 ≤ℤ PLANE_LIMIT
-  pub y0_low : neg_ℤ PLANE_LIMIT ≤ℤ area.y0
-  pub y0_high : area.y0 ≤ℤ PLANE_LIMIT
-  pub x1_low : neg_ℤ PLANE_LIMIT ≤ℤ area.x1
-  pub x1_high : area.x1 ≤ℤ PLANE_LIMIT
-  pub y1_low : neg_ℤ PLANE_LIMIT ≤ℤ area.y1
-  pub y1_high : area.y1 ≤ℤ PLANE_LIMIT
+use Rattle.outline_boxes.specs.declared.bounds.TheConstants.{PLANE_LIMIT}
+use Rattle.surface_tree.specs.declared.square.TheConstants.{TOP_LEVEL}
 
 -- the box has its ends in order, and lies in the plane of the tree
 pub record IsPlaced (area : Area) : Type 0 where

@@ -3,19 +3,16 @@ use Rattle.std.specs.Prelude.{◌≡◌, ℕ, ◌-◌, ◌<◌, ℤ, pos, neg_�
 use Rattle.std.specs.List.{All, filter}
 use Rattle.std.specs.Arc.{arc_value}
 use Rattle.grid_exact.specs.declared.area.Area.{Area}
-use Rattle.surface_tree.specs.declared.bounds.Bounds.{Bounds}
+use Rattle.outline_boxes.specs.Bounds.{box_of}
 use Rattle.surface_tree.specs.declared.entry.Entry.{Entry}
 use Rattle.surface_tree.specs.declared.part.Part.{Part}
 use Rattle.surface_tree.specs.declared.part.Part.TheVariants.{Bare, Cell'}
 use Rattle.surface_tree.specs.declared.part.Cell.{Cell}
 use Rattle.surface_tree.specs.declared.square.Square.{Square}
-use Rattle.surface_tree.specs.declared.square.TheConstants.{PLANE_LIMIT, TOP_LEVEL}
+use Rattle.outline_boxes.specs.declared.bounds.TheConstants.{PLANE_LIMIT}
+use Rattle.surface_tree.specs.declared.square.TheConstants.{TOP_LEVEL}
 use Rattle.surface_tree.specs.Levels.{side_of}
 use Rattle.surface_tree.specs.Squares.{in_cell, in_reach}
-
--- the box of an entry, which keeps the opposites of the high ends
-abbrev pub box_of : Bounds → Area
-box_of b = record { x0 = b.x0; y0 = b.y0; x1 = neg_ℤ b.opposite_x1; y1 = neg_ℤ b.opposite_y1 }
 
 -- the item of an entry
 abbrev pub item_of : {T : Type 0} → Entry T → T

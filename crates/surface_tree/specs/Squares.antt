@@ -2,7 +2,8 @@
 use Rattle.std.specs.Prelude.{◌≡◌, ℕ, ◌+◌, ◌≤◌, ℤ, pos, neg_ℤ, ◌+ℤ◌, ◌≤ℤ◌, ◌<ℤ◌, int_le, int_lt, nat_eq, nat_lt, Bool, ◌&&◌}
 use Rattle.grid_exact.specs.declared.area.Area.{Area}
 use Rattle.grid_exact.specs.declared.point.Point.{Point}
-use Rattle.surface_tree.specs.declared.square.TheConstants.{PLANE_LIMIT, TOP_LEVEL}
+use Rattle.outline_boxes.specs.declared.bounds.TheConstants.{PLANE_LIMIT}
+use Rattle.surface_tree.specs.declared.square.TheConstants.{TOP_LEVEL}
 use Rattle.surface_tree.specs.Levels.{side_of, cell_level}
 
 -- a square of the tree: its south-west corner, its side and its level

@@ -17,10 +17,6 @@ HasPoint square p = IsIn square.level square.west square.south p
 abbrev pub SeesMore : {V T : Type 0} → (V → V → List T → Type 0) → V → V → List T → Type 0
 SeesMore {V} {T} seen old new ys = (start : V) (xs : List T) → seen start old xs → seen start new (xs ++ ys)
 
--- the visitor has nothing to see in the items of `all` that `few` leaves out: it has seen all of them wherever it has seen the few
-abbrev pub PassesOver : {V T : Type 0} → (V → V → List T → Type 0) → V → List T → List T → Type 0
-PassesOver {V} {T} seen now few all = (start later : V) (xs before after : List T) → seen start now xs → seen start later (before ++ few ++ after) → seen start later (before ++ all ++ after)
-
 -- the middle of an interval lies within one and a half sides of a coordinate
 abbrev pub near_middle : ℕ → ℤ → ℤ → ℤ → Bool
 near_middle side from to x =

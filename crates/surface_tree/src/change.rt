@@ -8,13 +8,13 @@ ghost use Rattle.surface_tree.specs.Squares.{in_cell, overlaps};
 ghost use Rattle.surface_tree.specs.Changes.{Follows};
 ghost use Rattle.surface_tree.specs.Parts.{CellHolds, HoldsCell, HoldsOwn, PartHolds};
 
-use crate::bounds::Bounds;
 use crate::edit::Edit;
 use crate::entry::{Entry, put_entry, shared_entries, take_entry};
 use crate::part::{Cell, Part, bare_cell, shared_part};
 use crate::placed::Placed;
 use crate::square::Square;
 use grid_exact::NoMemory;
+use outline_boxes::Bounds;
 use std::alloc::Global;
 use std::sync::Arc;
 

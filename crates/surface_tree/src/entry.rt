@@ -5,9 +5,9 @@ ghost use Rattle.std.specs.List.Sorted.{IsBinarySearchResult, IsSearchInRange};
 ghost use Rattle.ordered_list.specs.Ordered.{Rises, put_by, removed_by};
 ghost use Rattle.surface_tree.specs.Parts.{content_of, item_of};
 
-use crate::bounds::Bounds;
 use crate::placed::Placed;
 use grid_exact::NoMemory;
+use outline_boxes::Bounds;
 use std::alloc::Global;
 use std::sync::Arc;
 

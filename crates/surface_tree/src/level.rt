@@ -2,15 +2,17 @@
 
 ghost use Rattle.std.specs.Prelude.{◌≡◌, ◌≤◌, ◌-ℤ◌, ◌≤ℤ◌, pos, neg_ℤ};
 ghost use Rattle.surface_tree.specs.Levels.{IsPlaced, cell_level, greater, level_of, level_up_to, side_of, squares_for};
-ghost use Rattle.surface_tree.specs.declared.square.TheConstants.{PLANE_LIMIT, TOP_LEVEL};
+ghost use Rattle.outline_boxes.specs.declared.bounds.TheConstants.{PLANE_LIMIT};
+ghost use Rattle.surface_tree.specs.declared.square.TheConstants.{TOP_LEVEL};
 
-use crate::square::{PLANE_LIMIT, TOP_LEVEL};
+use crate::square::TOP_LEVEL;
 use grid_exact::Area;
+use outline_boxes::PLANE_LIMIT;
 
-/// The level of the largest squares that hold areas, of 2^18 tenths of a foot. Smaller squares mean fewer items to look at in a visit,
-/// and more squares that a change has to copy. These hold the areas of heliports and of airports alike, so that a visit gives all of
-/// them in one order.
-pub const MIDDLE_LEVEL: u32 = 6;
+/// The level of the largest squares that hold areas, of 2^19 tenths of a foot. Smaller squares mean fewer items to look at in a visit,
+/// and more squares that a change has to copy and that a visit far from most items finds in memory only. These hold the areas of heliports and
+/// of airports alike, so that a visit gives all of them in one order.
+pub const MIDDLE_LEVEL: u32 = 7;
 
 /// The greater of the two.
 #[tactic(auto, using(crate::proofs::Sides::casts))]

@@ -5,7 +5,6 @@
 //! visit of a point goes along one path of squares, from the whole plane down. Coordinates are whole tenths of a foot.
 #![tactic(auto)]
 
-mod bounds;
 mod by_key;
 mod change;
 mod edit;
@@ -19,10 +18,10 @@ mod tree;
 mod visit;
 mod visitor;
 
-pub use bounds::Bounds;
 pub use laws::{close_is_near, larger_sizes_have_one_level, one_size_comes_in_order};
 pub use level::MIDDLE_LEVEL;
+pub use outline_boxes::PLANE_LIMIT;
 pub use placed::Placed;
-pub use square::{PLANE_LIMIT, TOP_LEVEL};
+pub use square::TOP_LEVEL;
 pub use tree::Tree;
 pub use visitor::Visitor;

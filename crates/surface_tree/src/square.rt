@@ -3,14 +3,13 @@
 ghost use Rattle.std.specs.Prelude.{◌≡◌, ◌-◌, ◌+◌, ◌<◌, ◌≤◌, ◌^◌, ◌&&◌, ◌+ℤ◌, ◌≤ℤ◌, pos, neg_ℤ, unsigned_abs, int_le, int_lt};
 ghost use Rattle.surface_tree.specs.Levels.{side_of};
 ghost use Rattle.surface_tree.specs.Squares.{IsSquare};
-ghost use Rattle.surface_tree.specs.declared.square.TheConstants.{PLANE_LIMIT, TOP_LEVEL};
+ghost use Rattle.outline_boxes.specs.declared.bounds.TheConstants.{PLANE_LIMIT};
+ghost use Rattle.surface_tree.specs.declared.square.TheConstants.{TOP_LEVEL};
 
-use grid_exact::{Area, Point, is_at_most, is_below};
+use grid_exact::{Area, is_at_most, is_below};
+use outline_boxes::{PLANE_LIMIT, Spot};
 
-/// Areas lie from `-PLANE_LIMIT` to below `PLANE_LIMIT` in each coordinate, in tenths of a foot.
-pub const PLANE_LIMIT: i64 = 33_554_432;
-
-/// The level of the whole plane. A square of level 0 has a side of 4,096 tenths of a foot, one of each level twice that of the level
+/// The level of the whole plane, in which areas lie from `-PLANE_LIMIT` to below `PLANE_LIMIT` in each coordinate. A square of level 0 has a side of 4,096 tenths of a foot, one of each level twice that of the level
 /// below.
 pub const TOP_LEVEL: u32 = 14;
 
@@ -78,19 +77,19 @@ impl Square {
     }
 
     /// Whether the point lies in the east half.
-    pub(crate) fn is_east(&self, point: &Point) -> bool
+    pub(crate) fn is_east(&self, spot: &Spot) -> bool
         requires { 0 < self.now.level }
-        ensures { result ≡ int_le (self.now.west +ℤ pos (side_of (self.now.level - 1))) point.now.x }
+        ensures { result ≡ int_le (self.now.west +ℤ pos (side_of (self.now.level - 1))) spot.now.x }
     {
-        is_at_most(plus(self.west, self.half()), point.x)
+        is_at_most(plus(self.west, self.half()), spot.at().x)
     }
 
     /// Whether the point lies in the north half.
-    pub(crate) fn is_north(&self, point: &Point) -> bool
+    pub(crate) fn is_north(&self, spot: &Spot) -> bool
         requires { 0 < self.now.level }
-        ensures { result ≡ int_le (self.now.south +ℤ pos (side_of (self.now.level - 1))) point.now.y }
+        ensures { result ≡ int_le (self.now.south +ℤ pos (side_of (self.now.level - 1))) spot.now.y }
     {
-        is_at_most(plus(self.south, self.half()), point.y)
+        is_at_most(plus(self.south, self.half()), spot.at().y)
     }
 
     /// The quarter whose corner lies so far to the east and north of this one's.

@@ -6,8 +6,8 @@ ghost use Rattle.std.specs.List.{filter};
 ghost use Rattle.std.specs.List.Sorted.{IsPermutation};
 ghost use Rattle.grid_exact.specs.Area.{has_point};
 ghost use Rattle.ordered_list.specs.Ordered.{put_by, removed_by};
-ghost use Rattle.surface_tree.specs.Levels.{IsPlaced};
-ghost use Rattle.surface_tree.specs.Changes.{Follows, IsFound};
+ghost use Rattle.surface_tree.specs.Levels.{IsPlaced, cell_level};
+ghost use Rattle.surface_tree.specs.Changes.{Follows, IsFound, LiesIn};
 ghost use Rattle.surface_tree.specs.Parts.{RootHolds};
 ghost use Rattle.surface_tree.specs.Visits.{all_hits, close_area, near_area};
 ghost use Rattle.surface_tree.specs.declared.square.TheConstants.{TOP_LEVEL};
@@ -15,6 +15,7 @@ ghost use Rattle.surface_tree.specs.declared.square.TheConstants.{TOP_LEVEL};
 use crate::by_key::PlacedKey;
 use crate::change::changed_part;
 use crate::edit::Edit;
+use crate::level::level_for;
 use crate::part::{Part, shared_part};
 use crate::placed::Placed;
 use crate::square::Square;
@@ -22,6 +23,7 @@ use crate::visit::visit_part;
 use crate::visitor::Visitor;
 use grid_exact::{Area, NoMemory, Point, Steps};
 use ordered_tree::OrderedTree;
+use outline_boxes::Spot;
 use std::alloc::Global;
 use std::marker::Model;
 use std::sync::Arc;
@@ -72,25 +74,34 @@ fn cleared_root<T: Placed + Drop>(
     }
 }
 
-/// Whether the item has this area.
-fn has_area<T: Placed>(item: &T, area: &Area) -> bool
-    ensures { IsTrue result ↔ (T.area_of item.now ≡ area.now) }
+/// Whether the item's area lies in this one, and squares of one size hold both.
+fn lies_in<T: Placed>(item: &T, area: &Area, level: u32) -> bool
+    requires placed { IsPlaced (T.area_of item.now) }
+    requires level { level ≡ cell_level area.now }
+    ensures { IsTrue result → LiesIn (T.area_of item.now) area.now }
 {
-    item.area() == *area
+    let inner = item.area();
+    let area = *area;
+    (level_for(&inner) == level)
+        & (area.x0 <= inner.x0)
+        & (inner.x1 <= area.x1)
+        & (area.y0 <= inner.y0)
+        & (inner.y1 <= area.y1)
 }
 
-/// Whether no item was found under a key, or one with this area.
-fn stays_there<T: Placed + Drop>(old: Option<&Arc<T>>, area: &Area) -> bool
-    ensures { IsTrue result ↔ ((i : T) → option_map arc_value (option_copied old.entry) ≡ Some i → T.area_of i ≡ area.now) }
+/// Whether no item was found under a key, or one whose squares all hold the area of the edit too.
+fn is_covered<T: Placed + Drop>(old: Option<&Arc<T>>, edit: &Edit<T>) -> bool
+    requires { (i : T) → option_map arc_value (option_copied old) ≡ Some i → IsPlaced (T.area_of i) }
+    ensures { IsTrue result → (i : T) → option_map arc_value (option_copied old.entry) ≡ Some i → LiesIn (T.area_of i) edit.now.area }
 {
     match old {
         None => true,
-        Some(old) => has_area::<T>(old, area),
+        Some(old) => lies_in::<T>(old, &edit.area, edit.level),
     }
 }
 
-/// The squares with the item instead of the one that was found under its key. Where that one has the same area, each square that
-/// holds it is copied once; else the squares are cleared of it first.
+/// The squares with the item instead of the one that was found under its key. Where the new area covers that of the old item, as it does
+/// where an airport is given a runway, each square that holds it is copied once; else the squares are cleared of the old item first.
 fn replaced_root<T: Placed + Drop>(
     alloc: Global,
     root: &Part<T>,
@@ -102,7 +113,7 @@ fn replaced_root<T: Placed + Drop>(
     ensures { IfOk result (λ q. (items : List T) → IsFound T.Key.cmp T.key_of (T.key_of (arc_value item)) (option_map arc_value (option_copied old.entry)) items → RootHolds T.area_of items root.now → RootHolds T.area_of (put_by T.Key.cmp T.key_of (arc_value item) items) q) }
 {
     let edit = Edit::put(item);
-    if stays_there(old, &edit.area) {
+    if is_covered(old, &edit) {
         return changed_root(alloc, root, &edit);
     }
     let root = cleared_root(alloc, root, edit.key, old)?;
@@ -174,11 +185,10 @@ impl<T: Placed + Drop> Tree<T> {
         Ok(Tree { root, by_key })
     }
 
-    /// Has the visitor see each item whose area has the point, once, and no other. It is not shown those that it passes over, in which it has
-    /// nothing to see. It takes no memory.
+    /// Gives the visitor each item whose area has the point, once, and no other. It takes no memory.
     ///
     /// The items come in the order of their keys where squares of one size hold them all, as they do areas with an extent above
-    /// 131,072 tenths of a foot. Otherwise those of larger squares come first.
+    /// 262,144 tenths of a foot. Otherwise those of larger squares come first.
     ///
     /// A step is counted for each square, of which there is at most one of each level, and for each item that is looked at.
     pub fn visit<L: Ledger, W: Visitor<T>>(&self, x: &Point, visitor: &mut W, steps: &mut Steps<L>)
@@ -187,6 +197,7 @@ impl<T: Placed + Drop> Tree<T> {
         ensures close { steps.new ≤ steps.old + (TOP_LEVEL + 1) + count_by (λ i. close_area x.now (T.area_of i)) self.now }
         ensures cost { steps.new ≤ steps.old + (TOP_LEVEL + 1) + count_by (λ i. near_area x.now (T.area_of i)) self.now }
     {
-        visit_part(&self.root, &Square::whole(), x, visitor, steps);
+        let spot = Spot::of(x);
+        visit_part(&self.root, &Square::whole(), &spot, visitor, steps);
     }
 }

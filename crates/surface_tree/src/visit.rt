@@ -6,15 +6,17 @@ ghost use Rattle.grid_exact.specs.Area.{has_point};
 ghost use Rattle.grid_exact.specs.declared.area.Area.{Area};
 ghost use Rattle.surface_tree.specs.declared.entry.Entry.{Entry};
 ghost use Rattle.surface_tree.specs.declared.visit.TheConstants.{BLOCK};
-ghost use Rattle.surface_tree.specs.Parts.{CellHolds, PartHolds, box_of, item_of};
-ghost use Rattle.surface_tree.specs.Visits.{HasPoint, PassesOver, SeesMore, hits, looks};
+ghost use Rattle.outline_boxes.specs.Bounds.{box_of};
+ghost use Rattle.surface_tree.specs.Parts.{CellHolds, PartHolds, item_of};
+ghost use Rattle.surface_tree.specs.Visits.{HasPoint, SeesMore, hits, looks};
 
 use crate::entry::Entry;
 use crate::part::{Cell, Part};
 use crate::placed::Placed;
 use crate::square::Square;
 use crate::visitor::Visitor;
-use grid_exact::{Point, Steps};
+use grid_exact::Steps;
+use outline_boxes::Spot;
 use std::sync::ledger::Ledger;
 
 /// How many entries are looked at before items are given; their places fit into bytes.
@@ -26,7 +28,7 @@ pub(crate) const BLOCK: usize = 256;
 /// that a branch would often be guessed wrong, and a visit took twice as long with one.
 fn pick<T: Drop, L: Ledger>(
     entries: &[Entry<T>],
-    x: &Point,
+    x: &Spot,
     picks: &mut [u8; BLOCK],
     steps: &mut Steps<L>,
 ) -> usize
@@ -45,27 +47,6 @@ fn pick<T: Drop, L: Ledger>(
     count
 }
 
-/// Writes those of the places whose items the visitor is to be shown into `wanted`, and tells how many there are. It takes no branch, as `pick`.
-fn sift<T: Placed + Drop, W: Visitor<T>>(
-    entries: &[Entry<T>],
-    picks: &[u8],
-    visitor: &W,
-    wanted: &mut [u8; BLOCK],
-) -> usize
-    requires few { length picks.now ≤ BLOCK }
-    requires within { All (λ i. i < length entries.now) picks.now }
-    ensures few { result ≤ length picks.now }
-    ensures within { All (λ i. i < length entries.now) (take result wanted.new) }
-    ensures passed { (d : Entry T) → PassesOver W.seen visitor.now (map (λ i. item_of (slice_index_or entries.now i d)) (take result wanted.new)) (map (λ i. item_of (slice_index_or entries.now i d)) picks.now) }
-{
-    let mut count = 0;
-    for pick in picks {
-        wanted[count] = *pick;
-        count += usize::from(!visitor.passes(&entries[*pick as usize].item));
-    }
-    count
-}
-
 /// Gives the visitor the items at these places.
 fn hand_out<T: Placed + Drop, W: Visitor<T>>(entries: &[Entry<T>], picks: &[u8], visitor: &mut W)
     requires within { All (λ i. i < length entries.now) picks.now }
@@ -79,7 +60,7 @@ fn hand_out<T: Placed + Drop, W: Visitor<T>>(entries: &[Entry<T>], picks: &[u8],
 /// Gives the visitor those of a few items whose areas have the point.
 fn visit_block<T: Placed + Drop, L: Ledger, W: Visitor<T>>(
     entries: &[Entry<T>],
-    x: &Point,
+    x: &Spot,
     visitor: &mut W,
     steps: &mut Steps<L>,
 )
@@ -90,16 +71,14 @@ fn visit_block<T: Placed + Drop, L: Ledger, W: Visitor<T>>(
 {
     let mut picks = [0; BLOCK];
     let count = pick(entries, x, &mut picks, steps);
-    let mut wanted = [0; BLOCK];
-    let count = sift(entries, &picks[..count], visitor, &mut wanted);
-    hand_out(entries, &wanted[..count], visitor);
+    hand_out(entries, &picks[..count], visitor);
 }
 
 /// Gives the visitor those of the items whose areas have the point.
 #[cycle(entries)]
 fn visit_entries<T: Placed + Drop, L: Ledger, W: Visitor<T>>(
     entries: &[Entry<T>],
-    x: &Point,
+    x: &Spot,
     visitor: &mut W,
     steps: &mut Steps<L>,
 )
@@ -121,7 +100,7 @@ fn visit_entries<T: Placed + Drop, L: Ledger, W: Visitor<T>>(
 /// The quarter of a square that the point lies in, and what stands there. It is found apart from the visit of it, so that a processor can
 /// choose it without a branch: which quarter it is, it would often guess wrong.
 #[inline(always)]
-fn quarter_over<'a, T: Drop>(cell: &'a Cell<T>, square: &Square, x: &Point) -> (&'a Part<T>, Square)
+fn quarter_over<'a, T: Drop>(cell: &'a Cell<T>, square: &Square, x: &Spot) -> (&'a Part<T>, Square)
     requires deep { 0 < square.now.level }
     ensures level { result.1.level ≡ square.now.level - 1 }
     ensures point { HasPoint square.now x.now → HasPoint result.1 x.now }
@@ -146,7 +125,7 @@ fn quarter_over<'a, T: Drop>(cell: &'a Cell<T>, square: &Square, x: &Point) -> (
 pub(crate) fn visit_part<T: Placed + Drop, L: Ledger, W: Visitor<T>>(
     part: &Part<T>,
     square: &Square,
-    x: &Point,
+    x: &Spot,
     visitor: &mut W,
     steps: &mut Steps<L>,
 )
@@ -163,7 +142,7 @@ pub(crate) fn visit_part<T: Placed + Drop, L: Ledger, W: Visitor<T>>(
 fn visit_cell<T: Placed + Drop, L: Ledger, W: Visitor<T>>(
     cell: &Cell<T>,
     square: &Square,
-    x: &Point,
+    x: &Spot,
     visitor: &mut W,
     steps: &mut Steps<L>,
 )

@@ -3,21 +3,21 @@ use Rattle.std.specs.Arc.{arc_value}
 use Rattle.std.proofs.lemmas.Result.{IfOk-weaker}
 use Rattle.ordered_list.specs.Ordered.{removed_by}
 use Rattle.ordered_tree.proofs.Order.{put_removed}
-use Rattle.surface_tree.proofs.Wholes.{fits_new, fits_same}
+use Rattle.surface_tree.proofs.Wholes.{fits_new, fits_covered}
 use Rattle.surface_tree.proofs.tree.replaced_root.Goals as goal
 
-pub returns-then-stays_there : goal.returns-then-stays_there
-returns-then-stays_there g c =
+pub returns-then-is_covered : goal.returns-then-is_covered
+returns-then-is_covered g c =
     let cmp = g.T.Key.Ord.cmp in
     let total = g.met.T.Key.Ord.total in
     let key = g.T.Placed.key_of in
     let area = g.T.Placed.area_of in
     let x = arc_value c.args.item in
     let e = c.put-edit.ensures in
-    let there = c.stays_there.ensures.0 c.if-stays_there.true in
+    let there = c.is_covered.ensures c.if-is_covered.true in
     IfOk-weaker c.changed_root.result _ _
     (λ q h. λ items f r.
-    let new = h items (rw (e.key, e.area, e.item) (fits_same cmp total key area x items f.0 (λ i o. there i (f.1 ∙ o) ∙ e.area))) r in
+    let new = h items (rw (e.key, e.area, e.item) (fits_covered cmp total key area x items f.0 (λ i o. rw e.area at (there i (f.1 ∙ o))))) r in
     rw (e.key, e.item) at new)
     c.changed_root.ensures
 

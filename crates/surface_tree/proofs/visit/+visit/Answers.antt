@@ -1,7 +1,5 @@
-use Rattle.std.proofs.Common.{◌≡◌, ◌+◌, length, ◌<◌, arith, sym, ◌∙◌, subst}
+use Rattle.std.proofs.Common.{◌≡◌, ◌+◌, length, ◌<◌, arith, subst}
 use Rattle.std.proofs.lemmas.List.{append-nil}
-use Rattle.surface_tree.specs.Squares.{IsIn}
-use Rattle.surface_tree.specs.Parts.{Holds}
 use Rattle.surface_tree.proofs.Visits.{bare_none, own_seen, hits_least, hits_more, cost_more, cost_least}
 use Rattle.surface_tree.proofs.visit.+visit.Goals as goal
 

@@ -3,7 +3,7 @@ use Rattle.std.proofs.lemmas.Bool.{cases_Bool}
 use Rattle.std.proofs.lemmas.List.{take_all, length-set}
 use Rattle.grid_exact.specs.Area.{has_point}
 use Rattle.surface_tree.specs.declared.entry.Entry.{Entry}
-use Rattle.surface_tree.specs.Parts.{box_of}
+use Rattle.outline_boxes.specs.Bounds.{box_of}
 use Rattle.surface_tree.proofs.Picks.{pick_more}
 use Rattle.surface_tree.proofs.visit.pick.Goals as goal
 

@@ -2,7 +2,7 @@ use Rattle.std.proofs.Common.{◌≡◌, ◌+◌, ◌≤◌, ◌<◌, map, take,
 use Rattle.std.specs.List.{filter, All}
 use Rattle.grid_exact.specs.Area.{has_point}
 use Rattle.surface_tree.specs.declared.entry.Entry.{Entry}
-use Rattle.surface_tree.specs.Parts.{box_of}
+use Rattle.outline_boxes.specs.Bounds.{box_of}
 use Rattle.surface_tree.proofs.visit.pick.Given as goal
 
 abbrev pub invariant-loop-i : goal.invariant-loop-i

@@ -4,7 +4,7 @@ use Rattle.std.specs.Option.{MatchOption}
 use Rattle.grid_exact.specs.declared.area.Area.{Area}
 use Rattle.grid_exact.specs.declared.point.Point.{Point}
 use Rattle.height_rules.specs.NearAreas.{HasLimit, IsNearArea}
-use Rattle.surface_tree.specs.Parts.{box_of}
+use Rattle.outline_boxes.specs.Bounds.{box_of}
 use Rattle.airfield_findings.specs.StripLists.{runways_of}
 use Rattle.airfield_findings.specs.Reaches.{IsOver}
 use Rattle.airfields.specs.declared.runway.Runway.{Runway}

@@ -2,10 +2,14 @@
 
 ghost use Rattle.std.specs.Prelude.{◌≡◌, ◌↔◌, ◌&&◌, int_le, ◌≤ℤ◌, neg_ℤ, IsTrue};
 ghost use Rattle.grid_exact.specs.Area.{Has, has_point};
-ghost use Rattle.surface_tree.specs.Levels.{IsInPlane};
-ghost use Rattle.surface_tree.specs.declared.square.TheConstants.{PLANE_LIMIT};
+ghost use Rattle.outline_boxes.specs.Bounds.{IsInPlane};
+ghost use Rattle.outline_boxes.specs.declared.bounds.TheConstants.{PLANE_LIMIT};
 
-use grid_exact::{Area, Point};
+use crate::spot::Spot;
+use grid_exact::Area;
+
+/// The coordinates of short boxes go from `-PLANE_LIMIT` to `PLANE_LIMIT`: a plane that has all points of the grid, and more.
+pub const PLANE_LIMIT: i64 = 33_554_432;
 
 /// An area in 16 bytes, half as many as `Area` takes: a visit reads one of them for each item of its squares, and most of its time
 /// goes into reading.
@@ -20,7 +24,7 @@ pub struct Bounds {
     opposite_y1: i32,
 }
 
-/// A coordinate of the tree's plane.
+/// A coordinate of the plane.
 fn narrow(coordinate: i64) -> i32
     requires low { neg_ℤ PLANE_LIMIT ≤ℤ coordinate }
     requires high { coordinate ≤ℤ PLANE_LIMIT }
@@ -31,7 +35,7 @@ fn narrow(coordinate: i64) -> i32
     coordinate as i32
 }
 
-/// The opposite of a coordinate of the tree's plane.
+/// The opposite of a coordinate of the plane.
 #[tactic(auto, using(std::proofs::lemmas::Int::ints))]
 fn opposite(coordinate: i32) -> i32
     requires low { neg_ℤ PLANE_LIMIT ≤ℤ coordinate }
@@ -51,19 +55,18 @@ fn opposite_end(coordinate: i64) -> i32
     opposite(narrow(coordinate))
 }
 
-/// Whether the coordinate lies from `low` to the end that has this opposite. It takes no branch, which most points would have the
+/// Whether a coordinate lies from `low` to the end that has this opposite. It takes no branch, which most points would have the
 /// processor guess wrong.
-#[tactic(auto, using(crate::proofs::Sides::opposites))]
-fn is_between(low: i32, coordinate: i32, opposite_high: i32) -> bool
-    requires low { neg_ℤ PLANE_LIMIT ≤ℤ coordinate }
-    requires high { coordinate ≤ℤ PLANE_LIMIT }
+#[tactic(auto, using(crate::proofs::Opposites::opposites))]
+fn is_between(low: i32, coordinate: i32, opposite_high: i32, opposite_coordinate: i32) -> bool
+    requires { opposite_coordinate ≡ neg_ℤ coordinate }
     ensures { result ≡ int_le low coordinate && int_le coordinate (neg_ℤ opposite_high) }
 {
-    (low <= coordinate) & (opposite_high <= opposite(coordinate))
+    (low <= coordinate) & (opposite_high <= opposite_coordinate)
 }
 
 impl Bounds {
-    ghost use Rattle.surface_tree.specs.Parts.{box_of};
+    ghost use Rattle.outline_boxes.specs.Bounds.{box_of};
 
     /// Those of an area, whose ends need not be in order; it then has no points.
     ///
@@ -94,11 +97,11 @@ impl Bounds {
 
     /// Whether the area has the point. It takes no branch.
     #[inline(always)]
-    pub fn has(&self, point: &Point) -> bool
-        ensures test { result ≡ has_point (box_of self.now) point.now }
-        ensures inside { IsTrue result ↔ Has (box_of self.now) point.now }
+    pub fn has(&self, spot: &Spot) -> bool
+        ensures test { result ≡ has_point (box_of self.now) spot.now }
+        ensures inside { IsTrue result ↔ Has (box_of self.now) spot.now }
     {
-        is_between(self.x0, narrow(point.x), self.opposite_x1)
-            & is_between(self.y0, narrow(point.y), self.opposite_y1)
+        is_between(self.x0, spot.x, self.opposite_x1, spot.opposite_x)
+            & is_between(self.y0, spot.y, self.opposite_y1, spot.opposite_y)
     }
 }
