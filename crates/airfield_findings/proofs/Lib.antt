@@ -5,4 +5,3 @@ pub mod SlopeFacts
 pub mod ReachFacts
 pub mod Counts
 pub mod PlaceFacts
-pub mod BoundsFacts

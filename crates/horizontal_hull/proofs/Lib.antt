@@ -15,6 +15,5 @@ pub mod Beside
 pub mod Sights
 pub mod SightSizes
 pub mod Abreast
-pub mod BoxFacts
 pub mod PairFacts
 pub mod OrderFacts

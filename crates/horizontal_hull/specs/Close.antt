@@ -5,7 +5,6 @@ use Rattle.grid_exact.specs.Area.{Has}
 use Rattle.grid_exact.specs.declared.area.Area.{Area}
 use Rattle.grid_exact.specs.declared.point.Point.{Point}
 use Rattle.horizontal_hull.specs.declared.edge.Edge.{Edge}
-use Rattle.horizontal_hull.specs.declared.small_box.SmallBox.{SmallBox}
 use Rattle.horizontal_hull.specs.Arcs.{ArcShape}
 use Rattle.horizontal_hull.specs.Within.{Within}
 use Rattle.horizontal_hull.specs.declared.sizes.TheConstants.{ARC_MOST, BOX_REACH, CENTERS_APART, CENTER_REACH, CONICAL_RUN, POINT_APART}
@@ -22,10 +21,6 @@ pub record AreClose (arcs : List ArcShape) (x : Point) : Type 0 where
   pub near : All (IsNearReference arp) arcs
   pub x_size : unsigned_abs (x.x -ℤ arp.x) ≤ BOX_REACH
   pub y_size : unsigned_abs (x.y -ℤ arp.y) ≤ BOX_REACH
-
--- the box that is kept small
-abbrev pub box_of : SmallBox → Area
-box_of b = record { x0 = b.x0; y0 = b.y0; x1 = b.x1; y1 = b.y1 }
 
 -- a box that has each point of the grid over which a surface of the arcs lies, and none that is not close to them
 pub record IsOuter (arcs : List ArcShape) (box : Area) : Type 0 where

@@ -2,17 +2,17 @@
 
 ghost use Rattle.std.specs.Prelude.{◌≡◌, ◌<◌, ◌≤◌, [], length};
 ghost use Rattle.std.specs.Option.{MatchOption};
+ghost use Rattle.outline_boxes.specs.Bounds.{box_of};
 ghost use Rattle.outline_boxes.specs.Boxes.{IsLeastBox};
 ghost use Rattle.std.specs.List.{All};
 ghost use Rattle.grid_exact.specs.declared.point.Point.{Point};
 ghost use Rattle.horizontal_hull.specs.Areas.{AreHullAreas, HoldsDiscs, disc_box as disc_box_of};
-ghost use Rattle.horizontal_hull.specs.Close.{IsNearReference, IsOuter, box_of};
+ghost use Rattle.horizontal_hull.specs.Close.{IsNearReference, IsOuter};
 
 use crate::arc::Arc;
 use crate::sizes::CONICAL_RUN;
-use crate::small_box::SmallBox;
 use grid_exact::Area;
-use outline_boxes::joined;
+use outline_boxes::{Bounds, joined};
 
 /// The least boxes of the horizontal and the conical surface of an airport, 77.19(a) and (b): each holds the discs about the centers of all
 /// arcs, the conical one with all radii 4,000 feet greater.
@@ -62,11 +62,11 @@ pub(crate) fn areas(arcs: &[Arc]) -> Option<HullAreas>
 }
 
 /// The box outside which neither surface lies, kept small; it has no point without arcs.
-pub(crate) fn outer_box(arcs: &[Arc]) -> SmallBox
+pub(crate) fn outer_box(arcs: &[Arc]) -> Bounds
     ensures { (arp : Point) → All (IsNearReference arp) arcs.now → IsOuter arcs.now (box_of result) }
 {
     if arcs.is_empty() {
-        return SmallBox::nowhere();
+        return Bounds::nowhere();
     }
-    SmallBox::of(&least_box(arcs, CONICAL_RUN))
+    Bounds::on_grid(&least_box(arcs, CONICAL_RUN))
 }

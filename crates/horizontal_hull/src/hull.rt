@@ -19,11 +19,11 @@ use crate::areas::{HullAreas, areas, outer_box};
 use crate::edge::Edge;
 use crate::rise::least_rise;
 use crate::sizes::{CONICAL_RISE, CONICAL_RUN, CONICAL_SLOPE, HORIZONTAL_RISE};
-use crate::small_box::SmallBox;
 use crate::some::is_in_some_capsule;
 use crate::standing::Standing;
 use airfields::Airport;
 use grid_exact::{Cap, NoMemory, Point, flat_excess};
+use outline_boxes::{Bounds, Spot};
 use std::alloc::Global;
 use std::marker::Model;
 
@@ -35,14 +35,15 @@ use std::marker::Model;
 pub struct Hull {
     /// The box outside which neither surface lies. It stands first, since each structure asks for it, and for more only where it has the
     /// structure's point.
-    outer: SmallBox,
+    outer: Bounds,
     arcs: Arcs,
     level: i64,
 }
 
 impl Model for Hull {
     ghost use Rattle.horizontal_hull.specs.Arcs.{Dome};
-    ghost use Rattle.horizontal_hull.specs.Close.{IsHull, box_of};
+    ghost use Rattle.horizontal_hull.specs.Close.{IsHull};
+    ghost use Rattle.outline_boxes.specs.Bounds.{box_of};
 
     ghost Value = { Dome };
 
@@ -84,7 +85,7 @@ impl Hull {
         ensures close { IsTrue result → AreClose self.now.arcs x.now }
         ensures all { (edge : Edge) (c : ℕ) → c ≤ CONICAL_RUN → Within edge self.now.arcs x.now c → IsTrue result }
     {
-        self.outer.has(x)
+        self.outer.has(&Spot::of(x))
     }
 
     /// Whether a point is at most `c` beyond the arcs joined by their tangents, or less than `c` without the edge.

@@ -14,7 +14,6 @@ mod laws;
 mod rise;
 mod seen;
 mod sizes;
-mod small_box;
 mod some;
 mod standing;
 

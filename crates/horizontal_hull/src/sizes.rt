@@ -1,7 +1,7 @@
 //! The numbers of the horizontal and the conical surface, and how far apart what they are made of can be.
 
 use airfields::RUNWAY_REACH;
-use grid_exact::{COORDINATE_LIMIT, SETBACK};
+use grid_exact::SETBACK;
 use runway_classes::RADIUS_MOST;
 
 /// The horizontal surface is so far above the established airport elevation, in tenths of a foot: 150 feet (77.19(a)).
@@ -33,6 +33,3 @@ pub(crate) const BOX_REACH: u64 = CENTER_REACH + OUTER_MOST as u64;
 
 /// No point of their box is farther from a center in one coordinate.
 pub(crate) const POINT_APART: u64 = CENTERS_APART + OUTER_MOST as u64;
-
-/// Small boxes lie from `-PLANE_LIMIT` to `PLANE_LIMIT` in each coordinate: a box that begins there has no point of the grid.
-pub(crate) const PLANE_LIMIT: i64 = COORDINATE_LIMIT + 1;

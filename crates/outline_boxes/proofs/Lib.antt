@@ -4,3 +4,4 @@ pub mod Corners
 pub mod BoxFacts
 pub mod More
 pub mod Opposites
+pub mod KeptBoxes

@@ -1,7 +1,9 @@
 //! Areas in half the room.
 
 ghost use Rattle.std.specs.Prelude.{◌≡◌, ◌↔◌, ◌&&◌, int_le, ◌≤ℤ◌, neg_ℤ, IsTrue};
+ghost use Rattle.std.specs.Int.{int_max, int_min};
 ghost use Rattle.grid_exact.specs.Area.{Has, has_point};
+ghost use Rattle.grid_exact.specs.declared.point.Point.{Point as APoint};
 ghost use Rattle.outline_boxes.specs.Bounds.{IsInPlane};
 ghost use Rattle.outline_boxes.specs.declared.bounds.TheConstants.{PLANE_LIMIT};
 
@@ -22,6 +24,13 @@ pub struct Bounds {
     opposite_x1: i32,
     y0: i32,
     opposite_y1: i32,
+}
+
+/// The coordinate of the plane that is nearest to this one.
+fn nearest(coordinate: i64) -> i64
+    ensures { result ≡ int_min (int_max coordinate (neg_ℤ PLANE_LIMIT)) PLANE_LIMIT }
+{
+    coordinate.max(-PLANE_LIMIT).min(PLANE_LIMIT)
 }
 
 /// A coordinate of the plane.
@@ -81,6 +90,31 @@ impl Bounds {
             y0: narrow(area.y0),
             opposite_y1: opposite_end(area.y1),
         }
+    }
+
+    /// Those of an area with the same points of the grid as this one, which may reach out of the plane.
+    pub fn on_grid(area: &Area) -> Bounds
+        ensures { (x : APoint) → Has (box_of result) x ↔ Has area.now x }
+    {
+        let area = *area; // by value, since that tells that the coordinates are of type i64
+        Bounds::of(&Area {
+            x0: nearest(area.x0),
+            y0: nearest(area.y0),
+            x1: nearest(area.x1),
+            y1: nearest(area.y1),
+        })
+    }
+
+    /// Those of an area without points.
+    pub fn nowhere() -> Bounds
+        ensures { (x : APoint) → ¬ Has (box_of result) x }
+    {
+        Bounds::of(&Area {
+            x0: PLANE_LIMIT,
+            y0: PLANE_LIMIT,
+            x1: -PLANE_LIMIT,
+            y1: -PLANE_LIMIT,
+        })
     }
 
     /// The area.

@@ -8,4 +8,4 @@ returns-then-is_empty c =
     λ arp near. outer_nothing c.args.arcs.now _ none c.nowhere.ensures
 
 pub returns : goal.returns
-returns c = λ arp near. outer_least arp c.args.arcs.now c.least_box.result _ near c.least_box.ensures c.of.ensures
+returns c = λ arp near. outer_least arp c.args.arcs.now c.least_box.result _ near c.least_box.ensures c.on_grid.ensures

@@ -4,7 +4,8 @@ use Rattle.std.proofs.lemmas.Int.{ints}
 use Rattle.airfields.specs.Runways.{IsElevation}
 use Rattle.horizontal_hull.specs.Arcs.{ArcShape, Dome, arcs_of, dome_of}
 use Rattle.horizontal_hull.specs.declared.sizes.TheConstants.{HORIZONTAL_RISE}
-use Rattle.horizontal_hull.specs.Close.{IsNearReference, IsOuter, box_of}
+use Rattle.outline_boxes.specs.Bounds.{box_of}
+use Rattle.horizontal_hull.specs.Close.{IsNearReference, IsOuter}
 use Rattle.horizontal_hull.proofs.ArcFacts.{arcs_near}
 use Rattle.horizontal_hull.proofs.hull.Hull.of.Goals as goal
 

@@ -1,5 +1,5 @@
--- Boxes whose coordinates are kept within the plane of a tree.
-use Rattle.std.proofs.Common.{◌≡◌, ◌↔◌, ◌≤ℤ◌, ◌-ℤ◌, ℤ, pos, neg_ℤ, arith}
+-- Boxes whose coordinates are kept within the plane.
+use Rattle.std.proofs.Common.{◌≡◌, ◌↔◌, ◌≤ℤ◌, neg_ℤ, arith}
 use Rattle.std.specs.Int.{int_max, int_min}
 use Rattle.std.proofs.lemmas.Int.{ints, clamps}
 use Rattle.grid_exact.specs.Area.{Has}
