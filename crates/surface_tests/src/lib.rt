@@ -1,6 +1,8 @@
-//! Worked values of the surfaces of runways and heliports, of the hull, and of the tree that they stand in.
+//! Worked values of the surfaces of runways and heliports, of the hull, of boxes, and of the tree that they stand in.
 #![tactic(auto)]
 
+#[cfg(test)]
+mod bounds_tests;
 #[cfg(test)]
 mod hull_tests;
 #[cfg(test)]

@@ -262,6 +262,40 @@ fn another_area(rt: HostRuntime) -> Result<(), Fail> {
 }
 
 #[test]
+fn a_larger_area(rt: HostRuntime) -> Result<(), Fail> {
+    let two = two_plots(rt.alloc())?;
+    let large = Area {
+        x0: -300_000,
+        y0: -300_000,
+        x1: 300_000,
+        y1: 300_000,
+    };
+    let grown = with(rt.alloc(), &two, 7, &large)?;
+    let grown_again = with(
+        rt.alloc(),
+        &grown,
+        7,
+        &Area {
+            x1: 600_000,
+            ..large
+        },
+    )?;
+    let far = Point::new(550_000, -290_000)?;
+    assert_eq!(rt;
+        near(rt.alloc(), &grown_again)?.as_slice(),
+        [3, 7].as_slice()
+    );
+    assert_eq!(rt; seen(rt.alloc(), &grown, &far)?.len(), 0);
+    assert_eq!(rt;
+        seen(rt.alloc(), &grown_again, &far)?.as_slice(),
+        [7].as_slice()
+    );
+    let shrunk = with(rt.alloc(), &grown_again, 7, &large)?;
+    assert_eq!(rt; seen(rt.alloc(), &shrunk, &far)?.len(), 0);
+    Ok(())
+}
+
+#[test]
 fn taken_out(rt: HostRuntime) -> Result<(), Fail> {
     let two = two_plots(rt.alloc())?;
     let plot = Plot {
