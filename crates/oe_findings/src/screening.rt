@@ -17,12 +17,14 @@ use notice_slopes::exempt;
 use surface_tree::Visitor;
 
 /// What a structure exceeds over the airfields that were visited: the standards, and the notice rules that come behind all of them.
+///
+/// The flags stand last: between the others they would have a compiler copy the collectors in pieces that a processor waits for.
 #[derive(Drop)]
 pub(crate) struct Screening<C: Collector + Drop> {
     pub(crate) structure: Structure,
-    pub(crate) is_due: bool,
     pub(crate) standards: C,
     pub(crate) notices: C,
+    pub(crate) is_due: bool,
     pub(crate) refused: bool,
 }
 
