@@ -11,8 +11,7 @@ runways_more hull [] r all one h k = (one, [], k, refl, ap (λ zs. zs ++ one) h 
 runways_more hull (q ∷ rs) r all one h k =
     (h.0, h.1 ++ one, h.2, runways_more hull rs r h.1 one h.3 k, ap (λ zs. zs ++ one) h.4 ∙ append_assoc h.0 h.1 one)
 
-pub next_runway : (hull : Area) (runways : List Runway) (i : ℕ) (r : Runway) (start old one new : List Area) → i < length runways → r ≡ get_or runways i r → AreStripAreas r hull one → new ≡ old ++ one
-    → (more : List Area) × AreRunwayAreas hull (take i runways) more × (old ≡ start ++ more) → (more : List Area) × AreRunwayAreas hull (take (i + 1) runways) more × (new ≡ start ++ more)
-next_runway hull runways i r start old one new l e k n h =
+pub next_runway : (hull : Area) (runways : List Runway) (i : ℕ) (r : Runway) (all one : List Area) → i < length runways → r ≡ get_or runways i r → AreStripAreas r hull one → AreRunwayAreas hull (take i runways) all → AreRunwayAreas hull (take (i + 1) runways) (all ++ one)
+next_runway hull runways i r all one l e k h =
     let t : take (i + 1) runways ≡ take i runways ++ r ∷ [] = take_more runways i r l ∙ ap (λ z. take i runways ++ z ∷ []) (sym e) in
-    (h.0 ++ one, rw t (runways_more hull (take i runways) r h.0 one h.1 k), n ∙ ap (λ zs. zs ++ one) h.2 ∙ append_assoc start h.0 one)
+    rw t (runways_more hull (take i runways) r all one h k)

@@ -5,7 +5,9 @@ ghost use Rattle.std.specs.List.{list_any};
 ghost use Rattle.std.specs.Option.{option_to_list};
 ghost use Rattle.airfields.specs.Airfields.{IsHeld, IsHeldAirport, IsHeldHeliport};
 ghost use Rattle.grid_exact.specs.Area.{has_point};
+ghost use Rattle.airfields.specs.declared.airfield.Airfield.TheVariants.{Airport as AnAirport, Heliport as AHeliport};
 ghost use Rattle.airfield_areas.specs.Areas.{AreAirportAreas, AreAreas, AreHeliportAreas, AreSurfaceAreas};
+ghost use Rattle.airfield_areas.specs.Outside.{LeavesOut, LeavesSurfacesOut};
 
 use crate::runways::push_runways;
 use airfields::{Airfield, Airport, Heliport};
@@ -48,7 +50,7 @@ fn push_some(areas: &mut Vec<Area>, area: &Option<Area>) -> Result<(), NoMemory>
 /// runways.
 fn push_surfaces(alloc: Global, areas: &mut Vec<Area>, airport: &Airport) -> Result<(), NoMemory>
     requires held { IsHeldAirport airport.now }
-    ensures { OnOk result ((more : List Area) × AreSurfaceAreas airport.now more × (areas.new.items ≡ areas.old.items ++ more)) }
+    ensures { OnOk result ((more : List Area) × AreSurfaceAreas airport.now more × LeavesSurfacesOut airport.now more × (areas.new.items ≡ areas.old.items ++ more)) }
 {
     let hull = Hull::of(alloc, airport)?;
     let Some(surfaces) = hull.areas() else {
@@ -62,7 +64,8 @@ fn push_surfaces(alloc: Global, areas: &mut Vec<Area>, airport: &Airport) -> Res
 /// The areas of an airport.
 fn of_airport(alloc: Global, airport: &Airport) -> Result<Vec<Area>, NoMemory>
     requires held { IsHeldAirport airport.now }
-    ensures { IfOk result (λ l. AreAirportAreas airport.now l.items) }
+    ensures areas { IfOk result (λ l. AreAirportAreas airport.now l.items) }
+    ensures outside { IfOk result (λ l. LeavesOut (AnAirport airport.now) l.items) }
 {
     let mut areas = Vec::new(alloc);
     push_some(&mut areas, &near_area(airport))?;
@@ -74,7 +77,8 @@ fn of_airport(alloc: Global, airport: &Airport) -> Result<Vec<Area>, NoMemory>
 /// The areas of a heliport.
 fn of_heliport(alloc: Global, heliport: &Heliport) -> Result<Vec<Area>, NoMemory>
     requires held { IsHeldHeliport heliport.now }
-    ensures { IfOk result (λ l. AreHeliportAreas heliport.now l.items) }
+    ensures areas { IfOk result (λ l. AreHeliportAreas heliport.now l.items) }
+    ensures outside { IfOk result (λ l. LeavesOut (AHeliport heliport.now) l.items) }
 {
     if !heliport.category.described() {
         return Ok(Vec::new(alloc));
@@ -83,14 +87,16 @@ fn of_heliport(alloc: Global, heliport: &Heliport) -> Result<Vec<Area>, NoMemory
 }
 
 impl AreaList {
-    /// The areas of an airfield that keeps the limits of a register.
+    /// The areas of an airfield that keeps the limits of a register. The airfield gives no entry for a structure at a point that none of
+    /// them has.
     ///
     /// # Errors
     ///
     /// `NoMemory` where memory was refused.
     pub fn of(alloc: Global, a: &Airfield) -> Result<AreaList, NoMemory>
         requires held { IsHeld a.now }
-        ensures { IfOk result (λ l. AreAreas a.now l) }
+        ensures areas { IfOk result (λ l. AreAreas a.now l) }
+        ensures outside { IfOk result (λ l. LeavesOut a.now l) }
     {
         let areas = match a {
             Airfield::Airport(airport) => of_airport(alloc, airport)?,

@@ -5,6 +5,7 @@ ghost use Rattle.std.specs.List.{All};
 ghost use Rattle.airfields.specs.Runways.{IsProper};
 ghost use Rattle.grid_exact.specs.declared.area.Area.{Area as AnArea};
 ghost use Rattle.airfield_areas.specs.Areas.{AreRunwayAreas};
+ghost use Rattle.airfield_areas.specs.Outside.{LeavesRunwaysOut};
 
 use airfields::Runway;
 use grid_exact::{Area, NoMemory};
@@ -18,7 +19,7 @@ pub(crate) fn push_runways(
     hull: &Area,
 ) -> Result<(), NoMemory>
     requires proper { All IsProper runways.now }
-    ensures { OnOk result ((more : List AnArea) × AreRunwayAreas hull.now runways.now more × (areas.new.items ≡ areas.old.items ++ more)) }
+    ensures { OnOk result ((more : List AnArea) × AreRunwayAreas hull.now runways.now more × LeavesRunwaysOut hull.now runways.now more × (areas.new.items ≡ areas.old.items ++ more)) }
 {
     for runway in runways {
         areas.extend_from_slice(&Strip::of(runway).areas(hull))?;
