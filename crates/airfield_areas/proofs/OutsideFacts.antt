@@ -1,12 +1,11 @@
 -- A point that no area of an airfield has.
-use Rattle.std.proofs.Common.{◌≡◌, ℕ, ℤ, ◌+◌, ◌<◌, List, [], ◌∷◌, ◌++◌, length, Option, Some, None, Bool, true, false, if◌then◌else◌, refl, subst, arith, take, get_or, sym, ap, ◌∙◌}
+use Rattle.std.proofs.Common.{◌≡◌, ℕ, ℤ, ◌+◌, ◌<◌, List, [], ◌∷◌, ◌++◌, length, Option, Some, None, false, refl, subst, arith, take, get_or, sym, ap, ◌∙◌}
 use Rattle.std.specs.List.{All, flat_map}
 use Rattle.std.specs.Option.{IsSomeAnd, option_to_list}
-use Rattle.std.proofs.lemmas.List.Elements.{All-nil, All-head, All-tail, All-cons}
+use Rattle.std.proofs.lemmas.List.Elements.{All-head, All-tail}
 use Rattle.std.proofs.lemmas.Grind.{flat_map-append}
 use Rattle.std.proofs.lemmas.List.{take_more}
 use Rattle.grid_exact.specs.Area.{Has}
-use Rattle.grid_exact.specs.Excess.{Surface, IsExcess}
 use Rattle.grid_exact.specs.Level.{IsLevel}
 use Rattle.grid_exact.specs.declared.area.Area.{Area}
 use Rattle.grid_exact.specs.declared.cap.Cap.{Cap}
@@ -26,20 +25,12 @@ use Rattle.horizontal_hull.specs.Within.{horizontal, conical, horizontal_excess,
 use Rattle.horizontal_hull.specs.declared.areas.HullAreas.{HullAreas}
 use Rattle.horizontal_hull.proofs.Listed.{horizontal_law, conical_law, cap_law}
 use Rattle.imaginary_surfaces.specs.Areas.{HullHas, SkipsIn, in_order}
-use Rattle.heliport_surfaces.specs.Areas.{SkipsIn as PadSkips, in_order as pad_order}
-use Rattle.heliport_surfaces.specs.Pads.{pad_primary_excess, pad_approach_excess, pad_transition_excess, pad_notice_excess}
+use Rattle.heliport_surfaces.specs.Areas.{SkipsIn as PadSkips}
 use Rattle.runway_notice.specs.Notices.{notice_slope}
-use Rattle.airfield_findings.specs.Entries.{of_runway, of_runways, of_pad}
-use Rattle.airfield_findings.specs.declared.finding.Finding.{Finding}
+use Rattle.airfield_findings.specs.Entries.{of_runway, of_runways}
+use Rattle.airfield_reach.proofs.Joins.{left, right}
+use Rattle.airfield_findings.proofs.ReachFacts.{not_civil_or, nothing, pad_none, pad_slope_none, undescribed_slope, undescribed_standards}
 use Rattle.airfield_areas.specs.Outside.{IsOutside, LeavesRunwaysOut, LeavesSurfacesOut, LeavesOut}
-
-left : {X : Type 0} (P : X → Type 0) (xs ys : List X) → All P (xs ++ ys) → All P xs
-left P [] ys h = All-nil P
-left P (x ∷ xs) ys h = All-cons P x xs (All-head P x (xs ++ ys) h) (left P xs ys (All-tail P x (xs ++ ys) h))
-
-right : {X : Type 0} (P : X → Type 0) (xs ys : List X) → All P (xs ++ ys) → All P ys
-right P [] ys h = h
-right P (x ∷ xs) ys h = right P xs ys (All-tail P x (xs ++ ys) h)
 
 -- ---- runways
 runway_outside : (r : Runway) (areas : List Area) (id : List ℕ) (x : Point) (top : ℤ) (cap : Cap) → SkipsIn r x top cap areas → IsOutside areas x → of_runway id x top cap r ≡ []
@@ -69,14 +60,6 @@ next_left_out hull runways i r old one l e skips h id x top cap level has n =
     rw (t, flat_map-append f (take i runways) (r ∷ []), before) last
 
 -- ---- the surfaces of 77.19
-nothing : (s : Surface) (top : ℤ) (o : Option ℕ) → IsExcess s top o → ¬ s.Covers → o ≡ None
-nothing s top None h k = refl
-nothing s top (Some e) h k = absurd (k h.covers)
-
-not_civil_or : (b : Bool) (xs : List Finding) → xs ≡ [] → (if b then xs else []) ≡ []
-not_civil_or true xs h = h
-not_civil_or false xs h = refl
-
 pub surfaces_left_out : (a : Airport) (areas : HullAreas) (more : List Area) → IsHeldAirport a → CoverHull (dome_of a) areas → LeavesRunwaysOut areas.conical a.runways more → LeavesSurfacesOut a (areas.horizontal ∷ areas.conical ∷ more)
 surfaces_left_out a areas more held covers reach x top level n =
     let d = dome_of a in
@@ -109,41 +92,13 @@ airport_left_out a near notice surfaces near_none surfaces_none notice_none = re
 }
 
 -- ---- a heliport
-pad_outside : (h : Heliport) (areas : List Area) (x : Point) (top : ℤ) → PadSkips h x top areas → IsOutside areas x → of_pad x top h ≡ []
-pad_outside h areas x top skips n =
-    let s = skips.seven in
-    let o : All (λ a. ¬ Has a x) (pad_order s) = subst (λ ys. All (λ a. ¬ Has a x) ys) skips.ordered n in
-    let k = skips.skips in
-    let o0 : ¬ Has s.primary x = o 0 s.primary (omega arith) in
-    let o1 : ¬ Has s.approach1 x = o 1 s.primary (omega arith) in
-    let o2 : ¬ Has s.approach2 x = o 2 s.primary (omega arith) in
-    let o3 : ¬ Has s.beside_primary x = o 3 s.primary (omega arith) in
-    let o4 : ¬ Has s.beside_approach1 x = o 4 s.primary (omega arith) in
-    let o5 : ¬ Has s.beside_approach2 x = o 5 s.primary (omega arith) in
-    rw (k.primary_none o0, k.approach1_none o1, k.approach2_none o2, k.beside_primary_none o3, k.beside_approach1_none o4, k.beside_approach2_none o5) refl
-
-pad_slope_outside : (h : Heliport) (areas : List Area) (x : Point) (top : ℤ) → PadSkips h x top areas → IsOutside areas x → pad_notice_excess h x top ≡ None
-pad_slope_outside h areas x top skips n =
-    let s = skips.seven in
-    let o : All (λ a. ¬ Has a x) (pad_order s) = subst (λ ys. All (λ a. ¬ Has a x) ys) skips.ordered n in
-    let o6 : ¬ Has s.notice x = o 6 s.primary (omega arith) in
-    skips.skips.notice_none o6
-
 pub heliport_left_out : (h : Heliport) (areas : List Area) → ((x : Point) (top : ℤ) → IsLevel top → PadSkips h x top areas) → LeavesOut (AHeliport h) areas
 heliport_left_out h areas skips = record {
-  standards = λ site levels n. pad_outside h areas site.at (standards_top site) (skips site.at (standards_top site) levels.standards_level) n;
-  slopes = λ site levels n. rw (pad_slope_outside h areas site.at (notice_top site) (skips site.at (notice_top site) levels.notice_level) n) refl;
+  standards = λ site levels n. pad_none h areas site.at (standards_top site) (skips site.at (standards_top site) levels.standards_level) n;
+  slopes = λ site levels n. rw (pad_slope_none h areas site.at (notice_top site) (skips site.at (notice_top site) levels.notice_level) n) refl;
 }
 
 -- one of no described category has no surfaces
-undescribed_standards : (h : Heliport) (x : Point) (top : ℤ) → is_described h.category ≡ false → of_pad x top h ≡ []
-unfolding pad_primary_excess pad_approach_excess pad_transition_excess
-undescribed_standards h x top e = rw e refl
-
-undescribed_slope : (h : Heliport) (x : Point) (top : ℤ) → is_described h.category ≡ false → pad_notice_excess h x top ≡ None
-unfolding pad_notice_excess
-undescribed_slope h x top e = rw e refl
-
 pub undescribed_left_out : (h : Heliport) (areas : List Area) → is_described h.category ≡ false → LeavesOut (AHeliport h) areas
 undescribed_left_out h areas e = record {
   standards = λ site levels n. undescribed_standards h site.at (standards_top site) e;

@@ -4,4 +4,4 @@ pub mod EntryFacts
 pub mod SlopeFacts
 pub mod ReachFacts
 pub mod Counts
-pub mod PlaceFacts
+pub mod Merges

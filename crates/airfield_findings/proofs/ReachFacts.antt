@@ -10,7 +10,7 @@ use Rattle.grid_exact.specs.declared.area.Area.{Area}
 use Rattle.grid_exact.specs.declared.cap.Cap.{Cap}
 use Rattle.grid_exact.specs.declared.point.Point.{Point}
 use Rattle.airfields.specs.Airfields.{IsHeldAirport}
-use Rattle.airfields.specs.Categories.{has_civil_surfaces}
+use Rattle.airfields.specs.Categories.{has_civil_surfaces, is_described}
 use Rattle.airfields.specs.declared.airfield.Airport.{Airport}
 use Rattle.airfields.specs.declared.runway.Runway.{Runway}
 use Rattle.outline_boxes.specs.Boxes.{Encloses, HoldsBoth, IsLeastBox}
@@ -26,7 +26,7 @@ use Rattle.horizontal_hull.proofs.Listed.{horizontal_law, conical_law, cap_law}
 use Rattle.imaginary_surfaces.specs.Areas.{HullHas, SkipsIn, in_order}
 use Rattle.airfields.specs.declared.airfield.Heliport.{Heliport}
 use Rattle.heliport_surfaces.specs.Areas.{SkipsIn as PadSkips, in_order as pad_order}
-use Rattle.heliport_surfaces.specs.Pads.{pad_notice_excess}
+use Rattle.heliport_surfaces.specs.Pads.{pad_approach_excess, pad_notice_excess, pad_primary_excess, pad_transition_excess}
 use Rattle.airfield_findings.specs.Entries.{of_pad, of_runway, of_runways, of_surfaces}
 use Rattle.airfield_findings.specs.Reaches.{IsRunwayReach}
 use Rattle.airfield_findings.specs.declared.finding.Finding.{Finding}
@@ -68,6 +68,10 @@ pub enclosed_next : (areas : List Area) (i : ℕ) (d old new : Area) → i < len
 enclosed_next areas i d old new l h j =
     All-more (λ b. Encloses new b) areas i d l (All-weaker (λ b. Encloses old b) (λ b. Encloses new b) (λ b k. Encloses_through new old b j.holds.first k) (take i areas) h) j.holds.second
 
+-- what encloses all boxes encloses their join so far, and the next one
+pub least_next : (areas : List Area) (i : ℕ) (d old new b : Area) → i < length areas → IsLeastBox (HoldsBoth old (get_or areas i d)) new → Encloses b old → All (λ t. Encloses b t) areas → Encloses b new
+least_next areas i d old new b l j h all = j.least b (record { first = h; second = all i d l })
+
 -- a box as far as several runways reach, and the next one
 pub runways_next : (hull : Area) (runways : List Runway) (i : ℕ) (r : Runway) (own old new : Area) → i < length runways → r ≡ get_or runways i r → All (λ q. IsRunwayReach hull q old) (take i runways) → IsRunwayReach hull r own
     → IsLeastBox (HoldsBoth old own) new → All (λ q. IsRunwayReach hull q new) (take (i + 1) runways)
@@ -76,7 +80,7 @@ runways_next hull runways i r own old new l e h k j =
     (subst (λ (q : Runway). IsRunwayReach hull q new) e (reach_more hull new own r j.holds.second k))
 
 -- ---- the surfaces of 77.19
-nothing : (s : Surface) (top : ℤ) (o : Option ℕ) → IsExcess s top o → ¬ s.Covers → o ≡ None
+pub nothing : (s : Surface) (top : ℤ) (o : Option ℕ) → IsExcess s top o → ¬ s.Covers → o ≡ None
 nothing s top None h k = refl
 nothing s top (Some e) h k = absurd (k h.covers)
 
@@ -85,7 +89,7 @@ no_runways id x top cap [] h = refl
 no_runways id x top cap (r ∷ rs) h =
     rw (All-head (λ q. of_runway id x top cap q ≡ []) r rs h) (no_runways id x top cap rs (All-tail (λ q. of_runway id x top cap q ≡ []) r rs h))
 
-not_civil_or : (b : Bool) (xs : List Finding) → xs ≡ [] → (if b then xs else []) ≡ []
+pub not_civil_or : (b : Bool) (xs : List Finding) → xs ≡ [] → (if b then xs else []) ≡ []
 not_civil_or true xs h = h
 not_civil_or false xs h = refl
 
@@ -133,29 +137,31 @@ surfaces_nowhere a x top held e level =
     rw (h1, h2, h3) refl
 
 -- ---- a heliport
-pub pad_none : (h : Heliport) (all : Area) (areas : List Area) (x : Point) (top : ℤ) → All (λ a. Encloses all a) areas → PadSkips h x top areas → ¬ Has all x → of_pad x top h ≡ []
-pad_none h all areas x top enclosed skips n =
+pub pad_none : (h : Heliport) (areas : List Area) (x : Point) (top : ℤ) → PadSkips h x top areas → All (λ a. ¬ Has a x) areas → of_pad x top h ≡ []
+pad_none h areas x top skips n =
     let s = skips.seven in
-    let e : All (λ a. Encloses all a) (pad_order s) = subst (λ ys. All (λ a. Encloses all a) ys) skips.ordered enclosed in
+    let o : All (λ a. ¬ Has a x) (pad_order s) = subst (λ ys. All (λ a. ¬ Has a x) ys) skips.ordered n in
     let k = skips.skips in
-    let e0 : Encloses all s.primary = e 0 s.primary (omega arith) in
-    let e1 : Encloses all s.approach1 = e 1 s.primary (omega arith) in
-    let e2 : Encloses all s.approach2 = e 2 s.primary (omega arith) in
-    let e3 : Encloses all s.beside_primary = e 3 s.primary (omega arith) in
-    let e4 : Encloses all s.beside_approach1 = e 4 s.primary (omega arith) in
-    let e5 : Encloses all s.beside_approach2 = e 5 s.primary (omega arith) in
-    rw (
-      k.primary_none (outside all s.primary x e0 n),
-      k.approach1_none (outside all s.approach1 x e1 n),
-      k.approach2_none (outside all s.approach2 x e2 n),
-      k.beside_primary_none (outside all s.beside_primary x e3 n),
-      k.beside_approach1_none (outside all s.beside_approach1 x e4 n),
-      k.beside_approach2_none (outside all s.beside_approach2 x e5 n),
-    ) refl
+    let o0 : ¬ Has s.primary x = o 0 s.primary (omega arith) in
+    let o1 : ¬ Has s.approach1 x = o 1 s.primary (omega arith) in
+    let o2 : ¬ Has s.approach2 x = o 2 s.primary (omega arith) in
+    let o3 : ¬ Has s.beside_primary x = o 3 s.primary (omega arith) in
+    let o4 : ¬ Has s.beside_approach1 x = o 4 s.primary (omega arith) in
+    let o5 : ¬ Has s.beside_approach2 x = o 5 s.primary (omega arith) in
+    rw (k.primary_none o0, k.approach1_none o1, k.approach2_none o2, k.beside_primary_none o3, k.beside_approach1_none o4, k.beside_approach2_none o5) refl
 
-pub pad_slope_none : (h : Heliport) (all : Area) (areas : List Area) (x : Point) (top : ℤ) → All (λ a. Encloses all a) areas → PadSkips h x top areas → ¬ Has all x → pad_notice_excess h x top ≡ None
-pad_slope_none h all areas x top enclosed skips n =
+pub pad_slope_none : (h : Heliport) (areas : List Area) (x : Point) (top : ℤ) → PadSkips h x top areas → All (λ a. ¬ Has a x) areas → pad_notice_excess h x top ≡ None
+pad_slope_none h areas x top skips n =
     let s = skips.seven in
-    let e : All (λ a. Encloses all a) (pad_order s) = subst (λ ys. All (λ a. Encloses all a) ys) skips.ordered enclosed in
-    let e6 : Encloses all s.notice = e 6 s.primary (omega arith) in
-    skips.skips.notice_none (outside all s.notice x e6 n)
+    let o : All (λ a. ¬ Has a x) (pad_order s) = subst (λ ys. All (λ a. ¬ Has a x) ys) skips.ordered n in
+    let o6 : ¬ Has s.notice x = o 6 s.primary (omega arith) in
+    skips.skips.notice_none o6
+
+-- one of no described category has no surfaces
+pub undescribed_standards : (h : Heliport) (x : Point) (top : ℤ) → is_described h.category ≡ false → of_pad x top h ≡ []
+unfolding pad_primary_excess pad_approach_excess pad_transition_excess
+undescribed_standards h x top e = rw e refl
+
+pub undescribed_slope : (h : Heliport) (x : Point) (top : ℤ) → is_described h.category ≡ false → pad_notice_excess h x top ≡ None
+unfolding pad_notice_excess
+undescribed_slope h x top e = rw e refl

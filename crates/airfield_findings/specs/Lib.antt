@@ -5,3 +5,4 @@ pub mod PreparedAirports
 pub mod Surfaces
 pub mod Prepared
 pub mod StripLists
+pub mod Orders

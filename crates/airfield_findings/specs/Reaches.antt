@@ -1,5 +1,5 @@
 -- How far an airfield reaches: where it stands among others, and outside of which boxes it gives no entry.
-use Rattle.std.specs.Prelude.{◌≡◌, ℕ, ℤ, List, [], false, Option, None, IsSomeAnd}
+use Rattle.std.specs.Prelude.{◌≡◌, ℕ, ℤ, List, [], false, Option, None}
 use Rattle.grid_exact.specs.Area.{Has, has_point}
 use Rattle.grid_exact.specs.Level.{IsLevel}
 use Rattle.grid_exact.specs.declared.area.Area.{Area}
@@ -14,8 +14,8 @@ use Rattle.height_rules.specs.NearAreas.{HasLimit}
 use Rattle.height_rules.specs.Heights.{notice_top, standards_top}
 use Rattle.runway_notice.specs.Notices.{notice_slope}
 use Rattle.imaginary_surfaces.specs.Areas.{HullHas}
-use Rattle.surface_tree.specs.Levels.{IsPlaced, cell_level}
-use Rattle.surface_tree.specs.declared.level.TheConstants.{MIDDLE_LEVEL}
+use Rattle.surface_tree.specs.declared.placed.Plot.{Plot}
+use Rattle.airfield_reach.specs.Plots.{IsOver, IsPlotOf}
 use Rattle.airfield_findings.specs.Entries.{of_airfield, of_runway, of_surfaces, slope_entries}
 
 -- both tops of a structure are levels
@@ -23,17 +23,11 @@ pub record HasLevels (site : Site) : Type 0 where
   pub standards_level : IsLevel (standards_top site)
   pub notice_level : IsLevel (notice_top site)
 
--- the area lies in the plane of a tree, whose squares of one size hold the areas of all airfields, and the airfield has no entry for a
--- structure outside of it
-pub record IsInPlace (area : Area) (f : Airfield) : Type 0 where
-  pub placed : IsPlaced area
-  pub level : cell_level area ≡ MIDDLE_LEVEL
-  pub standards : (site : Site) → HasLevels site → has_point area site.at ≡ false → of_airfield site f ≡ []
-  pub slopes : (site : Site) → HasLevels site → has_point area site.at ≡ false → slope_entries site f ≡ []
-
--- there is a box, and it has the point
-abbrev pub IsOver : Option Area → Point → Type 0
-IsOver area x = IsSomeAnd area (λ a. Has a x)
+-- the plot is the airfield's, and the airfield has no entry for a structure outside of its area
+pub record IsInPlace (plot : Plot) (f : Airfield) : Type 0 where
+  pub is_plot : IsPlotOf f plot
+  pub standards : (site : Site) → HasLevels site → has_point plot.area site.at ≡ false → of_airfield site f ≡ []
+  pub slopes : (site : Site) → HasLevels site → has_point plot.area site.at ≡ false → slope_entries site f ≡ []
 
 -- the boxes of the parts of an airport: 77.17(a)(2), which is there where the airport has that limit, 77.9(b), and the surfaces of 77.19
 pub record IsAirportReach (a : Airport) (near notice surfaces : Option Area) : Type 0 where

@@ -1,6 +1,8 @@
 //! Lists of findings.
 
-ghost use Rattle.std.specs.Prelude.{◌≡◌, ◌∷◌, ◌++◌, ◌↔◌, ◌<◌, [], length, vec_capacity, vec_len, slice_get, option_copied, IfOk, OnOk, OnErr, IsTrue};
+ghost use Rattle.std.specs.Prelude.{◌≡◌, ◌∷◌, ◌++◌, ◌↔◌, ◌<◌, ◌≤◌, List, [], length, insert, vec_capacity, vec_len, slice_get, option_copied, IfOk, OnOk, OnErr, IsTrue};
+ghost use Rattle.airfield_findings.specs.declared.finding.Finding.{Finding as AFinding};
+ghost use Rattle.airfield_findings.specs.Orders.{stays_before, put_in_order, merged};
 
 use crate::finding::Finding;
 use grid_exact::NoMemory;
@@ -36,6 +38,49 @@ fn see_to_room(items: &mut Vec<Finding>) -> Result<(), NoMemory>
         return Ok(());
     }
     make_room(items)
+}
+
+/// Whether `entry` stays before `finding` where this is put among others: it has no airfield, or one whose name is not greater.
+fn stays(entry: &Finding, finding: &Finding) -> bool
+    ensures { result ≡ stays_before entry.now finding.now }
+{
+    match (entry.key.field, finding.key.field) {
+        (None, _) => true,
+        (Some(_), None) => false,
+        (Some(first), Some(second)) => first.cmp(&second).is_le(),
+    }
+}
+
+/// Where `finding` is put among `items`: before the first of them that does not stay before it.
+fn place_among(items: &[Finding], finding: &Finding) -> usize
+    ensures within { result ≤ length items.now }
+    ensures place { insert items.now result finding.now ≡ put_in_order finding.now items.now }
+{
+    for (at, entry) in items.iter().enumerate() {
+        if !stays(entry, finding) {
+            return at;
+        }
+    }
+    items.len()
+}
+
+/// Puts `finding` in its place among `items`.
+fn put_among(items: &mut Vec<Finding>, finding: &Finding) -> Result<(), NoMemory>
+    ensures { OnOk result (items.new.items ≡ put_in_order finding.now items.old.items) }
+{
+    let at = place_among(items.as_slice(), finding);
+    items.insert(at, *finding)?;
+    Ok(())
+}
+
+/// Puts each of `more` in its place among `items`, one after another.
+fn put_all_among(items: &mut Vec<Finding>, more: &[Finding]) -> Result<(), NoMemory>
+    ensures { OnOk result (items.new.items ≡ merged items.old.items more.now) }
+{
+    for finding in more {
+        put_among(items, finding)?;
+    }
+    Ok(())
 }
 
 impl Model for Findings {
@@ -144,6 +189,22 @@ impl Findings {
             items,
             spare: rest.items,
         })
+    }
+
+    /// Puts the findings from a place on among those before it, by the names of their airfields.
+    ///
+    /// # Errors
+    ///
+    /// `NoMemory` where memory was refused.
+    pub fn settle_from(&mut self, from: usize) -> Result<(), NoMemory>
+        ensures { OnOk result ((list more : List AFinding) → from ≡ length list → self.old ≡ list ++ more → self.new ≡ merged list more) }
+    {
+        if from >= self.items.len() {
+            return Ok(());
+        }
+        let more = Vec::from_slice(*self.items.allocator(), &self.items[from..])?;
+        self.items.truncate(from);
+        put_all_among(&mut self.items, more.as_slice())
     }
 
     /// A copy.

@@ -1,22 +1,24 @@
 //! Airfields with their surfaces, prepared for many structures.
 
-ghost use Rattle.std.specs.Prelude.{◌≡◌, IfOk};
+ghost use Rattle.std.specs.Prelude.{◌≡◌, nat_eq, IfOk};
 ghost use Rattle.airfields.specs.Airfields.{IsHeld};
+ghost use Rattle.airfield_reach.specs.declared.plots.TheConstants.{SMALL_LEVEL};
 ghost use Rattle.airfield_findings.specs.Surfaces.{airfield_with};
 ghost use Rattle.airfield_findings.specs.Reaches.{IsInPlace};
 
 use crate::surfaces::Surfaces;
+use airfield_reach::SMALL_LEVEL;
 use airfields::{Airfield, FieldId};
-use grid_exact::{Area, NoMemory};
+use grid_exact::NoMemory;
 use std::alloc::Global;
-use surface_tree::Placed;
+use surface_tree::{Placed, Plot};
 
-/// An airfield with its surfaces, and an area outside of which it gives no findings.
+/// An airfield with its surfaces, and its plot, outside of whose area it gives no findings.
 #[derive(Drop)]
 pub struct Prepared {
     pub(crate) surfaces: Surfaces,
-    pub(crate) area: Area,
-    ghost in_place: { IsInPlace area (airfield_with surfaces) },
+    pub(crate) plot: Plot,
+    ghost in_place: { IsInPlace plot (airfield_with surfaces) },
 }
 
 impl Prepared {
@@ -29,27 +31,33 @@ impl Prepared {
         requires held { IsHeld airfield.now }
         ensures airfield { IfOk result (λ p. airfield_with p.surfaces ≡ airfield.now) }
     {
-        let surfaces = Surfaces::of(alloc, airfield)?;
-        Ok(Prepared {
-            area: surfaces.area(),
-            surfaces,
-        })
+        let (surfaces, plot) = Surfaces::of(alloc, airfield)?;
+        Ok(Prepared { surfaces, plot })
+    }
+
+    /// Whether the smaller squares hold its plot. A visit comes to such airfields last.
+    #[inline(always)]
+    pub fn is_small(&self) -> bool
+        ensures { result ≡ nat_eq self.now.plot.level SMALL_LEVEL }
+    {
+        self.plot.level == SMALL_LEVEL
     }
 }
 
-/// An airfield with its surfaces stands under its name, in the area outside of which it gives no findings.
+/// An airfield with its surfaces stands under its name, on its plot.
 impl Placed for Prepared {
     ghost use Rattle.airfields.specs.Airfields.{id_of};
+    ghost use Rattle.airfield_reach.specs.declared.plots.TheConstants.{SMALL_LEVEL};
     ghost use Rattle.airfield_findings.specs.Surfaces.{airfield_with};
 
     type Key = FieldId;
 
-    ghost area_of = { λ p. p.area };
+    ghost plot_of = { λ p. p.plot };
 
     ghost key_of = { λ p. id_of (airfield_with p.surfaces) };
 
-    fn area(&self) -> Area {
-        self.area
+    fn plot(&self) -> Plot {
+        self.plot
     }
 
     fn key(&self) -> FieldId {

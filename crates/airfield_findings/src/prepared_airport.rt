@@ -13,10 +13,11 @@ ghost use Rattle.airfield_findings.specs.Reaches.{IsInPlace};
 
 use crate::bounds::bounds_of;
 use crate::datum::Datum;
-use crate::reach::{place, surfaces_area};
+use crate::reach::surfaces_area;
 use crate::strips::Strips;
+use airfield_reach::airport_plot;
 use airfields::{Airport, Category, FieldId};
-use grid_exact::{Area, NoMemory, Point};
+use grid_exact::{NoMemory, Point};
 use height_rules::{Structure, excess_near_limited, near_area};
 use horizontal_hull::Hull;
 use imaginary_surfaces::Strip;
@@ -24,6 +25,7 @@ use outline_boxes::{Bounds, Spot};
 use runway_notice::{LoneRunway, Slope, excess_notice, notice_area};
 use std::alloc::Global;
 use std::marker::Model;
+use surface_tree::Plot;
 
 /// An airport with its surfaces; seen as the airport.
 #[derive(Drop)]
@@ -62,16 +64,21 @@ impl Model for PreparedAirport {
 }
 
 impl PreparedAirport {
-    /// The airport with its surfaces prepared.
-    pub fn of(alloc: Global, airport: &Airport) -> Result<PreparedAirport, NoMemory>
+    /// The airport with its surfaces prepared, and its plot.
+    pub fn of(alloc: Global, airport: &Airport) -> Result<(PreparedAirport, Plot), NoMemory>
         requires held { IsHeldAirport airport.now }
-        ensures airport { IfOk result (λ p. p ≡ airport.now) }
+        ensures airport { IfOk result (λ p. p.0 ≡ airport.now) }
+        ensures plot { IfOk result (λ p. IsInPlace p.1 (AnAirport airport.now)) }
     {
         let hull = Hull::of(alloc, airport)?;
         let strips = Strips::of(alloc, airport.runways.as_slice())?;
-        let near = bounds_of(&near_area(airport));
-        let surfaces = bounds_of(&surfaces_area(&hull, strips.as_slice()));
-        let notice = bounds_of(&notice_area(airport));
+        let near_box = near_area(airport);
+        let notice_box = notice_area(airport);
+        let surfaces_box = surfaces_area(&hull, strips.as_slice());
+        let plot = airport_plot(airport, &near_box, &notice_box, &surfaces_box);
+        let near = bounds_of(&near_box);
+        let notice = bounds_of(&notice_box);
+        let surfaces = bounds_of(&surfaces_box);
         let lone = LoneRunway::of(airport);
         let datum = Datum::of(&airport.arp, airport.elevation);
         let id = airport.id;
@@ -83,7 +90,7 @@ impl PreparedAirport {
             elevation: airport.elevation,
             runways: airport.runways.copy(alloc)?,
         };
-        Ok(PreparedAirport {
+        let prepared = PreparedAirport {
             near,
             surfaces,
             notice,
@@ -94,7 +101,8 @@ impl PreparedAirport {
             lone,
             strips,
             airport,
-        })
+        };
+        Ok((prepared, plot))
     }
 
     /// The airport.
@@ -176,17 +184,5 @@ impl PreparedAirport {
         ensures none { result ≡ false → (top : ℤ) → IsLevel top → of_surfaces spot.now top self.now ≡ [] }
     {
         self.surfaces.has(spot)
-    }
-
-    /// The area outside of which the airport gives no findings.
-    pub(crate) fn area(&self) -> Area
-        ensures { IsInPlace result (AnAirport self.now) }
-    {
-        place(
-            &self.airport.arp,
-            &Some(self.near.area()),
-            &Some(self.notice.area()),
-            &Some(self.surfaces.area()),
-        )
     }
 }

@@ -1,17 +1,18 @@
 //! The surfaces of an airfield.
 
 ghost use Rattle.std.specs.Prelude.{◌≡◌, IfOk};
-ghost use Rattle.airfields.specs.Airfields.{id_of, IsHeld};
+ghost use Rattle.airfields.specs.Airfields.{id_of, IsHeld, IsHeldHeliport};
 ghost use Rattle.airfields.specs.declared.airfield.Airfield.TheVariants.{Heliport as AHeliport};
 ghost use Rattle.airfield_findings.specs.Reaches.{IsInPlace};
 ghost use Rattle.airfield_findings.specs.Surfaces.{airfield_with};
 
 use crate::prepared_airport::PreparedAirport;
-use crate::reach::{joined_all, place};
-use airfields::{Airfield, FieldId};
-use grid_exact::{Area, NoMemory};
+use airfield_reach::heliport_plot;
+use airfields::{Airfield, FieldId, Heliport};
+use grid_exact::NoMemory;
 use heliport_surfaces::Pad;
 use std::alloc::Global;
+use surface_tree::Plot;
 
 /// The surfaces of an airfield.
 #[derive(Drop)]
@@ -21,16 +22,22 @@ pub(crate) enum Surfaces {
 }
 
 impl Surfaces {
-    /// The surfaces of an airfield.
-    pub(crate) fn of(alloc: Global, airfield: &Airfield) -> Result<Surfaces, NoMemory>
+    /// The surfaces of an airfield, and its plot.
+    pub(crate) fn of(alloc: Global, airfield: &Airfield) -> Result<(Surfaces, Plot), NoMemory>
         requires held { IsHeld airfield.now }
-        ensures airfield { IfOk result (λ s. airfield_with s ≡ airfield.now) }
+        ensures airfield { IfOk result (λ s. airfield_with s.0 ≡ airfield.now) }
+        ensures plot { IfOk result (λ s. IsInPlace s.1 airfield.now) }
     {
         match airfield {
             Airfield::Airport(airport) => {
-                Ok(Surfaces::Airport(PreparedAirport::of(alloc, airport)?))
+                let (prepared, plot) = PreparedAirport::of(alloc, airport)?;
+                Ok((Surfaces::Airport(prepared), plot))
             }
-            Airfield::Heliport(heliport) => Ok(Surfaces::Heliport(Pad::of(heliport))),
+            Airfield::Heliport(heliport) => {
+                let pad = Pad::of(heliport);
+                let plot = pad_plot(heliport, &pad);
+                Ok((Surfaces::Heliport(pad), plot))
+            }
         }
     }
 
@@ -43,22 +50,13 @@ impl Surfaces {
             Surfaces::Heliport(pad) => &pad.heliport().id,
         }
     }
-
-    /// The area outside of which the airfield gives no findings.
-    pub(crate) fn area(&self) -> Area
-        ensures { IsInPlace result (airfield_with self.now) }
-    {
-        match self {
-            Surfaces::Airport(prepared) => prepared.area(),
-            Surfaces::Heliport(pad) => pad_area(pad),
-        }
-    }
 }
 
-/// The area outside of which a heliport gives no findings.
-fn pad_area(pad: &Pad) -> Area
-    ensures { IsInPlace result (AHeliport pad.now) }
+/// The plot of a heliport with these surfaces.
+fn pad_plot(heliport: &Heliport, pad: &Pad) -> Plot
+    requires held { IsHeldHeliport heliport.now }
+    requires pad { pad.now ≡ heliport.now }
+    ensures { IsInPlace result (AHeliport heliport.now) }
 {
-    let all = joined_all(&pad.areas());
-    place(&pad.heliport().a, &None, &None, &Some(all))
+    heliport_plot(heliport, &pad.areas())
 }

@@ -9,5 +9,6 @@ mod screening;
 mod sky;
 mod surroundings;
 
+pub use airfield_areas::AreaList;
 pub use airfield_findings::{Finding, Findings, Rule, SurfaceKey, Verdict};
 pub use sky::Sky;

@@ -1,11 +1,14 @@
 //! The screening of a structure: what visits the airfields over its point.
 
-ghost use Rattle.std.specs.Prelude.{◌≡◌, ◌++◌, ◌∷◌, [], List, OnOk, OnErr, IfOk, IfErr, is_none, true, false, map};
-ghost use Rattle.airfields.specs.declared.airfield.Airfield.{Airfield as AnAirfield};
+ghost use Rattle.std.specs.Prelude.{◌≡◌, ◌++◌, ◌∷◌, [], List, OnOk, OnErr, IfOk, IfErr, is_none, true, false};
+ghost use Rattle.airfield_findings.specs.Entries.{of_airfield, slope_entries};
+ghost use Rattle.airfield_findings.specs.Orders.{merged};
 ghost use Rattle.airfield_findings.specs.Prepared.{airfield_of};
+ghost use Rattle.airfield_findings.specs.declared.finding.Finding.{Finding as AFinding};
+ghost use Rattle.airfield_findings.specs.declared.prepared.Prepared.{Prepared as APrepared};
 ghost use Rattle.notice_slopes.specs.Exemptions.{exemption_of};
 ghost use Rattle.oe_findings.specs.List.{findings_of};
-ghost use Rattle.oe_findings.specs.Screenings.{Gathers, HasSeen};
+ghost use Rattle.oe_findings.specs.Screenings.{HasGathered, HasSeen, Holds, slopes_by, standards_by};
 
 use crate::notices::{put_on_airfield, rule_a};
 use airfield_findings::{Collector, Prepared, Rule, no_field, put_airfield, put_entry, put_slope};
@@ -17,6 +20,7 @@ use notice_slopes::exempt;
 use surface_tree::Visitor;
 
 /// What a structure exceeds over the airfields that were visited: the standards, and the notice rules that come behind all of them.
+/// A visit shows the large airfields first, in order of name, and then the small ones, whose entries are put among those before.
 ///
 /// The flags stand last: between the others they would have a compiler copy the collectors in pieces that a processor waits for.
 #[derive(Drop)]
@@ -55,7 +59,7 @@ impl<C: Collector + Drop> Screening<C> {
         ensures same { self.new.structure ≡ self.old.structure }
         ensures due { self.new.is_due ≡ self.old.is_due }
         ensures going { self.new.refused ≡ self.old.refused }
-        ensures taken { OnOk result (Gathers C.taken self.old.structure self.old.is_due self.new.standards self.new.notices []) }
+        ensures taken { OnOk result (Holds C.taken self.old.is_due self.new.standards self.new.notices (standards_by self.old.structure []) (slopes_by self.old.structure [])) }
         ensures fails { OnErr result C.fails }
     {
         let filing = self.structure.filing();
@@ -84,19 +88,20 @@ impl<C: Collector + Drop> Screening<C> {
         requires notices { C.taken self.old.notices [] }
         ensures same { self.new.structure ≡ self.old.structure }
         ensures due { self.new.is_due ≡ self.old.is_due }
-        ensures seen { HasSeen C.taken C.fails self.old.structure self.old.is_due self.new.standards self.new.notices self.new.refused [] }
+        ensures seen { HasGathered C.taken C.fails self.old.structure self.old.is_due self.new.standards self.new.notices self.new.refused [] }
     {
         if self.put_heights().is_err() {
             self.refused = true;
         }
     }
 
-    /// Takes the entries of one airfield more.
-    fn put(&mut self, prepared: &Prepared) -> Result<(), NoMemory>
-        ensures same { (self.new.structure ≡ self.old.structure) }
+    /// Takes the entries of one large airfield more, which come behind those before.
+    #[inline(always)]
+    fn put_large(&mut self, prepared: &Prepared) -> Result<(), NoMemory>
+        ensures same { self.new.structure ≡ self.old.structure }
         ensures due { self.new.is_due ≡ self.old.is_due }
         ensures going { self.new.refused ≡ self.old.refused }
-        ensures taken { OnOk result ((airfields : List AnAirfield) → Gathers C.taken self.old.structure self.old.is_due self.old.standards self.old.notices airfields → Gathers C.taken self.new.structure self.new.is_due self.new.standards self.new.notices (airfields ++ airfield_of prepared.now ∷ [])) }
+        ensures taken { OnOk result ((standards notices : List AFinding) → Holds C.taken self.old.is_due self.old.standards self.old.notices standards notices → Holds C.taken self.new.is_due self.new.standards self.new.notices (standards ++ of_airfield self.old.structure (airfield_of prepared.now)) (notices ++ slope_entries self.old.structure (airfield_of prepared.now))) }
         ensures fails { OnErr result C.fails }
     {
         put_airfield(&mut self.standards, &self.structure, prepared)?;
@@ -104,6 +109,42 @@ impl<C: Collector + Drop> Screening<C> {
             put_slope(&mut self.notices, &self.structure, prepared)?;
         }
         Ok(())
+    }
+
+    /// Takes the entries of one small airfield more, which are put among those before by its name.
+    #[inline(never)]
+    fn put_small(&mut self, prepared: &Prepared) -> Result<(), NoMemory>
+        ensures same { self.new.structure ≡ self.old.structure }
+        ensures due { self.new.is_due ≡ self.old.is_due }
+        ensures going { self.new.refused ≡ self.old.refused }
+        ensures taken { OnOk result ((standards notices : List AFinding) → Holds C.taken self.old.is_due self.old.standards self.old.notices standards notices → Holds C.taken self.new.is_due self.new.standards self.new.notices (merged standards (of_airfield self.old.structure (airfield_of prepared.now))) (merged notices (slope_entries self.old.structure (airfield_of prepared.now)))) }
+        ensures fails { OnErr result C.fails }
+    {
+        let standards = self.standards.place();
+        put_airfield(&mut self.standards, &self.structure, prepared)?;
+        self.standards.settle(standards)?;
+        if self.is_due {
+            let notices = self.notices.place();
+            put_slope(&mut self.notices, &self.structure, prepared)?;
+            self.notices.settle(notices)?;
+        }
+        Ok(())
+    }
+
+    /// Takes the entries of one airfield more.
+    #[inline(always)]
+    fn put(&mut self, prepared: &Prepared) -> Result<(), NoMemory>
+        ensures same { self.new.structure ≡ self.old.structure }
+        ensures due { self.new.is_due ≡ self.old.is_due }
+        ensures going { self.new.refused ≡ self.old.refused }
+        ensures taken { OnOk result ((items : List APrepared) → Holds C.taken self.old.is_due self.old.standards self.old.notices (standards_by self.old.structure items) (slopes_by self.old.structure items) → Holds C.taken self.new.is_due self.new.standards self.new.notices (standards_by self.old.structure (items ++ prepared.now ∷ [])) (slopes_by self.old.structure (items ++ prepared.now ∷ []))) }
+        ensures fails { OnErr result C.fails }
+    {
+        if prepared.is_small() {
+            self.put_small(prepared)
+        } else {
+            self.put_large(prepared)
+        }
     }
 
     /// After the last airfield: all entries in their order.
@@ -130,11 +171,10 @@ impl<C: Collector + Drop> Screening<C> {
 }
 
 impl<C: Collector + Drop> Visitor<Prepared> for Screening<C> {
-    ghost use Rattle.std.specs.Prelude.{map, ◌≡◌};
-    ghost use Rattle.airfield_findings.specs.Prepared.{airfield_of};
-    ghost use Rattle.oe_findings.specs.Screenings.{HasSeen};
+    ghost use Rattle.std.specs.Prelude.{◌≡◌};
+    ghost use Rattle.oe_findings.specs.Screenings.{HasGathered};
 
-    ghost seen = { λ start s items. (s.structure ≡ start.structure) × (s.is_due ≡ start.is_due) × HasSeen C.taken C.fails s.structure s.is_due s.standards s.notices s.refused (map airfield_of items) };
+    ghost seen = { λ start s items. (s.structure ≡ start.structure) × (s.is_due ≡ start.is_due) × HasGathered C.taken C.fails s.structure s.is_due s.standards s.notices s.refused items };
 
     fn item(&mut self, item: &Prepared) {
         if self.refused {

@@ -1,11 +1,12 @@
 //! The register with the surfaces over it.
 
-ghost use Rattle.std.specs.Prelude.{◌≡◌, ◌≢◌, ◌≤◌, ◌+◌, [], None, Some, IfOk, IfErr, OnOk, OnErr, length, option_map};
+ghost use Rattle.std.specs.Prelude.{◌≡◌, ◌≢◌, ◌≤◌, ◌+◌, ℕ, [], None, Some, IfOk, IfErr, OnOk, OnErr, length, option_map};
 ghost use Rattle.std.specs.Arc.{arc_value};
 ghost use Rattle.airport_register.specs.Amendments.{amended_id, first_broken, after_amendment, replaced};
 ghost use Rattle.airport_register.specs.Changes.{IsChange};
 ghost use Rattle.surface_tree.specs.declared.square.TheConstants.{TOP_LEVEL};
 ghost use Rattle.oe_findings.specs.List.{findings_of};
+ghost use Rattle.oe_findings.specs.Nearness.{AreNear};
 ghost use Rattle.airfield_findings.specs.Verdicts.{is_obstruction, verdict_of};
 
 use crate::screening::Screening;
@@ -112,7 +113,9 @@ impl Sky {
         ensures taken { IfOk result (λ c. C.taken c (findings_of self.now filing.now)) }
         ensures fails { IfErr result (λ _. C.fails) }
         ensures steps { steps.new ≤ steps.old + (TOP_LEVEL + 1) + length self.now }
+        ensures near { (n : ℕ) → AreNear self.now filing.now.at n → steps.new ≤ steps.old + (TOP_LEVEL + 1) + n }
     {
+        self.register.limits();
         let mut screening = Screening::new(standards, notices, filing);
         screening.begin();
         self.surroundings.visit(&mut screening, steps);
@@ -121,8 +124,10 @@ impl Sky {
 
     /// Makes `list` the findings of a structure over all airfields: each standard and notice rule that it exceeds, in order, with
     /// how far its top is above the surface or limit, in tenths of a foot, rounded down: 77.17(a)(1) and (2), the surfaces of 77.19 and
-    /// 77.23, and the notice rules of 77.9. The room of the list is used. A step is one square of the search, or one airfield that is
-    /// looked at.
+    /// 77.23, and the notice rules of 77.9. The room of the list is used.
+    ///
+    /// A step is one square of the search, or one airfield that is looked at: at most `TOP_LEVEL + 1` squares, and no more airfields
+    /// than there are surfaces near the structure.
     ///
     /// # Errors
     ///
@@ -137,6 +142,7 @@ impl Sky {
         ensures found { OnOk result (list.new ≡ findings_of self.now filing.now) }
         ensures empty { OnErr result (list.new ≡ []) }
         ensures steps { steps.new ≤ steps.old + (TOP_LEVEL + 1) + length self.now }
+        ensures near { (n : ℕ) → AreNear self.now filing.now.at n → steps.new ≤ steps.old + (TOP_LEVEL + 1) + n }
     {
         let room = std::mem::replace(list, Findings::new(alloc));
         let (standards, notices) = room.emptied(alloc);
@@ -157,6 +163,7 @@ impl Sky {
     ) -> Result<Findings, NoMemory>
         ensures found { IfOk result (λ list. list ≡ findings_of self.now filing.now) }
         ensures steps { steps.new ≤ steps.old + (TOP_LEVEL + 1) + length self.now }
+        ensures near { (n : ℕ) → AreNear self.now filing.now.at n → steps.new ≤ steps.old + (TOP_LEVEL + 1) + n }
     {
         self.gathered(Findings::new(alloc), Findings::new(alloc), filing, steps)
     }
@@ -165,6 +172,7 @@ impl Sky {
     pub fn verdict<L: Ledger>(&self, filing: &Filing, steps: &mut Steps<L>) -> Verdict
         ensures found { result ≡ verdict_of (findings_of self.now filing.now) }
         ensures steps { steps.new ≤ steps.old + (TOP_LEVEL + 1) + length self.now }
+        ensures near { (n : ℕ) → AreNear self.now filing.now.at n → steps.new ≤ steps.old + (TOP_LEVEL + 1) + n }
     {
         self.register.limits();
         match self.gathered(Verdict::none(), Verdict::none(), filing, steps) {
@@ -178,6 +186,7 @@ impl Sky {
     pub fn is_obstruction<L: Ledger>(&self, filing: &Filing, steps: &mut Steps<L>) -> bool
         ensures found { result ≡ is_obstruction (findings_of self.now filing.now) }
         ensures steps { steps.new ≤ steps.old + (TOP_LEVEL + 1) + length self.now }
+        ensures near { (n : ℕ) → AreNear self.now filing.now.at n → steps.new ≤ steps.old + (TOP_LEVEL + 1) + n }
     {
         if excess_499(filing).is_some() {
             return true;

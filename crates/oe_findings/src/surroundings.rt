@@ -1,11 +1,14 @@
 //! The airfields of a register with their surfaces, found by the points over which they reach.
 
-ghost use Rattle.std.specs.Prelude.{◌≡◌, ◌≤◌, ◌+◌, [], map, length, IfOk, IfSome, option_map};
+ghost use Rattle.std.specs.Prelude.{◌≡◌, ◌≤◌, ◌+◌, ℕ, [], length, IfOk, IfSome, option_map};
 ghost use Rattle.std.specs.Arc.{arc_value};
-ghost use Rattle.airfields.specs.Airfields.{IsHeld};
+ghost use Rattle.ordered_list.specs.Ordered.{Rises};
+ghost use Rattle.airfields.specs.Airfields.{IsHeld, id_of};
+ghost use Rattle.airfields.specs.Names.{name_cmp};
 ghost use Rattle.airport_register.specs.Amendments.{replaced};
 ghost use Rattle.surface_tree.specs.declared.square.TheConstants.{TOP_LEVEL};
-ghost use Rattle.oe_findings.specs.Screenings.{exceeds_over, HasSeen};
+ghost use Rattle.oe_findings.specs.Nearness.{AreNear};
+ghost use Rattle.oe_findings.specs.Screenings.{exceeds_over, HasGathered, HasSeen};
 
 use crate::obstruction::Obstruction;
 use crate::screening::Screening;
@@ -83,18 +86,19 @@ impl Surroundings {
         }
     }
 
-    /// Shows a screening that has seen no airfield all airfields that reach over its structure's point, in order of their names. As the
-    /// others give no entry, it has then seen what it would of all.
+    /// Shows a screening that has seen no airfield all airfields that reach over its structure's point. As the others give no entry, and
+    /// the names of airfields rise, it has then gathered what all airfields give, in order.
     pub(crate) fn visit<C: Collector + Drop, L: Ledger>(
         &self,
         screening: &mut Screening<C>,
         steps: &mut Steps<L>,
     )
-        requires { HasSeen C.taken C.fails screening.old.structure screening.old.is_due screening.old.standards screening.old.notices screening.old.refused [] }
+        requires { HasGathered C.taken C.fails screening.old.structure screening.old.is_due screening.old.standards screening.old.notices screening.old.refused [] }
         ensures filing { screening.new.structure ≡ screening.old.structure }
         ensures due { screening.new.is_due ≡ screening.old.is_due }
-        ensures seen { HasSeen C.taken C.fails screening.new.structure screening.new.is_due screening.new.standards screening.new.notices screening.new.refused self.now }
+        ensures seen { Rises name_cmp id_of self.now → HasSeen C.taken C.fails screening.new.structure screening.new.is_due screening.new.standards screening.new.notices screening.new.refused self.now }
         ensures steps { steps.new ≤ steps.old + (TOP_LEVEL + 1) + length self.now }
+        ensures near { (n : ℕ) → AreNear self.now screening.old.structure.at n → steps.new ≤ steps.old + (TOP_LEVEL + 1) + n }
     {
         // their contracts tell that both tops are levels
         let _standards = screening.structure.standards_top();
@@ -107,6 +111,7 @@ impl Surroundings {
     pub(crate) fn exceeded<L: Ledger>(&self, filing: &Filing, steps: &mut Steps<L>) -> bool
         ensures found { result ≡ exceeds_over filing.now self.now }
         ensures steps { steps.new ≤ steps.old + (TOP_LEVEL + 1) + length self.now }
+        ensures near { (n : ℕ) → AreNear self.now filing.now.at n → steps.new ≤ steps.old + (TOP_LEVEL + 1) + n }
     {
         let mut obstruction = Obstruction {
             structure: Structure::of(filing),

@@ -15,10 +15,10 @@ use Rattle.review_marks.specs.Shares.{AirfieldChange, concerns, differ_shares, g
 use Rattle.review_marks.specs.declared.share.Share.{Share}
 use Rattle.review_marks.proofs.Unconcerned.{same_lists}
 
-pub nothing_standards : (p : Prepared) (site : Site) → IsSite site → has_point p.area site.at ≡ false → of_airfield site (airfield_of p) ≡ []
+pub nothing_standards : (p : Prepared) (site : Site) → IsSite site → has_point p.plot.area site.at ≡ false → of_airfield site (airfield_of p) ≡ []
 nothing_standards p site is out = p.in_place.standards site (levels_of site is) out
 
-pub nothing_slope : (p : Prepared) (site : Site) → IsSite site → has_point p.area site.at ≡ false → slope_entries site (airfield_of p) ≡ []
+pub nothing_slope : (p : Prepared) (site : Site) → IsSite site → has_point p.plot.area site.at ≡ false → slope_entries site (airfield_of p) ≡ []
 nothing_slope p site is out = p.in_place.slopes site (levels_of site is) out
 
 abbrev nothing : Share

@@ -16,4 +16,4 @@ IsAround box inner = (x : Point) → lies_in box x ≡ false → lies_in inner x
 
 -- the area of an airfield with its surfaces, where there is one
 abbrev pub area_of : Option Prepared → Option Area
-area_of o = option_map (λ p. p.area) o
+area_of o = option_map (λ p. p.plot.area) o

@@ -61,7 +61,7 @@ fn is_reached(prepared: &Prepared, filing: &Filing) -> bool
     ensures standards { result ≡ false → of_airfield filing.now (airfield_of prepared.now) ≡ [] }
     ensures slope { result ≡ false → slope_entries filing.now (airfield_of prepared.now) ≡ [] }
 {
-    prepared.area().has(&filing.at)
+    prepared.plot().area.has(&filing.at)
 }
 
 /// The standards of an airfield.
@@ -116,7 +116,7 @@ impl Side {
         ensures { result ≡ area_of self.now.prepared }
     {
         match &self.prepared {
-            Some(prepared) => Some(prepared.area()),
+            Some(prepared) => Some(prepared.plot().area),
             None => None,
         }
     }

@@ -1,7 +1,9 @@
 //! Trees of a few areas: each call, and visits beside a list that is asked item by item.
 
-ghost use Rattle.std.specs.Prelude.{◌≡◌, ◌<◌, ◌≤ℤ◌, pos, IsTrue, false, map};
-ghost use Rattle.surface_tree.specs.Levels.{IsPlaced};
+ghost use Rattle.std.specs.Prelude.{◌≡◌, ◌<◌, ◌≤◌, ◌-ℤ◌, ◌≤ℤ◌, pos, neg_ℤ, IfSome, IsTrue, false, map};
+ghost use Rattle.outline_boxes.specs.Bounds.{IsInPlane};
+ghost use Rattle.outline_boxes.specs.declared.bounds.TheConstants.{PLANE_LIMIT};
+ghost use Rattle.surface_tree.specs.Levels.{IsPlaced, greater, level_of};
 
 use grid_exact::{Area, Point, Steps};
 use std::alloc::Global;
@@ -9,24 +11,24 @@ use std::marker::Brand;
 use std::sync::Arc;
 use std::sync::ledger::{Blank, Ledger};
 use std::test::Fail;
-use surface_tree::{PLANE_LIMIT, Placed, Tree, Visitor};
+use surface_tree::{PLANE_LIMIT, Placed, Plot, Tree, Visitor};
 
-/// An area with a number.
+/// A plot with a number.
 #[derive(Drop)]
-struct Plot {
+struct Field {
     number: u32,
-    area: Area,
+    plot: Plot,
 }
 
-impl Placed for Plot {
+impl Placed for Field {
     type Key = u32;
 
-    ghost area_of = { λ p. p.area };
+    ghost plot_of = { λ f. f.plot };
 
-    ghost key_of = { λ p. p.number };
+    ghost key_of = { λ f. f.number };
 
-    fn area(&self) -> Area {
-        self.area
+    fn plot(&self) -> Plot {
+        self.plot
     }
 
     fn key(&self) -> u32 {
@@ -34,18 +36,18 @@ impl Placed for Plot {
     }
 }
 
-/// The numbers of the plots that were seen, all of them where memory was not refused.
+/// The numbers of the fields that were seen, all of them where memory was not refused.
 #[derive(Drop)]
 struct Numbers {
     seen: Vec<u32>,
     refused: bool,
 }
 
-impl Visitor<Plot> for Numbers {
-    ghost seen = { λ _ v plots. v.refused ≡ false → v.seen.items ≡ map (λ p. p.number) plots };
+impl Visitor<Field> for Numbers {
+    ghost seen = { λ _ v fields. v.refused ≡ false → v.seen.items ≡ map (λ f. f.number) fields };
 
-    fn item(&mut self, plot: &Plot) {
-        if self.seen.push(plot.number).is_err() {
+    fn item(&mut self, field: &Field) {
+        if self.seen.push(field.number).is_err() {
             self.refused = true;
         }
     }
@@ -55,8 +57,45 @@ impl Visitor<Plot> for Numbers {
 #[derive(Clone, Copy, Debug)]
 struct NotPlaced;
 
-fn is_placed(area: &Area) -> bool
-    ensures { IsTrue result → IsPlaced area.now }
+/// The greater of the two.
+#[tactic(auto, using(surface_tree::proofs::Sides::casts))]
+fn greater_of(a: i64, b: i64) -> i64
+    ensures { result ≡ greater a b }
+{
+    if a <= b { b } else { a }
+}
+
+/// How far apart two coordinates are.
+#[tactic(auto, using(surface_tree::proofs::Sides::casts))]
+fn extent(high: i64, low: i64) -> i64
+    requires high { (neg_ℤ PLANE_LIMIT ≤ℤ high) × (high ≤ℤ PLANE_LIMIT) }
+    requires low { (neg_ℤ PLANE_LIMIT ≤ℤ low) × (low ≤ℤ PLANE_LIMIT) }
+    ensures { result ≡ high -ℤ low }
+{
+    high - low
+}
+
+/// A level of squares that are no larger than the area's size: that of the whole plane, of squares of 2^19 tenths of a foot, or of the
+/// two smallest sizes.
+fn level_for(area: &Area) -> u32
+    requires { IsInPlane area.now }
+    ensures { result ≤ level_of area.now }
+{
+    let longer = greater_of(extent(area.x1, area.x0), extent(area.y1, area.y0));
+    if longer > 33_554_432 {
+        14
+    } else if longer > 262_144 {
+        7
+    } else if longer > 4_096 {
+        1
+    } else {
+        0
+    }
+}
+
+/// Where a field with the area stands; `None` where the area is not in the plane.
+fn plot_for(area: &Area) -> Option<Plot>
+    ensures { IfSome result (λ p. IsPlaced p) }
 {
     if area.x0 > area.x1
         || area.y0 > area.y1
@@ -65,26 +104,24 @@ fn is_placed(area: &Area) -> bool
         || area.x1 >= PLANE_LIMIT
         || area.y1 >= PLANE_LIMIT
     {
-        return false;
+        return None;
     }
-    true
+    Some(Plot {
+        area: *area,
+        level: level_for(area),
+    })
 }
 
-/// The tree with the area under the number.
-fn with(alloc: Global, tree: &Tree<Plot>, number: u32, area: &Area) -> Result<Tree<Plot>, Fail> {
-    if !is_placed(area) {
-        Err(NotPlaced)?;
-    }
-    let plot = Plot {
-        number,
-        area: *area,
-    };
-    Ok(tree.with(alloc, Arc::new(alloc, plot)?)?)
+/// The tree with a field of the area under the number.
+fn with(alloc: Global, tree: &Tree<Field>, number: u32, area: &Area) -> Result<Tree<Field>, Fail> {
+    let plot = plot_for(area).ok_or(NotPlaced)?;
+    let field = Field { number, plot };
+    Ok(tree.with(alloc, Arc::new(alloc, field)?)?)
 }
 
 fn visited<L: Ledger>(
     alloc: Global,
-    tree: &Tree<Plot>,
+    tree: &Tree<Field>,
     point: &Point,
     blank: Blank,
 ) -> Result<Vec<u32>, Fail>
@@ -103,7 +140,7 @@ fn visited<L: Ledger>(
 }
 
 /// The numbers of the areas that have the point, in rising order.
-fn seen(alloc: Global, tree: &Tree<Plot>, point: &Point) -> Result<Vec<u32>, Fail> {
+fn seen(alloc: Global, tree: &Tree<Field>, point: &Point) -> Result<Vec<u32>, Fail> {
     visited::<Brand>(alloc, tree, point, Blank::new(1))
 }
 
@@ -207,7 +244,7 @@ const POINTS: [(i64, i64); 18] = [
 #[test]
 fn visits_beside_a_list(rt: HostRuntime) -> Result<(), Fail> {
     let alloc = rt.alloc();
-    let mut tree = Tree::<Plot>::empty(alloc);
+    let mut tree = Tree::<Field>::empty(alloc);
     for (number, area) in AREAS.iter().enumerate() {
         tree = with(alloc, &tree, number as u32, area)?;
     }
@@ -238,20 +275,20 @@ fn small(west: i64, south: i64) -> Area
     }
 }
 
-/// Two areas side by side, under 7 and 3.
-fn two_plots(alloc: Global) -> Result<Tree<Plot>, Fail> {
+/// Two fields side by side, under 7 and 3.
+fn two_fields(alloc: Global) -> Result<Tree<Field>, Fail> {
     let one = with(alloc, &Tree::empty(alloc), 7, &small(500, 500))?;
     with(alloc, &one, 3, &small(0, 0))
 }
 
-/// The numbers of the areas that have a point of both areas of `two_plots`.
-fn near(alloc: Global, tree: &Tree<Plot>) -> Result<Vec<u32>, Fail> {
+/// The numbers of the areas that have a point of both areas of `two_fields`.
+fn near(alloc: Global, tree: &Tree<Field>) -> Result<Vec<u32>, Fail> {
     seen(alloc, tree, &Point::new(700, 700)?)
 }
 
 #[test]
 fn another_area(rt: HostRuntime) -> Result<(), Fail> {
-    let two = two_plots(rt.alloc())?;
+    let two = two_fields(rt.alloc())?;
     let moved = with(rt.alloc(), &two, 7, &small(-9_000_000, 9_000_000))?;
     assert_eq!(rt; near(rt.alloc(), &two)?.as_slice(), [3, 7].as_slice());
     assert_eq!(rt; near(rt.alloc(), &moved)?.as_slice(), [3].as_slice());
@@ -263,7 +300,7 @@ fn another_area(rt: HostRuntime) -> Result<(), Fail> {
 
 #[test]
 fn a_larger_area(rt: HostRuntime) -> Result<(), Fail> {
-    let two = two_plots(rt.alloc())?;
+    let two = two_fields(rt.alloc())?;
     let large = Area {
         x0: -300_000,
         y0: -300_000,
@@ -297,12 +334,9 @@ fn a_larger_area(rt: HostRuntime) -> Result<(), Fail> {
 
 #[test]
 fn taken_out(rt: HostRuntime) -> Result<(), Fail> {
-    let two = two_plots(rt.alloc())?;
-    let plot = Plot {
-        number: 3,
-        area: small(500, 500),
-    };
-    let left = two.without(rt.alloc(), &plot)?;
+    let two = two_fields(rt.alloc())?;
+    let plot = plot_for(&small(500, 500)).ok_or(NotPlaced)?;
+    let left = two.without(rt.alloc(), &Field { number: 3, plot })?;
     assert_eq!(rt; near(rt.alloc(), &left)?.as_slice(), [7].as_slice());
     assert_eq!(rt;
         near(rt.alloc(), &two.share()?)?.as_slice(),

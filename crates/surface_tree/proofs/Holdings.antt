@@ -5,11 +5,11 @@ use Rattle.std.specs.Cmp.{IsTotalOrder}
 use Rattle.std.specs.declared.cmp.Ordering.{Ordering}
 use Rattle.std.proofs.lemmas.Bool.{and_parts, and_from, and_left, false_from_ne_true}
 use Rattle.std.proofs.lemmas.Int.{ints}
-use Rattle.grid_exact.specs.declared.area.Area.{Area}
 use Rattle.surface_tree.specs.declared.entry.Entry.{Entry}
 use Rattle.surface_tree.specs.declared.part.Part.{Part}
 use Rattle.surface_tree.specs.declared.part.Part.TheVariants.{Bare, Cell'}
-use Rattle.surface_tree.specs.Levels.{side_of, cell_level}
+use Rattle.surface_tree.specs.declared.placed.Plot.{Plot}
+use Rattle.surface_tree.specs.Levels.{side_of}
 use Rattle.surface_tree.specs.Squares.{meets, overlaps, in_cell, in_reach}
 use Rattle.surface_tree.specs.Changes.{edited_by, Fits, LiesIn}
 use Rattle.surface_tree.specs.Parts.{Holds, HoldsOwn}
@@ -27,7 +27,7 @@ second_meets low half side from to e m = grind (arith, ints, e, m)
 less_one : (l k : ℕ) → 0 < k → nat_lt l (k - 1 + 1) ≡ true → nat_lt l (k + 1) ≡ true
 less_one l k p h = let e : k - 1 + 1 ≡ k = omega arith in let h' = rw e at h in lt_more l k h'
 
-module _ (k : ℕ) (w s : ℤ) (a : Area) (l : 0 < k) (n : in_reach k w s a ≡ false) where
+module _ (k : ℕ) (w s : ℤ) (a : Plot) (l : 0 < k) (n : in_reach k w s a ≡ false) where
   e : side_of k ≡ side_of (k - 1) + side_of (k - 1)
   e = side-pred k l
 
@@ -35,77 +35,77 @@ module _ (k : ℕ) (w s : ℤ) (a : Area) (l : 0 < k) (n : in_reach k w s a ≡ 
   pub past_south_west : in_reach (k - 1) w s a ≡ false
   past_south_west =
       false_from_ne_true _ (λ h.
-      let t = and_parts (nat_lt (cell_level a) (k - 1 + 1)) (overlaps (k - 1) w s a) h in
-      let o = and_parts (meets w (side_of (k - 1)) a.x0 a.x1) (meets s (side_of (k - 1)) a.y0 a.y1) t.1 in
-      let r : in_reach k w s a ≡ true = and_from _ _ (less_one (cell_level a) k l t.0) (and_from _ _ (first_meets w _ _ a.x0 a.x1 e o.0) (first_meets s _ _ a.y0 a.y1 e o.1)) in
+      let t = and_parts (nat_lt a.level (k - 1 + 1)) (overlaps (k - 1) w s a.area) h in
+      let o = and_parts (meets w (side_of (k - 1)) a.area.x0 a.area.x1) (meets s (side_of (k - 1)) a.area.y0 a.area.y1) t.1 in
+      let r : in_reach k w s a ≡ true = and_from _ _ (less_one a.level k l t.0) (and_from _ _ (first_meets w _ _ a.area.x0 a.area.x1 e o.0) (first_meets s _ _ a.area.y0 a.area.y1 e o.1)) in
       cc)
 
   pub past_south_east : in_reach (k - 1) (w +ℤ pos (side_of (k - 1))) s a ≡ false
   past_south_east =
       false_from_ne_true _ (λ h.
-      let t = and_parts (nat_lt (cell_level a) (k - 1 + 1)) (overlaps (k - 1) (w +ℤ pos (side_of (k - 1))) s a) h in
-      let o = and_parts (meets (w +ℤ pos (side_of (k - 1))) (side_of (k - 1)) a.x0 a.x1) (meets s (side_of (k - 1)) a.y0 a.y1) t.1 in
-      let r : in_reach k w s a ≡ true = and_from _ _ (less_one (cell_level a) k l t.0) (and_from _ _ (second_meets w _ _ a.x0 a.x1 e o.0) (first_meets s _ _ a.y0 a.y1 e o.1)) in
+      let t = and_parts (nat_lt a.level (k - 1 + 1)) (overlaps (k - 1) (w +ℤ pos (side_of (k - 1))) s a.area) h in
+      let o = and_parts (meets (w +ℤ pos (side_of (k - 1))) (side_of (k - 1)) a.area.x0 a.area.x1) (meets s (side_of (k - 1)) a.area.y0 a.area.y1) t.1 in
+      let r : in_reach k w s a ≡ true = and_from _ _ (less_one a.level k l t.0) (and_from _ _ (second_meets w _ _ a.area.x0 a.area.x1 e o.0) (first_meets s _ _ a.area.y0 a.area.y1 e o.1)) in
       cc)
 
   pub past_north_west : in_reach (k - 1) w (s +ℤ pos (side_of (k - 1))) a ≡ false
   past_north_west =
       false_from_ne_true _ (λ h.
-      let t = and_parts (nat_lt (cell_level a) (k - 1 + 1)) (overlaps (k - 1) w (s +ℤ pos (side_of (k - 1))) a) h in
-      let o = and_parts (meets w (side_of (k - 1)) a.x0 a.x1) (meets (s +ℤ pos (side_of (k - 1))) (side_of (k - 1)) a.y0 a.y1) t.1 in
-      let r : in_reach k w s a ≡ true = and_from _ _ (less_one (cell_level a) k l t.0) (and_from _ _ (first_meets w _ _ a.x0 a.x1 e o.0) (second_meets s _ _ a.y0 a.y1 e o.1)) in
+      let t = and_parts (nat_lt a.level (k - 1 + 1)) (overlaps (k - 1) w (s +ℤ pos (side_of (k - 1))) a.area) h in
+      let o = and_parts (meets w (side_of (k - 1)) a.area.x0 a.area.x1) (meets (s +ℤ pos (side_of (k - 1))) (side_of (k - 1)) a.area.y0 a.area.y1) t.1 in
+      let r : in_reach k w s a ≡ true = and_from _ _ (less_one a.level k l t.0) (and_from _ _ (first_meets w _ _ a.area.x0 a.area.x1 e o.0) (second_meets s _ _ a.area.y0 a.area.y1 e o.1)) in
       cc)
 
   pub past_north_east : in_reach (k - 1) (w +ℤ pos (side_of (k - 1))) (s +ℤ pos (side_of (k - 1))) a ≡ false
   past_north_east =
       false_from_ne_true _ (λ h.
-      let t = and_parts (nat_lt (cell_level a) (k - 1 + 1)) (overlaps (k - 1) (w +ℤ pos (side_of (k - 1))) (s +ℤ pos (side_of (k - 1))) a) h in
-      let o = and_parts (meets (w +ℤ pos (side_of (k - 1))) (side_of (k - 1)) a.x0 a.x1) (meets (s +ℤ pos (side_of (k - 1))) (side_of (k - 1)) a.y0 a.y1) t.1 in
-      let r : in_reach k w s a ≡ true = and_from _ _ (less_one (cell_level a) k l t.0) (and_from _ _ (second_meets w _ _ a.x0 a.x1 e o.0) (second_meets s _ _ a.y0 a.y1 e o.1)) in
+      let t = and_parts (nat_lt a.level (k - 1 + 1)) (overlaps (k - 1) (w +ℤ pos (side_of (k - 1))) (s +ℤ pos (side_of (k - 1))) a.area) h in
+      let o = and_parts (meets (w +ℤ pos (side_of (k - 1))) (side_of (k - 1)) a.area.x0 a.area.x1) (meets (s +ℤ pos (side_of (k - 1))) (side_of (k - 1)) a.area.y0 a.area.y1) t.1 in
+      let r : in_reach k w s a ≡ true = and_from _ _ (less_one a.level k l t.0) (and_from _ _ (second_meets w _ _ a.area.x0 a.area.x1 e o.0) (second_meets s _ _ a.area.y0 a.area.y1 e o.1)) in
       cc)
 
--- a box that no part of a square reaches does not stand in it
-pub cell_reach : (k : ℕ) (w s : ℤ) (a : Area) → in_reach k w s a ≡ false → in_cell k w s a ≡ false
+-- a plot that no part of a square reaches does not stand in it
+pub cell_reach : (k : ℕ) (w s : ℤ) (a : Plot) → in_reach k w s a ≡ false → in_cell k w s a ≡ false
 cell_reach k w s a n =
     false_from_ne_true _ (λ h.
-    let t = and_parts (nat_eq (cell_level a) k) (overlaps k w s a) h in
-    let r : in_reach k w s a ≡ true = and_from _ _ (eq_lt (cell_level a) k (k + 1) (omega arith) t.0) t.1 in
+    let t = and_parts (nat_eq a.level k) (overlaps k w s a.area) h in
+    let r : in_reach k w s a ≡ true = and_from _ _ (eq_lt a.level k (k + 1) (omega arith) t.0) t.1 in
     cc)
 
--- a square that does not hold a box holds none that lies in it
+-- a square that does not hold a plot holds none that lies in it
 meets_more : (low : ℤ) (side : ℕ) (from to first last : ℤ) → first ≤ℤ from → to ≤ℤ last → meets low side from to ≡ true → meets low side first last ≡ true
 meets_more low side from to first last a b h = grind (arith, ints, a, b, h)
 
-pub cell_lies : (k : ℕ) (w s : ℤ) (inner outer : Area) → LiesIn inner outer → in_cell k w s outer ≡ false → in_cell k w s inner ≡ false
+pub cell_lies : (k : ℕ) (w s : ℤ) (inner outer : Plot) → LiesIn inner outer → in_cell k w s outer ≡ false → in_cell k w s inner ≡ false
 cell_lies k w s inner outer l n =
     false_from_ne_true _ (λ h.
-    let t = and_parts (nat_eq (cell_level inner) k) (overlaps k w s inner) h in
-    let o = and_parts (meets w (side_of k) inner.x0 inner.x1) (meets s (side_of k) inner.y0 inner.y1) t.1 in
-    let e : nat_eq (cell_level outer) k ≡ true = rw l.level at t.0 in
-    let r : in_cell k w s outer ≡ true = and_from _ _ e (and_from _ _ (meets_more w (side_of k) inner.x0 inner.x1 outer.x0 outer.x1 l.west l.east o.0) (meets_more s (side_of k) inner.y0 inner.y1 outer.y0 outer.y1 l.south l.north o.1)) in
+    let t = and_parts (nat_eq inner.level k) (overlaps k w s inner.area) h in
+    let o = and_parts (meets w (side_of k) inner.area.x0 inner.area.x1) (meets s (side_of k) inner.area.y0 inner.area.y1) t.1 in
+    let e : nat_eq outer.level k ≡ true = rw l.level at t.0 in
+    let r : in_cell k w s outer ≡ true = and_from _ _ e (and_from _ _ (meets_more w (side_of k) inner.area.x0 inner.area.x1 outer.area.x0 outer.area.x1 l.west l.east o.0) (meets_more s (side_of k) inner.area.y0 inner.area.y1 outer.area.y0 outer.area.y1 l.south l.north o.1)) in
     cc)
 
 -- nor does it stand in a part of the square of its own level
-pub level_reach : (k : ℕ) (w s : ℤ) (a : Area) → 0 < k → cell_level a ≡ k → in_reach (k - 1) w s a ≡ false
+pub level_reach : (k : ℕ) (w s : ℤ) (a : Plot) → 0 < k → a.level ≡ k → in_reach (k - 1) w s a ≡ false
 level_reach k w s a l e =
     let x : k - 1 + 1 ≡ k = omega arith in
-    let n : nat_lt (cell_level a) (k - 1 + 1) ≡ false = rw (x, e) (grind arith) in
-    and_left (nat_lt (cell_level a) (k - 1 + 1)) (overlaps (k - 1) w s a) n
+    let n : nat_lt a.level (k - 1 + 1) ≡ false = rw (x, e) (grind arith) in
+    and_left (nat_lt a.level (k - 1 + 1)) (overlaps (k - 1) w s a.area) n
 
 -- nor in a larger square
-pub larger_cell : (k : ℕ) (w s : ℤ) (a : Area) → cell_level a < k → in_cell k w s a ≡ false
+pub larger_cell : (k : ℕ) (w s : ℤ) (a : Plot) → a.level < k → in_cell k w s a ≡ false
 larger_cell k w s a l =
-    let n : nat_eq (cell_level a) k ≡ false = grind (arith, l) in
-    and_left (nat_eq (cell_level a) k) (overlaps k w s a) n
+    let n : nat_eq a.level k ≡ false = grind (arith, l) in
+    and_left (nat_eq a.level k) (overlaps k w s a.area) n
 
-module _ {T K : Type 0} (cmp : K → K → Ordering) (total : IsTotalOrder cmp) (key : T → K) (area : T → Area) (i : K) (a : Area) (item : Option T) (value : List T) (f : Fits cmp key area i a item value) where
+module _ {T K : Type 0} (cmp : K → K → Ordering) (total : IsTotalOrder cmp) (key : T → K) (plot : T → Plot) (i : K) (a : Plot) (item : Option T) (value : List T) (f : Fits cmp key plot i a item value) where
   -- entries that the change does not reach
-  pub own_past : (k : ℕ) (w s : ℤ) (es : List (Entry T)) → in_cell k w s a ≡ false → HoldsOwn area value k w s es → HoldsOwn area (edited_by cmp key i item value) k w s es
-  own_past k w s es n h = record { boxes = h.boxes; items = h.items ∙ sym (filter_fits_out cmp total key area i a (in_cell k w s) item value n (λ b l. cell_lies k w s b a l n) f) }
+  pub own_past : (k : ℕ) (w s : ℤ) (es : List (Entry T)) → in_cell k w s a ≡ false → HoldsOwn plot value k w s es → HoldsOwn plot (edited_by cmp key i item value) k w s es
+  own_past k w s es n h = record { boxes = h.boxes; items = h.items ∙ sym (filter_fits_out cmp total key plot i a (in_cell k w s) item value n (λ b l. cell_lies k w s b a l n) f) }
 
   -- a part that the change does not reach
-  pub Holds_past : (k : ℕ) (w s : ℤ) (q : Part T) → in_reach k w s a ≡ false → Holds area value k w s q → Holds area (edited_by cmp key i item value) k w s q
-  Holds_past k w s Bare n h = none_fits cmp total key area i a (in_reach k w s) item value n f h
+  pub Holds_past : (k : ℕ) (w s : ℤ) (q : Part T) → in_reach k w s a ≡ false → Holds plot value k w s q → Holds plot (edited_by cmp key i item value) k w s q
+  Holds_past k w s Bare n h = none_fits cmp total key plot i a (in_reach k w s) item value n f h
   Holds_past k w s (Cell' p es sw se nw ne) n h = (
     own_past k w s es.items (cell_reach k w s a n) h.0,
     λ l. (let t = h.1 l in (

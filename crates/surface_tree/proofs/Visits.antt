@@ -9,10 +9,10 @@ use Rattle.std.proofs.lemmas.List.{append-nil, length-map}
 use Rattle.std.proofs.lemmas.List.Elements.{All-head, All-tail}
 use Rattle.std.proofs.lemmas.List.Sums.{length-filter}
 use Rattle.grid_exact.specs.Area.{has_point}
-use Rattle.grid_exact.specs.declared.area.Area.{Area}
 use Rattle.grid_exact.specs.declared.point.Point.{Point}
 use Rattle.surface_tree.specs.declared.entry.Entry.{Entry}
-use Rattle.surface_tree.specs.Levels.{side_of, cell_level}
+use Rattle.surface_tree.specs.declared.placed.Plot.{Plot}
+use Rattle.surface_tree.specs.Levels.{side_of}
 use Rattle.surface_tree.specs.Squares.{in_cell, IsIn}
 use Rattle.surface_tree.specs.Visits.{close_area, hit_at, hits, looks}
 use Rattle.outline_boxes.specs.Bounds.{box_of}
@@ -25,6 +25,13 @@ pub filter_none : {X : Type 0} (p : X → Bool) (xs : List X) → All (λ x. p x
 filter_none p [] h = refl
 filter_none p (x ∷ xs) h = rw (All-head (λ y. p y ≡ false) x xs h) (filter_none p xs (All-tail (λ y. p y ≡ false) x xs h))
 
+-- tests that agree on a list's items
+pub filter_alike : {X : Type 0} (p q : X → Bool) (xs : List X) → All (λ x. p x ≡ q x) xs → filter p xs ≡ filter q xs
+filter_alike p q [] h = refl
+filter_alike p q (x ∷ xs) h =
+    let r = filter_alike p q xs (All-tail (λ y. p y ≡ q y) x xs h) in
+    rw (All-head (λ y. p y ≡ q y) x xs h) (elim (cases_Bool (q x)) [ inl y ↦ rw y (ap (λ zs. x ∷ zs) r) | inr n ↦ rw n r ])
+
 -- two tests, one after the other
 pub filter_twice : {X : Type 0} (p q r : X → Bool) → ((x : X) → (q x && p x) ≡ r x) → (xs : List X) → filter p (filter q xs) ≡ filter r xs
 filter_twice p q r e [] = refl
@@ -35,47 +42,47 @@ filter_twice p q r e (x ∷ xs) =
     ])
 
 -- the items of entries that pass
-pub filter_items : {T : Type 0} (area : T → Area) (p : Point) (es : List (Entry T)) → All (λ e. IsEntry area e) es → map item_of (filter (λ e. has_point (box_of e.bounds) p) es) ≡ filter (λ i. has_point (area i) p) (map item_of es)
-filter_items area p [] h = refl
-filter_items area p (e ∷ es) h =
-    let b : has_point (box_of e.bounds) p ≡ has_point (area (item_of e)) p = ap (λ a. has_point a p) (All-head (λ e. IsEntry area e) e es h) in
-    let r = filter_items area p es (All-tail (λ e. IsEntry area e) e es h) in
-    elim (cases_Bool (has_point (area (item_of e)) p)) [
+pub filter_items : {T : Type 0} (plot : T → Plot) (p : Point) (es : List (Entry T)) → All (λ e. IsEntry plot e) es → map item_of (filter (λ e. has_point (box_of e.bounds) p) es) ≡ filter (λ i. has_point (plot i).area p) (map item_of es)
+filter_items plot p [] h = refl
+filter_items plot p (e ∷ es) h =
+    let b : has_point (box_of e.bounds) p ≡ has_point (plot (item_of e)).area p = ap (λ a. has_point a p) (All-head (λ e. IsEntry plot e) e es h) in
+    let r = filter_items plot p es (All-tail (λ e. IsEntry plot e) e es h) in
+    elim (cases_Bool (has_point (plot (item_of e)).area p)) [
       | inl y ↦ rw (b, y) (ap (λ zs. item_of e ∷ zs) r)
       | inr n ↦ rw (b, n) r
     ]
 
-module _ {T : Type 0} (area : T → Area) (value : List T) (w s : ℤ) (p : Point) where
+module _ {T : Type 0} (plot : T → Plot) (value : List T) (w s : ℤ) (p : Point) where
   -- no item of a bare square has a point of it
-  pub bare_none : (j k : ℕ) → j ≤ k → IsIn k w s p → HoldsNone area value k w s → hits area p j value ≡ []
+  pub bare_none : (j k : ℕ) → j ≤ k → IsIn k w s p → HoldsNone plot value k w s → hits plot p j value ≡ []
   bare_none zero k l i h = filter_none _ value (λ n d b. hit_reach zero k w s _ p l i (h n d b))
   bare_none (suc j) k l i h =
-      rw (bare_none j k (omega arith) i h) (append-nil _ ∙ filter_none (λ x. hit_at p (suc j) (area x)) value (λ n d b. hit_reach (suc j) k w s _ p l i (h n d b)))
+      rw (bare_none j k (omega arith) i h) (append-nil _ ∙ filter_none (λ x. hit_at p (suc j) (plot x)) value (λ n d b. hit_reach (suc j) k w s _ p l i (h n d b)))
 
   -- what a square's own entries give
-  pub own_seen : (k : ℕ) (es : List (Entry T)) → IsIn k w s p → HoldsOwn area value k w s es → map item_of (filter (λ e. has_point (box_of e.bounds) p) es) ≡ filter (λ i. hit_at p k (area i)) value
+  pub own_seen : (k : ℕ) (es : List (Entry T)) → IsIn k w s p → HoldsOwn plot value k w s es → map item_of (filter (λ e. has_point (box_of e.bounds) p) es) ≡ filter (λ i. hit_at p k (plot i)) value
   own_seen k es i h =
-      filter_items area p es h.boxes
-      ∙ ap (filter (λ i. has_point (area i) p)) h.items
-      ∙ filter_twice (λ x. has_point (area x) p) (λ x. in_cell k w s (area x)) (λ x. hit_at p k (area x)) (λ x. own_hit k w s (area x) p i) value
+      filter_items plot p es h.boxes
+      ∙ ap (filter (λ i. has_point (plot i).area p)) h.items
+      ∙ filter_twice (λ x. has_point (plot x).area p) (λ x. in_cell k w s (plot x)) (λ x. hit_at p k (plot x)) (λ x. own_hit k w s (plot x) p i) value
 
-  pub hits_least : (k : ℕ) → k ≡ 0 → hits area p k value ≡ filter (λ i. hit_at p k (area i)) value
+  pub hits_least : (k : ℕ) → k ≡ 0 → hits plot p k value ≡ filter (λ i. hit_at p k (plot i)) value
   hits_least zero e = refl
   hits_least (suc k) e = absurd (omega arith)
 
-  pub hits_more : (k : ℕ) (xs : List T) → 0 < k → (xs ++ filter (λ i. hit_at p k (area i)) value) ++ hits area p (k - 1) value ≡ xs ++ hits area p k value
+  pub hits_more : (k : ℕ) (xs : List T) → 0 < k → (xs ++ filter (λ i. hit_at p k (plot i)) value) ++ hits plot p (k - 1) value ≡ xs ++ hits plot p k value
   hits_more zero xs l = absurd (omega arith)
   hits_more (suc k) xs l = let e : suc k - 1 ≡ k = omega arith in rw e (grind (arith, common_steps))
 
   -- how many entries a square has
-  own_number : (k : ℕ) (es : List (Entry T)) → HoldsOwn area value k w s es → length es ≡ length (filter (λ i. in_cell k w s (area i)) value)
-  own_number k es h = let e : length (map item_of es) ≡ length (filter (λ i. in_cell k w s (area i)) value) = ap length h.items in rw length-map at e
+  own_number : (k : ℕ) (es : List (Entry T)) → HoldsOwn plot value k w s es → length es ≡ length (filter (λ i. in_cell k w s (plot i)) value)
+  own_number k es h = let e : length (map item_of es) ≡ length (filter (λ i. in_cell k w s (plot i)) value) = ap length h.items in rw length-map at e
 
-  pub own_looks : (k : ℕ) (es : List (Entry T)) → IsIn k w s p → HoldsOwn area value k w s es → length es + count_by (λ i. nat_lt (cell_level (area i)) k && close_area p (area i)) value ≤ looks area p k value
+  pub own_looks : (k : ℕ) (es : List (Entry T)) → IsIn k w s p → HoldsOwn plot value k w s es → length es + count_by (λ i. nat_lt (plot i).level k && close_area p (plot i)) value ≤ looks plot p k value
   own_looks k es i h =
-      let A : T → Bool = λ x. in_cell k w s (area x) in
-      let B : T → Bool = λ x. nat_lt (cell_level (area x)) k && close_area p (area x) in
-      let C : T → Bool = λ x. nat_lt (cell_level (area x)) (k + 1) && close_area p (area x) in
+      let A : T → Bool = λ x. in_cell k w s (plot x) in
+      let B : T → Bool = λ x. nat_lt (plot x).level k && close_area p (plot x) in
+      let C : T → Bool = λ x. nat_lt (plot x).level (k + 1) && close_area p (plot x) in
       omega (arith, own_number k es h, length-filter B value, length-filter C value, three A B C value (λ n d b. test_once k w s _ p i))
     where
       three : (A B C : T → Bool) (xs : List T) → All (λ x. cond (A x) 1 0 + cond (B x) 1 0 ≤ cond (C x) 1 0) xs → length (filter A xs) + length (filter B xs) ≤ length (filter C xs)
@@ -95,13 +102,13 @@ module _ {T : Type 0} (area : T → Area) (value : List T) (w s : ℤ) (p : Poin
           ]
 
   -- a visit of a square whose level is above 0
-  pub cost_more : (k : ℕ) (es : List (Entry T)) (old mid new : ℕ) → 0 < k → IsIn k w s p → HoldsOwn area value k w s es → mid ≡ old + 1 + length es → new ≤ mid + (k - 1 + 1) + looks area p (k - 1) value → new ≤ old + (k + 1) + looks area p k value
+  pub cost_more : (k : ℕ) (es : List (Entry T)) (old mid new : ℕ) → 0 < k → IsIn k w s p → HoldsOwn plot value k w s es → mid ≡ old + 1 + length es → new ≤ mid + (k - 1 + 1) + looks plot p (k - 1) value → new ≤ old + (k + 1) + looks plot p k value
   cost_more k es old mid new l i h m n =
       let e : k - 1 + 1 ≡ k = omega arith in
       let n' = rw e at n in
       omega (arith, l, m, n', own_looks k es i h)
 
-  pub cost_least : (k : ℕ) (es : List (Entry T)) (old new : ℕ) → IsIn k w s p → HoldsOwn area value k w s es → new ≡ old + 1 + length es → new ≤ old + (k + 1) + looks area p k value
+  pub cost_least : (k : ℕ) (es : List (Entry T)) (old new : ℕ) → IsIn k w s p → HoldsOwn plot value k w s es → new ≡ old + 1 + length es → new ≤ old + (k + 1) + looks plot p k value
   cost_least k es old new i h m = omega (arith, m, own_looks k es i h)
 
 -- the quarter that has the point

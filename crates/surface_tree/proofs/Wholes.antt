@@ -1,11 +1,11 @@
 -- A visit of the whole tree, and what changes make of it.
-use Rattle.std.proofs.Common.{◌≡◌, ◌≢◌, ℕ, zero, suc, ◌+◌, ◌<◌, ◌≤◌, ℤ, pos, neg_ℤ, ◌-ℤ◌, List, [], ◌∷◌, ◌++◌, Some, None, Bool, true, false, ◌&&◌, refl, sym, ap, ◌∙◌, arith, inl, inr, cond, length, count_by, nat_eq, get_or, subst}
+use Rattle.std.proofs.Common.{◌≡◌, ℕ, zero, suc, ◌+◌, ◌<◌, ◌≤◌, ℤ, pos, neg_ℤ, ◌-ℤ◌, List, [], ◌∷◌, ◌++◌, Some, None, Bool, true, false, ◌&&◌, refl, sym, ap, ◌∙◌, arith, inl, inr, cond, length, count_by, nat_eq, get_or, subst}
 use Rattle.std.specs.Prelude.{int_lt, nat_lt}
 use Rattle.std.specs.List.{All, filter}
 use Rattle.std.specs.List.Sorted.{IsPermutation}
 use Rattle.std.specs.Cmp.{IsTotalOrder}
 use Rattle.std.specs.declared.cmp.Ordering.{Ordering}
-use Rattle.std.proofs.lemmas.Bool.{cases_Bool, and_left}
+use Rattle.std.proofs.lemmas.Bool.{cases_Bool}
 use Rattle.std.proofs.lemmas.Int.{ints}
 use Rattle.std.proofs.lemmas.List.Elements.{filter_agree, All-head, All-tail}
 use Rattle.std.proofs.lemmas.List.Sums.{length-filter}
@@ -17,14 +17,15 @@ use Rattle.ordered_list.specs.Ordered.{Rises, found_by, removed_by}
 use Rattle.ordered_list.proofs.Orders.{same}
 use Rattle.ordered_list.proofs.Places.{found_at}
 use Rattle.ordered_list.proofs.Rising.{Rises-removed}
-use Rattle.surface_tree.specs.Levels.{IsPlaced, side_of, level_up_to, level_of, cell_level, greater}
+use Rattle.surface_tree.specs.declared.placed.Plot.{Plot}
+use Rattle.surface_tree.specs.Levels.{IsPlaced, side_of, level_up_to, level_of, greater}
 use Rattle.surface_tree.specs.Squares.{IsIn}
 use Rattle.outline_boxes.specs.declared.bounds.TheConstants.{PLANE_LIMIT}
 use Rattle.surface_tree.specs.Changes.{Fits, LiesIn}
 use Rattle.surface_tree.specs.Visits.{near_area, close_area, hit_at, hits, all_hits, looks}
 use Rattle.ordered_tree.proofs.Order.{not_removed, only_found}
-use Rattle.surface_tree.proofs.Boxes.{cell_most, close_near}
-use Rattle.surface_tree.proofs.Visits.{filter_none}
+use Rattle.surface_tree.proofs.Boxes.{close_near}
+use Rattle.surface_tree.proofs.Visits.{filter_alike}
 
 level_most : (n : ℕ) (e : ℤ) → level_up_to n e ≤ n
 level_most zero e = omega arith
@@ -34,8 +35,12 @@ level_of_most : (a : Area) → level_of a ≤ 14
 unfolding level_of
 level_of_most a = level_most 14 (greater (a.x1 -ℤ a.x0) (a.y1 -ℤ a.y0))
 
-whole_level : (k : ℕ) (a : Area) → k ≡ 14 → nat_lt (cell_level a) (k + 1) ≡ true
-whole_level k a h = let l : cell_level a < k + 1 = omega (arith, h, cell_most a, level_of_most a) in grind (arith, l)
+-- no plot in the plane is of a level above that of the whole plane
+pub placed_most : (a : Plot) → IsPlaced a → a.level ≤ 14
+placed_most a h = omega (arith, h.level_most, level_of_most a.area)
+
+whole_level : (k : ℕ) (a : Plot) → k ≡ 14 → IsPlaced a → nat_lt a.level (k + 1) ≡ true
+whole_level k a h i = let l : a.level < k + 1 = omega (arith, h, placed_most a i) in grind (arith, l)
 
 -- items that pass one of two tests
 apart : {X : Type 0} (r a b : X → Bool) → ((x : X) → cond (a x) 1 0 + cond (b x) 1 0 ≡ cond (r x) 1 0) → (xs : List X) → IsPermutation (filter r xs) (filter a xs ++ filter b xs)
@@ -79,79 +84,69 @@ level_tests l k true =
       ]
     ]
 
-module _ {T : Type 0} (area : T → Area) (p : Point) where
-  hits_up_to : (k : ℕ) (value : List T) → IsPermutation (filter (λ i. nat_lt (cell_level (area i)) (k + 1) && has_point (area i) p) value) (hits area p k value)
+module _ {T : Type 0} (plot : T → Plot) (p : Point) where
+  hits_up_to : (k : ℕ) (value : List T) → IsPermutation (filter (λ i. nat_lt (plot i).level (k + 1) && has_point (plot i).area p) value) (hits plot p k value)
   hits_up_to zero value =
-      let e = filter_agree (λ i. nat_lt (cell_level (area i)) (0 + 1) && has_point (area i) p) (λ i. hit_at p 0 (area i)) (λ i. ap (λ b. b && has_point (area i) p) (least_test (cell_level (area i)))) value in
-      rw e (IsPermutation-refl (filter (λ i. hit_at p 0 (area i)) value))
+      let e = filter_agree (λ i. nat_lt (plot i).level (0 + 1) && has_point (plot i).area p) (λ i. hit_at p 0 (plot i)) (λ i. ap (λ b. b && has_point (plot i).area p) (least_test (plot i).level)) value in
+      rw e (IsPermutation-refl (filter (λ i. hit_at p 0 (plot i)) value))
   hits_up_to (suc k) value =
       let s : suc k ≡ k + 1 = omega arith in
-      let a = apart (λ i. nat_lt (cell_level (area i)) (k + 1 + 1) && has_point (area i) p) (λ i. hit_at p (k + 1) (area i)) (λ i. nat_lt (cell_level (area i)) (k + 1) && has_point (area i) p) (λ i. level_tests (cell_level (area i)) k (has_point (area i) p)) value in
-      rw s (IsPermutation-trans _ _ _ a (IsPermutation-append_right (filter (λ i. hit_at p (k + 1) (area i)) value) _ _ (hits_up_to k value)))
+      let a = apart (λ i. nat_lt (plot i).level (k + 1 + 1) && has_point (plot i).area p) (λ i. hit_at p (k + 1) (plot i)) (λ i. nat_lt (plot i).level (k + 1) && has_point (plot i).area p) (λ i. level_tests (plot i).level k (has_point (plot i).area p)) value in
+      rw s (IsPermutation-trans _ _ _ a (IsPermutation-append_right (filter (λ i. hit_at p (k + 1) (plot i)) value) _ _ (hits_up_to k value)))
 
-  -- a visit of the whole tree gives each item whose box has the point
-  hits_at : (k : ℕ) (value : List T) → k ≡ 14 → IsPermutation (filter (λ i. has_point (area i) p) value) (hits area p k value)
-  hits_at k value h =
-      let e = filter_agree (λ i. has_point (area i) p) (λ i. nat_lt (cell_level (area i)) (k + 1) && has_point (area i) p) (λ i. rw (whole_level k (area i) h) refl) value in
+  -- a visit of the whole tree gives each item whose area has the point
+  hits_at : (k : ℕ) (value : List T) → k ≡ 14 → All (λ i. IsPlaced (plot i)) value → IsPermutation (filter (λ i. has_point (plot i).area p) value) (hits plot p k value)
+  hits_at k value h placed =
+      let e = filter_alike (λ i. has_point (plot i).area p) (λ i. nat_lt (plot i).level (k + 1) && has_point (plot i).area p) value (λ j d b. rw (whole_level k (plot (get_or value j d)) h (placed j d b)) refl) in
       rw e (hits_up_to k value)
 
-  pub seen_whole : (Seen : List T → Type 0) (k : ℕ) (value xs : List T) → k ≡ 14 → Seen (xs ++ hits area p k value) → (ys : List T) × IsPermutation (filter (λ i. has_point (area i) p) value) ys × Seen (xs ++ ys)
-  seen_whole Seen k value xs h s = (hits area p k value, hits_at k value h, s)
+  pub seen_whole : (Seen : List T → Type 0) (k : ℕ) (value xs : List T) → k ≡ 14 → All (λ i. IsPlaced (plot i)) value → Seen (xs ++ hits plot p k value) → (ys : List T) × IsPermutation (filter (λ i. has_point (plot i).area p) value) ys × Seen (xs ++ ys)
+  seen_whole Seen k value xs h placed s = (hits plot p k value, hits_at k value h placed, s)
 
-  pub looks_whole : (k : ℕ) (value : List T) → k ≡ 14 → looks area p k value ≡ count_by (λ i. close_area p (area i)) value
-  looks_whole k value h =
-      let e = filter_agree (λ i. close_area p (area i)) (λ i. nat_lt (cell_level (area i)) (k + 1) && close_area p (area i)) (λ i. rw (whole_level k (area i) h) refl) value in
-      sym (length-filter (λ i. nat_lt (cell_level (area i)) (k + 1) && close_area p (area i)) value) ∙ ap length (sym e) ∙ length-filter (λ i. close_area p (area i)) value
+  pub looks_whole : (k : ℕ) (value : List T) → k ≡ 14 → All (λ i. IsPlaced (plot i)) value → looks plot p k value ≡ count_by (λ i. close_area p (plot i)) value
+  looks_whole k value h placed =
+      let e = filter_alike (λ i. close_area p (plot i)) (λ i. nat_lt (plot i).level (k + 1) && close_area p (plot i)) value (λ j d b. rw (whole_level k (plot (get_or value j d)) h (placed j d b)) refl) in
+      sym (length-filter (λ i. nat_lt (plot i).level (k + 1) && close_area p (plot i)) value) ∙ ap length (sym e) ∙ length-filter (λ i. close_area p (plot i)) value
 
   -- what is close is near
-  pub close_count : (value : List T) → All (λ i. IsPlaced (area i)) value → count_by (λ i. close_area p (area i)) value ≤ count_by (λ i. near_area p (area i)) value
-  close_count value h = omega (arith, length-filter (λ i. close_area p (area i)) value, length-filter (λ i. near_area p (area i)) value, fewer value h)
+  pub close_count : (value : List T) → All (λ i. IsPlaced (plot i)) value → count_by (λ i. close_area p (plot i)) value ≤ count_by (λ i. near_area p (plot i).area) value
+  close_count value h = omega (arith, length-filter (λ i. close_area p (plot i)) value, length-filter (λ i. near_area p (plot i).area) value, fewer value h)
     where
-      fewer : (value : List T) → All (λ i. IsPlaced (area i)) value → length (filter (λ i. close_area p (area i)) value) ≤ length (filter (λ i. near_area p (area i)) value)
+      fewer : (value : List T) → All (λ i. IsPlaced (plot i)) value → length (filter (λ i. close_area p (plot i)) value) ≤ length (filter (λ i. near_area p (plot i).area) value)
       fewer [] h = omega arith
       fewer (x ∷ xs) h =
-          let r = fewer xs (All-tail (λ i. IsPlaced (area i)) x xs h) in
-          elim (cases_Bool (close_area p (area x))) [
-            | inl y ↦ (let n : near_area p (area x) ≡ true = close_near (area x) p (All-head (λ i. IsPlaced (area i)) x xs h) y in rw (y, n) (omega (arith, r)))
-            | inr y ↦ elim (cases_Bool (near_area p (area x))) [ inl n ↦ rw (y, n) (omega (arith, r)) | inr n ↦ rw (y, n) r ]
+          let r = fewer xs (All-tail (λ i. IsPlaced (plot i)) x xs h) in
+          elim (cases_Bool (close_area p (plot x))) [
+            | inl y ↦ (let n : near_area p (plot x).area ≡ true = close_near (plot x) p (All-head (λ i. IsPlaced (plot i)) x xs h) y in rw (y, n) (omega (arith, r)))
+            | inr y ↦ elim (cases_Bool (near_area p (plot x).area)) [ inl n ↦ rw (y, n) (omega (arith, r)) | inr n ↦ rw (y, n) r ]
           ]
 
-  pub all_hits_at : (k : ℕ) (value : List T) → k ≡ 14 → hits area p k value ≡ all_hits area p value
+  pub all_hits_at : (k : ℕ) (value : List T) → k ≡ 14 → hits plot p k value ≡ all_hits plot p value
   unfolding all_hits
-  all_hits_at k value h = ap (λ n. hits area p n value) h
+  all_hits_at k value h = ap (λ n. hits plot p n value) h
 
-  pub order_whole : (Seen : List T → Type 0) (k : ℕ) (value xs : List T) → k ≡ 14 → Seen (xs ++ hits area p k value) → Seen (xs ++ all_hits area p value)
+  pub order_whole : (Seen : List T → Type 0) (k : ℕ) (value xs : List T) → k ≡ 14 → Seen (xs ++ hits plot p k value) → Seen (xs ++ all_hits plot p value)
   order_whole Seen k value xs h s = subst (λ ys. Seen (xs ++ ys)) (all_hits_at k value h) s
-
-  -- where all items stand in squares of one level n, a visit gives them in their order
-  pub no_hits : (n k : ℕ) (value : List T) → All (λ i. cell_level (area i) ≡ n) value → k < n → hits area p k value ≡ []
-  no_hits n zero value h l = filter_none (λ i. hit_at p zero (area i)) value (λ j d b. other n zero _ (h j d b) (omega arith))
-    where
-      other : (n k : ℕ) (a : Area) → cell_level a ≡ n → k ≢ n → hit_at p k a ≡ false
-      other n k a e d = let z : nat_eq (cell_level a) k ≡ false = grind (arith, e, d) in and_left (nat_eq (cell_level a) k) (has_point a p) z
-  no_hits n (suc k) value h l =
-      let z : filter (λ i. hit_at p (suc k) (area i)) value ≡ [] = filter_none (λ i. hit_at p (suc k) (area i)) value (λ j d b. (let e = h j d b in let y : nat_eq (cell_level (area (get_or value j d))) (suc k) ≡ false = grind (arith, e, l) in and_left (nat_eq (cell_level (area (get_or value j d))) (suc k)) (has_point (area (get_or value j d)) p) y)) in
-      rw (z, no_hits n k value h (omega arith)) refl
 
 -- each point of the grid lies in the whole square
 pub whole_in : (p : Point) → IsIn 14 (neg_ℤ PLANE_LIMIT) (neg_ℤ PLANE_LIMIT) p
 whole_in p = let s : side_of 14 ≡ 67108864 = refl in let g = p.on_grid in record { not_west = omega (arith, ints, g); not_east = omega (arith, ints, s, g); not_south = omega (arith, ints, g); not_north = omega (arith, ints, s, g) }
 
-module _ {T K : Type 0} (cmp : K → K → Ordering) (total : IsTotalOrder cmp) (key : T → K) (area : T → Area) where
-  lies_equal : (a b : Area) → a ≡ b → LiesIn a b
+module _ {T K : Type 0} (cmp : K → K → Ordering) (total : IsTotalOrder cmp) (key : T → K) (plot : T → Plot) where
+  lies_equal : (a b : Plot) → a ≡ b → LiesIn a b
   lies_equal a b e = rw e (record { level = refl; west = omega (arith, ints); east = omega (arith, ints); south = omega (arith, ints); north = omega (arith, ints) })
 
   -- the removal of what is found fits
-  pub fits_found : (k : K) (y : T) (value : List T) → Rises cmp key value → found_by cmp key k value ≡ Some y → Fits cmp key area k (area y) None value
+  pub fits_found : (k : K) (y : T) (value : List T) → Rises cmp key value → found_by cmp key k value ≡ Some y → Fits cmp key plot k (plot y) None value
   fits_found k y value r e =
-      record { rises = r; covered = λ j d l q. lies_equal (area (get_or value j d)) (area y) (ap area (only_found cmp total key k y value r e j d l q)); is_for = tt }
+      record { rises = r; covered = λ j d l q. lies_equal (plot (get_or value j d)) (plot y) (ap plot (only_found cmp total key k y value r e j d l q)); is_for = tt }
 
-  -- an item fits where none stands under its key, or one whose area lies in its own
-  pub fits_covered : (x : T) (value : List T) → Rises cmp key value → ((i : T) → found_by cmp key (key x) value ≡ Some i → LiesIn (area i) (area x)) → Fits cmp key area (key x) (area x) (Some x) value
+  -- an item fits where none stands under its key, or one whose plot lies in its own
+  pub fits_covered : (x : T) (value : List T) → Rises cmp key value → ((i : T) → found_by cmp key (key x) value ≡ Some i → LiesIn (plot i) (plot x)) → Fits cmp key plot (key x) (plot x) (Some x) value
   fits_covered x value r h =
       record { rises = r; covered = λ j d l q. h (get_or value j d) (found_at cmp total key (key x) value j d r l (same cmp total (key x) (key (get_or value j d)) q)); is_for = (refl, refl) }
 
   -- and so does a new item where the one under its key was taken out
-  pub fits_new : (x : T) (value : List T) → Rises cmp key value → Fits cmp key area (key x) (area x) (Some x) (removed_by cmp key (key x) value)
+  pub fits_new : (x : T) (value : List T) → Rises cmp key value → Fits cmp key plot (key x) (plot x) (Some x) (removed_by cmp key (key x) value)
   fits_new x value r =
       record { rises = Rises-removed cmp total key (key x) value r; covered = λ j d l q. absurd (not_removed cmp total key (key x) value j d l q); is_for = (refl, refl) }

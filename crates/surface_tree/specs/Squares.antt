@@ -3,8 +3,9 @@ use Rattle.std.specs.Prelude.{◌≡◌, ℕ, ◌+◌, ◌≤◌, ℤ, pos, neg_
 use Rattle.grid_exact.specs.declared.area.Area.{Area}
 use Rattle.grid_exact.specs.declared.point.Point.{Point}
 use Rattle.outline_boxes.specs.declared.bounds.TheConstants.{PLANE_LIMIT}
+use Rattle.surface_tree.specs.declared.placed.Plot.{Plot}
 use Rattle.surface_tree.specs.declared.square.TheConstants.{TOP_LEVEL}
-use Rattle.surface_tree.specs.Levels.{side_of, cell_level}
+use Rattle.surface_tree.specs.Levels.{side_of}
 
 -- a square of the tree: its south-west corner, its side and its level
 pub record IsSquare (west south side : ℤ) (level : ℕ) : Type 0 where
@@ -23,13 +24,13 @@ meets low side from to = int_lt from (low +ℤ pos side) && int_le low to
 abbrev pub overlaps : ℕ → ℤ → ℤ → Area → Bool
 overlaps level west south area = meets west (side_of level) area.x0 area.x1 && meets south (side_of level) area.y0 area.y1
 
--- the square holds the box itself
-abbrev pub in_cell : ℕ → ℤ → ℤ → Area → Bool
-in_cell level west south area = nat_eq (cell_level area) level && overlaps level west south area
+-- the square itself holds the plot
+abbrev pub in_cell : ℕ → ℤ → ℤ → Plot → Bool
+in_cell level west south plot = nat_eq plot.level level && overlaps level west south plot.area
 
--- the square or a part of it holds the box
-abbrev pub in_reach : ℕ → ℤ → ℤ → Area → Bool
-in_reach level west south area = nat_lt (cell_level area) (level + 1) && overlaps level west south area
+-- the square or a part of it holds the plot
+abbrev pub in_reach : ℕ → ℤ → ℤ → Plot → Bool
+in_reach level west south plot = nat_lt plot.level (level + 1) && overlaps level west south plot.area
 
 -- the point lies in the square
 pub record IsIn (level : ℕ) (west south : ℤ) (point : Point) : Type 0 where

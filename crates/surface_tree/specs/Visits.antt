@@ -4,9 +4,10 @@ use Rattle.std.specs.List.{filter}
 use Rattle.grid_exact.specs.Area.{has_point}
 use Rattle.grid_exact.specs.declared.area.Area.{Area}
 use Rattle.grid_exact.specs.declared.point.Point.{Point}
+use Rattle.surface_tree.specs.declared.placed.Plot.{Plot}
 use Rattle.surface_tree.specs.declared.square.Square.{Square}
 use Rattle.surface_tree.specs.declared.square.TheConstants.{TOP_LEVEL}
-use Rattle.surface_tree.specs.Levels.{side_of, level_of, cell_level}
+use Rattle.surface_tree.specs.Levels.{side_of, level_of}
 use Rattle.surface_tree.specs.Squares.{IsIn}
 
 -- the point lies in a square that the code has
@@ -31,24 +32,24 @@ near_area p a = near_middle (side_of (level_of a)) a.x0 a.x1 p.x && near_middle 
 abbrev pub close_side : ℕ → ℤ → ℤ → ℤ → Bool
 close_side side from to x = int_lt from (x +ℤ pos side) && int_lt x (to +ℤ pos side)
 
--- in each coordinate the point lies in the box, or less than the side of the squares that hold it from it
-abbrev pub close_area : Point → Area → Bool
-close_area p a = close_side (side_of (cell_level a)) a.x0 a.x1 p.x && close_side (side_of (cell_level a)) a.y0 a.y1 p.y
+-- in each coordinate the point lies in the area, or less than the side of the squares that hold it from it
+abbrev pub close_area : Point → Plot → Bool
+close_area p plot = close_side (side_of plot.level) plot.area.x0 plot.area.x1 p.x && close_side (side_of plot.level) plot.area.y0 plot.area.y1 p.y
 
--- the box has the point, and squares of this level hold it
-abbrev pub hit_at : Point → ℕ → Area → Bool
-hit_at p level a = nat_eq (cell_level a) level && has_point a p
+-- the area has the point, and squares of this level hold it
+abbrev pub hit_at : Point → ℕ → Plot → Bool
+hit_at p level plot = nat_eq plot.level level && has_point plot.area p
 
--- the items that squares of this level or smaller ones hold and whose boxes have the point: those of the largest squares first, and
--- those of one size of squares in the order of the items
-abbrev pub hits : {T : Type 0} → (T → Area) → Point → ℕ → List T → List T
-hits area p zero items = filter (λ i. hit_at p zero (area i)) items
-hits area p (suc level) items = filter (λ i. hit_at p (suc level) (area i)) items ++ hits area p level items
+-- the items that squares of this level or smaller ones hold and whose areas have the point: those of the largest squares first, and
+-- those of squares of one size in the order of the items
+abbrev pub hits : {T : Type 0} → (T → Plot) → Point → ℕ → List T → List T
+hits plot p zero items = filter (λ i. hit_at p zero (plot i)) items
+hits plot p (suc level) items = filter (λ i. hit_at p (suc level) (plot i)) items ++ hits plot p level items
 
--- the items whose boxes have the point, in the order of a visit
-unfoldable pub all_hits : {T : Type 0} → (T → Area) → Point → List T → List T
-all_hits area p items = hits area p TOP_LEVEL items
+-- the items whose areas have the point, in the order of a visit
+unfoldable pub all_hits : {T : Type 0} → (T → Plot) → Point → List T → List T
+all_hits plot p items = hits plot p TOP_LEVEL items
 
--- how many items squares of this level or smaller ones hold, and are close to the point
-abbrev pub looks : {T : Type 0} → (T → Area) → Point → ℕ → List T → ℕ
-looks area p level items = count_by (λ i. nat_lt (cell_level (area i)) (level + 1) && close_area p (area i)) items
+-- how many items there are that squares of this level or smaller ones hold and that are close to the point
+abbrev pub looks : {T : Type 0} → (T → Plot) → Point → ℕ → List T → ℕ
+looks plot p level items = count_by (λ i. nat_lt (plot i).level (level + 1) && close_area p (plot i)) items

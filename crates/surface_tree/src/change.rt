@@ -18,13 +18,13 @@ use outline_boxes::Bounds;
 use std::alloc::Global;
 use std::sync::Arc;
 
-/// The entries of a square that holds the area, after the change.
+/// The entries of a square that itself holds the area, after the change.
 fn edited_entries<T: Placed + Drop>(
     alloc: Global,
     entries: &[Entry<T>],
     edit: &Edit<T>,
 ) -> Result<Vec<Entry<T>>, NoMemory>
-    ensures { IfOk result (λ v. (level : ℕ) (west south : ℤ) → in_cell level west south edit.now.area ≡ true → Follows T.Key.cmp T.key_of T.area_of edit.now.key edit.now.area (option_map arc_value edit.now.item) (λ xs. HoldsOwn T.area_of xs level west south entries.now) (λ xs. HoldsOwn T.area_of xs level west south v.items)) }
+    ensures { IfOk result (λ v. (level : ℕ) (west south : ℤ) → in_cell level west south edit.now.plot ≡ true → Follows T.Key.cmp T.key_of T.plot_of edit.now.key edit.now.plot (option_map arc_value edit.now.item) (λ xs. HoldsOwn T.plot_of xs level west south entries.now) (λ xs. HoldsOwn T.plot_of xs level west south v.items)) }
 {
     let mut all = shared_entries(alloc, entries, entries.len() + 1)?;
     match &edit.item {
@@ -33,7 +33,7 @@ fn edited_entries<T: Placed + Drop>(
             put_entry(
                 &mut all,
                 Entry {
-                    bounds: Bounds::of(&edit.area),
+                    bounds: Bounds::of(&edit.plot.area),
                     item,
                 },
             )?;
@@ -52,7 +52,7 @@ fn edited_cell<T: Placed + Drop>(
     cell: &Cell<T>,
     edit: &Edit<T>,
 ) -> Result<Cell<T>, NoMemory>
-    ensures { IfOk result (λ c. (level : ℕ) (west south : ℤ) → in_cell level west south edit.now.area ≡ true → Follows T.Key.cmp T.key_of T.area_of edit.now.key edit.now.area (option_map arc_value edit.now.item) (λ xs. HoldsCell T.area_of xs level west south cell.now) (λ xs. HoldsCell T.area_of xs level west south c)) }
+    ensures { IfOk result (λ c. (level : ℕ) (west south : ℤ) → in_cell level west south edit.now.plot ≡ true → Follows T.Key.cmp T.key_of T.plot_of edit.now.key edit.now.plot (option_map arc_value edit.now.item) (λ xs. HoldsCell T.plot_of xs level west south cell.now) (λ xs. HoldsCell T.plot_of xs level west south c)) }
 {
     let entries = edited_entries(alloc, &cell.entries, edit)?;
     let south_west = shared_part(&cell.south_west)?;
@@ -76,10 +76,10 @@ pub(crate) fn changed_part<T: Placed + Drop>(
     square: &Square,
     edit: &Edit<T>,
 ) -> Result<Part<T>, NoMemory>
-    requires deep { edit.now.level ≤ square.now.level }
-    ensures { IfOk result (λ q. Follows T.Key.cmp T.key_of T.area_of edit.now.key edit.now.area (option_map arc_value edit.now.item) (λ xs. PartHolds T.area_of xs square.now part.now) (λ xs. PartHolds T.area_of xs square.now q)) }
+    requires deep { edit.now.plot.level ≤ square.now.level }
+    ensures { IfOk result (λ q. Follows T.Key.cmp T.key_of T.plot_of edit.now.key edit.now.plot (option_map arc_value edit.now.item) (λ xs. PartHolds T.plot_of xs square.now part.now) (λ xs. PartHolds T.plot_of xs square.now q)) }
 {
-    if !square.overlaps(&edit.area) {
+    if !square.overlaps(&edit.plot.area) {
         return shared_part(part);
     }
     let cell = reached_cell(alloc, part, square, edit)?;
@@ -94,9 +94,9 @@ fn reached_cell<T: Placed + Drop>(
     square: &Square,
     edit: &Edit<T>,
 ) -> Result<Cell<T>, NoMemory>
-    requires deep { edit.now.level ≤ square.now.level }
-    requires met { overlaps square.now.level square.now.west square.now.south edit.now.area ≡ true }
-    ensures { IfOk result (λ c. Follows T.Key.cmp T.key_of T.area_of edit.now.key edit.now.area (option_map arc_value edit.now.item) (λ xs. PartHolds T.area_of xs square.now part.now) (λ xs. CellHolds T.area_of xs square.now c)) }
+    requires deep { edit.now.plot.level ≤ square.now.level }
+    requires met { overlaps square.now.level square.now.west square.now.south edit.now.plot.area ≡ true }
+    ensures { IfOk result (λ c. Follows T.Key.cmp T.key_of T.plot_of edit.now.key edit.now.plot (option_map arc_value edit.now.item) (λ xs. PartHolds T.plot_of xs square.now part.now) (λ xs. CellHolds T.plot_of xs square.now c)) }
 {
     match part {
         Part::Bare => {
@@ -114,11 +114,11 @@ fn changed_cell<T: Placed + Drop>(
     square: &Square,
     edit: &Edit<T>,
 ) -> Result<Cell<T>, NoMemory>
-    requires deep { edit.now.level ≤ square.now.level }
-    requires met { overlaps square.now.level square.now.west square.now.south edit.now.area ≡ true }
-    ensures { IfOk result (λ c. Follows T.Key.cmp T.key_of T.area_of edit.now.key edit.now.area (option_map arc_value edit.now.item) (λ xs. CellHolds T.area_of xs square.now cell.now) (λ xs. CellHolds T.area_of xs square.now c)) }
+    requires deep { edit.now.plot.level ≤ square.now.level }
+    requires met { overlaps square.now.level square.now.west square.now.south edit.now.plot.area ≡ true }
+    ensures { IfOk result (λ c. Follows T.Key.cmp T.key_of T.plot_of edit.now.key edit.now.plot (option_map arc_value edit.now.item) (λ xs. CellHolds T.plot_of xs square.now cell.now) (λ xs. CellHolds T.plot_of xs square.now c)) }
 {
-    if edit.level == square.level {
+    if edit.plot.level == square.level {
         return edited_cell(alloc, cell, edit);
     }
     let entries = shared_entries(alloc, &cell.entries, cell.entries.len())?;

@@ -1,7 +1,7 @@
 //! The nodes of a tree.
 
 ghost use Rattle.std.specs.Prelude.{IfOk, ℕ, ℤ, List};
-ghost use Rattle.grid_exact.specs.declared.area.Area.{Area};
+ghost use Rattle.surface_tree.specs.declared.placed.Plot.{Plot};
 ghost use Rattle.surface_tree.specs.Parts.{Holds, HoldsCell, HoldsNone};
 
 use crate::entry::Entry;
@@ -31,7 +31,7 @@ pub(crate) struct Cell<T: Drop> {
 
 /// The same part, shared.
 pub(crate) fn shared_part<T: Drop>(part: &Part<T>) -> Result<Part<T>, NoMemory>
-    ensures { IfOk result (λ q. (area : T → Area) (items : List T) (level : ℕ) (west south : ℤ) → Holds area items level west south part.now → Holds area items level west south q) }
+    ensures { IfOk result (λ q. (plot : T → Plot) (items : List T) (level : ℕ) (west south : ℤ) → Holds plot items level west south part.now → Holds plot items level west south q) }
 {
     match part {
         Part::Bare => Ok(Part::Bare),
@@ -44,7 +44,7 @@ pub(crate) fn shared_part<T: Drop>(part: &Part<T>) -> Result<Part<T>, NoMemory>
 
 /// A square with no items.
 pub(crate) fn bare_cell<T: Drop>(alloc: Global) -> Cell<T>
-    ensures { (area : T → Area) (items : List T) (level : ℕ) (west south : ℤ) → HoldsNone area items level west south → HoldsCell area items level west south result }
+    ensures { (plot : T → Plot) (items : List T) (level : ℕ) (west south : ℤ) → HoldsNone plot items level west south → HoldsCell plot items level west south result }
 {
     Cell {
         entries: Vec::new(alloc),

@@ -1,21 +1,28 @@
 //! What stands in a tree.
 
 ghost use Rattle.std.specs.Prelude.{◌≡◌};
-ghost use Rattle.grid_exact.specs.declared.area.Area.{Area};
+ghost use Rattle.surface_tree.specs.declared.placed.Plot.{Plot as APlot};
 
 use grid_exact::Area;
 
-/// A value with an area, in which a point meets it, and a key, under which a tree holds it. The value fixes both.
+/// Where an item stands: its area, and the level of the squares that hold it.
+#[derive(Clone, Copy)]
+pub struct Plot {
+    pub area: Area,
+    pub level: u32,
+}
+
+/// A value with a plot, in whose area a point meets it, and a key, under which a tree holds it. The value fixes both.
 pub trait Placed {
     type Key: Ord + Copy;
 
-    ghost area_of: { Self → Area };
+    ghost plot_of: { Self → APlot };
 
     ghost key_of: { Self → Self.Key };
 
-    /// The area of the value.
-    fn area(&self) -> Area
-        ensures { result ≡ area_of self.now };
+    /// Where the value stands.
+    fn plot(&self) -> Plot
+        ensures { result ≡ plot_of self.now };
 
     /// The key of the value.
     fn key(&self) -> Self::Key

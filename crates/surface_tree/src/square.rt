@@ -9,8 +9,8 @@ ghost use Rattle.surface_tree.specs.declared.square.TheConstants.{TOP_LEVEL};
 use grid_exact::{Area, is_at_most, is_below};
 use outline_boxes::{PLANE_LIMIT, Spot};
 
-/// The level of the whole plane, in which areas lie from `-PLANE_LIMIT` to below `PLANE_LIMIT` in each coordinate. A square of level 0 has a side of 4,096 tenths of a foot, one of each level twice that of the level
-/// below.
+/// The level of the whole plane, in which areas lie from `-PLANE_LIMIT` to below `PLANE_LIMIT` in each coordinate. A square of level 0
+/// has a side of 4,096 tenths of a foot, and one of each other level twice that of the level below.
 pub const TOP_LEVEL: u32 = 14;
 
 /// A square, by its south-west corner: it has its south and west sides, and not its north and east sides.

@@ -6,7 +6,7 @@ ghost use Rattle.std.specs.List.{filter};
 ghost use Rattle.std.specs.List.Sorted.{IsPermutation};
 ghost use Rattle.grid_exact.specs.Area.{has_point};
 ghost use Rattle.ordered_list.specs.Ordered.{put_by, removed_by};
-ghost use Rattle.surface_tree.specs.Levels.{IsPlaced, cell_level};
+ghost use Rattle.surface_tree.specs.Levels.{IsPlaced};
 ghost use Rattle.surface_tree.specs.Changes.{Follows, IsFound, LiesIn};
 ghost use Rattle.surface_tree.specs.Parts.{RootHolds};
 ghost use Rattle.surface_tree.specs.Visits.{all_hits, close_area, near_area};
@@ -15,13 +15,12 @@ ghost use Rattle.surface_tree.specs.declared.square.TheConstants.{TOP_LEVEL};
 use crate::by_key::PlacedKey;
 use crate::change::changed_part;
 use crate::edit::Edit;
-use crate::level::level_for;
 use crate::part::{Part, shared_part};
-use crate::placed::Placed;
+use crate::placed::{Placed, Plot};
 use crate::square::Square;
 use crate::visit::visit_part;
 use crate::visitor::Visitor;
-use grid_exact::{Area, NoMemory, Point, Steps};
+use grid_exact::{NoMemory, Point, Steps};
 use ordered_tree::OrderedTree;
 use outline_boxes::Spot;
 use std::alloc::Global;
@@ -44,7 +43,7 @@ impl<T: Placed + Drop> Model for Tree<T> {
 
     ghost view = { λ t. t.by_key };
 
-    ghost invariant = { λ t. IsTree T.Key.cmp T.key_of T.area_of t.root t.by_key };
+    ghost invariant = { λ t. IsTree T.Key.cmp T.key_of T.plot_of t.root t.by_key };
 }
 
 /// All squares after a change.
@@ -53,7 +52,7 @@ fn changed_root<T: Placed + Drop>(
     root: &Part<T>,
     edit: &Edit<T>,
 ) -> Result<Part<T>, NoMemory>
-    ensures { IfOk result (λ q. Follows T.Key.cmp T.key_of T.area_of edit.now.key edit.now.area (option_map arc_value edit.now.item) (λ xs. RootHolds T.area_of xs root.now) (λ xs. RootHolds T.area_of xs q)) }
+    ensures { IfOk result (λ q. Follows T.Key.cmp T.key_of T.plot_of edit.now.key edit.now.plot (option_map arc_value edit.now.item) (λ xs. RootHolds T.plot_of xs root.now) (λ xs. RootHolds T.plot_of xs q)) }
 {
     changed_part(alloc, root, &Square::whole(), edit)
 }
@@ -65,8 +64,8 @@ fn cleared_root<T: Placed + Drop>(
     key: T::Key,
     old: Option<&Arc<T>>,
 ) -> Result<Part<T>, NoMemory>
-    requires placed { (i : T) → option_map arc_value (option_copied old) ≡ Some i → IsPlaced (T.area_of i) }
-    ensures { IfOk result (λ q. (items : List T) → IsFound T.Key.cmp T.key_of key (option_map arc_value (option_copied old.entry)) items → RootHolds T.area_of items root.now → RootHolds T.area_of (removed_by T.Key.cmp T.key_of key items) q) }
+    requires placed { (i : T) → option_map arc_value (option_copied old) ≡ Some i → IsPlaced (T.plot_of i) }
+    ensures { IfOk result (λ q. (items : List T) → IsFound T.Key.cmp T.key_of key (option_map arc_value (option_copied old.entry)) items → RootHolds T.plot_of items root.now → RootHolds T.plot_of (removed_by T.Key.cmp T.key_of key items) q) }
 {
     match old {
         None => shared_part(root),
@@ -74,43 +73,41 @@ fn cleared_root<T: Placed + Drop>(
     }
 }
 
-/// Whether the item's area lies in this one, and squares of one size hold both.
-fn lies_in<T: Placed>(item: &T, area: &Area, level: u32) -> bool
-    requires placed { IsPlaced (T.area_of item.now) }
-    requires level { level ≡ cell_level area.now }
-    ensures { IsTrue result → LiesIn (T.area_of item.now) area.now }
+/// Whether the item's area lies in that of the plot, and squares of one size hold both.
+fn lies_in<T: Placed>(item: &T, plot: &Plot) -> bool
+    ensures { IsTrue result → LiesIn (T.plot_of item.now) plot.now }
 {
-    let inner = item.area();
-    let area = *area;
-    (level_for(&inner) == level)
-        & (area.x0 <= inner.x0)
-        & (inner.x1 <= area.x1)
-        & (area.y0 <= inner.y0)
-        & (inner.y1 <= area.y1)
+    let inner = item.plot();
+    let outer = *plot;
+    (inner.level == outer.level)
+        & (outer.area.x0 <= inner.area.x0)
+        & (inner.area.x1 <= outer.area.x1)
+        & (outer.area.y0 <= inner.area.y0)
+        & (inner.area.y1 <= outer.area.y1)
 }
 
 /// Whether no item was found under a key, or one whose squares all hold the area of the edit too.
 fn is_covered<T: Placed + Drop>(old: Option<&Arc<T>>, edit: &Edit<T>) -> bool
-    requires { (i : T) → option_map arc_value (option_copied old) ≡ Some i → IsPlaced (T.area_of i) }
-    ensures { IsTrue result → (i : T) → option_map arc_value (option_copied old.entry) ≡ Some i → LiesIn (T.area_of i) edit.now.area }
+    ensures { IsTrue result → (i : T) → option_map arc_value (option_copied old.entry) ≡ Some i → LiesIn (T.plot_of i) edit.now.plot }
 {
     match old {
         None => true,
-        Some(old) => lies_in::<T>(old, &edit.area, edit.level),
+        Some(old) => lies_in::<T>(old, &edit.plot),
     }
 }
 
-/// The squares with the item instead of the one that was found under its key. Where the new area covers that of the old item, as it does
-/// where an airport is given a runway, each square that holds it is copied once; else the squares are cleared of the old item first.
+/// The squares with the item instead of the one that was found under its key. Where the new area covers that of the old item and squares
+/// of one size hold both, as where an airport is given a runway, each of them is copied once; else the squares are cleared of the old
+/// item first.
 fn replaced_root<T: Placed + Drop>(
     alloc: Global,
     root: &Part<T>,
     old: Option<&Arc<T>>,
     item: Arc<T>,
 ) -> Result<Part<T>, NoMemory>
-    requires found { (i : T) → option_map arc_value (option_copied old) ≡ Some i → IsPlaced (T.area_of i) }
-    requires placed { IsPlaced (T.area_of (arc_value item)) }
-    ensures { IfOk result (λ q. (items : List T) → IsFound T.Key.cmp T.key_of (T.key_of (arc_value item)) (option_map arc_value (option_copied old.entry)) items → RootHolds T.area_of items root.now → RootHolds T.area_of (put_by T.Key.cmp T.key_of (arc_value item) items) q) }
+    requires found { (i : T) → option_map arc_value (option_copied old) ≡ Some i → IsPlaced (T.plot_of i) }
+    requires placed { IsPlaced (T.plot_of (arc_value item)) }
+    ensures { IfOk result (λ q. (items : List T) → IsFound T.Key.cmp T.key_of (T.key_of (arc_value item)) (option_map arc_value (option_copied old.entry)) items → RootHolds T.plot_of items root.now → RootHolds T.plot_of (put_by T.Key.cmp T.key_of (arc_value item) items) q) }
 {
     let edit = Edit::put(item);
     if is_covered(old, &edit) {
@@ -133,13 +130,14 @@ impl<T: Placed + Drop> Tree<T> {
 
     /// The tree with the item in its place, instead of the one under its key. This tree stays as it is.
     ///
-    /// The area of the item has its ends in order, and coordinates from `-PLANE_LIMIT` to below `PLANE_LIMIT`.
+    /// The area of the item has its ends in order, and coordinates from `-PLANE_LIMIT` to below `PLANE_LIMIT`. Its
+    /// squares are no larger than its size: they are of level 0, or half of their side is less than the longer of its extents.
     ///
     /// # Errors
     ///
     /// `NoMemory` where memory was refused.
     pub fn with(&self, alloc: Global, item: Arc<T>) -> Result<Tree<T>, NoMemory>
-        requires { IsPlaced (T.area_of (arc_value item)) }
+        requires { IsPlaced (T.plot_of (arc_value item)) }
         ensures { IfOk result (λ t. t ≡ put_by T.Key.cmp T.key_of (arc_value item) self.now) }
     {
         let by_key = self.by_key.with(alloc, Arc::try_clone(&item)?)?;
@@ -187,15 +185,14 @@ impl<T: Placed + Drop> Tree<T> {
 
     /// Gives the visitor each item whose area has the point, once, and no other. It takes no memory.
     ///
-    /// The items come in the order of their keys where squares of one size hold them all, as they do areas with an extent above
-    /// 262,144 tenths of a foot. Otherwise those of larger squares come first.
+    /// Those of the largest squares come first, and those of squares of one size in the order of their keys.
     ///
     /// A step is counted for each square, of which there is at most one of each level, and for each item that is looked at.
     pub fn visit<L: Ledger, W: Visitor<T>>(&self, x: &Point, visitor: &mut W, steps: &mut Steps<L>)
-        ensures order { (start : W) (xs : List T) → W.seen start visitor.old xs → W.seen start visitor.new (xs ++ all_hits T.area_of x.now self.now) }
-        ensures seen { (start : W) (xs : List T) → W.seen start visitor.old xs → (ys : List T) × IsPermutation (filter (λ i. has_point (T.area_of i) x.now) self.now) ys × W.seen start visitor.new (xs ++ ys) }
-        ensures close { steps.new ≤ steps.old + (TOP_LEVEL + 1) + count_by (λ i. close_area x.now (T.area_of i)) self.now }
-        ensures cost { steps.new ≤ steps.old + (TOP_LEVEL + 1) + count_by (λ i. near_area x.now (T.area_of i)) self.now }
+        ensures order { (start : W) (xs : List T) → W.seen start visitor.old xs → W.seen start visitor.new (xs ++ all_hits T.plot_of x.now self.now) }
+        ensures seen { (start : W) (xs : List T) → W.seen start visitor.old xs → (ys : List T) × IsPermutation (filter (λ i. has_point (T.plot_of i).area x.now) self.now) ys × W.seen start visitor.new (xs ++ ys) }
+        ensures close { steps.new ≤ steps.old + (TOP_LEVEL + 1) + count_by (λ i. close_area x.now (T.plot_of i)) self.now }
+        ensures cost { steps.new ≤ steps.old + (TOP_LEVEL + 1) + count_by (λ i. near_area x.now (T.plot_of i).area) self.now }
     {
         let spot = Spot::of(x);
         visit_part(&self.root, &Square::whole(), &spot, visitor, steps);

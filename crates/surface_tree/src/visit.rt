@@ -3,8 +3,8 @@
 ghost use Rattle.std.specs.Prelude.{◌≡◌, ◌+◌, ◌≤◌, ◌++◌, ◌<◌, ◌-◌, List, length, map, take, slice_index_or};
 ghost use Rattle.std.specs.List.{filter, All};
 ghost use Rattle.grid_exact.specs.Area.{has_point};
-ghost use Rattle.grid_exact.specs.declared.area.Area.{Area};
 ghost use Rattle.surface_tree.specs.declared.entry.Entry.{Entry};
+ghost use Rattle.surface_tree.specs.declared.placed.Plot.{Plot};
 ghost use Rattle.surface_tree.specs.declared.visit.TheConstants.{BLOCK};
 ghost use Rattle.outline_boxes.specs.Bounds.{box_of};
 ghost use Rattle.surface_tree.specs.Parts.{CellHolds, PartHolds, item_of};
@@ -104,7 +104,7 @@ fn quarter_over<'a, T: Drop>(cell: &'a Cell<T>, square: &Square, x: &Spot) -> (&
     requires deep { 0 < square.now.level }
     ensures level { result.1.level ≡ square.now.level - 1 }
     ensures point { HasPoint square.now x.now → HasPoint result.1 x.now }
-    ensures holds { (area : T → Area) (items : List T) → CellHolds area items square.now cell.now → PartHolds area items result.1 result.0.now }
+    ensures holds { (plot : T → Plot) (items : List T) → CellHolds plot items square.now cell.now → PartHolds plot items result.1 result.0.now }
 {
     if square.is_north(x) {
         if square.is_east(x) {
@@ -129,8 +129,8 @@ pub(crate) fn visit_part<T: Placed + Drop, L: Ledger, W: Visitor<T>>(
     visitor: &mut W,
     steps: &mut Steps<L>,
 )
-    ensures seen { (items : List T) → HasPoint square.now x.now → PartHolds T.area_of items square.now part.now → SeesMore W.seen visitor.old visitor.new (hits T.area_of x.now square.now.level items) }
-    ensures cost { (items : List T) → HasPoint square.now x.now → PartHolds T.area_of items square.now part.now → steps.new ≤ steps.old + (square.now.level + 1) + looks T.area_of x.now square.now.level items }
+    ensures seen { (items : List T) → HasPoint square.now x.now → PartHolds T.plot_of items square.now part.now → SeesMore W.seen visitor.old visitor.new (hits T.plot_of x.now square.now.level items) }
+    ensures cost { (items : List T) → HasPoint square.now x.now → PartHolds T.plot_of items square.now part.now → steps.new ≤ steps.old + (square.now.level + 1) + looks T.plot_of x.now square.now.level items }
 {
     match part {
         Part::Bare => {}
@@ -146,8 +146,8 @@ fn visit_cell<T: Placed + Drop, L: Ledger, W: Visitor<T>>(
     visitor: &mut W,
     steps: &mut Steps<L>,
 )
-    ensures seen { (items : List T) → HasPoint square.now x.now → CellHolds T.area_of items square.now cell.now → SeesMore W.seen visitor.old visitor.new (hits T.area_of x.now square.now.level items) }
-    ensures cost { (items : List T) → HasPoint square.now x.now → CellHolds T.area_of items square.now cell.now → steps.new ≤ steps.old + (square.now.level + 1) + looks T.area_of x.now square.now.level items }
+    ensures seen { (items : List T) → HasPoint square.now x.now → CellHolds T.plot_of items square.now cell.now → SeesMore W.seen visitor.old visitor.new (hits T.plot_of x.now square.now.level items) }
+    ensures cost { (items : List T) → HasPoint square.now x.now → CellHolds T.plot_of items square.now cell.now → steps.new ≤ steps.old + (square.now.level + 1) + looks T.plot_of x.now square.now.level items }
 {
     steps.tick();
     visit_entries(&cell.entries, x, visitor, steps);

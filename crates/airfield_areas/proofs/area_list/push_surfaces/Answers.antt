@@ -6,7 +6,7 @@ use Rattle.airfields.specs.declared.runway.Runway.{Runway}
 use Rattle.horizontal_hull.specs.Arcs.{Dome, dome_of}
 use Rattle.horizontal_hull.specs.Areas.{AreHullAreas, CoverHull}
 use Rattle.airfield_findings.proofs.ReachFacts.{surfaces_nowhere}
-use Rattle.airfield_areas.specs.Areas.{AreRunwayAreas}
+use Rattle.airfield_reach.specs.Areas.{AreRunwayAreas}
 use Rattle.airfield_areas.specs.Outside.{LeavesRunwaysOut}
 use Rattle.airfield_areas.proofs.OutsideFacts.{surfaces_left_out}
 use Rattle.airfield_areas.proofs.area_list.push_surfaces.Goals as goal

@@ -5,7 +5,7 @@ use Rattle.grid_exact.specs.Level.{IsLevel}
 use Rattle.grid_exact.specs.declared.cap.Cap.{Cap}
 use Rattle.grid_exact.specs.declared.point.Point.{Point}
 use Rattle.imaginary_surfaces.specs.Areas.{AreStripAreas, HullHas, SkipsIn}
-use Rattle.airfield_areas.proofs.Joined.{next_runway}
+use Rattle.airfield_reach.proofs.RunwayAreas.{next_runway}
 use Rattle.airfield_areas.proofs.OutsideFacts.{next_left_out}
 use Rattle.airfield_areas.proofs.runways.push_runways.Goals as goal
 

@@ -1,6 +1,6 @@
 use Rattle.std.proofs.Common.{◌≡◌, ◌++◌, List, take}
 use Rattle.grid_exact.specs.declared.area.Area.{Area}
-use Rattle.airfield_areas.specs.Areas.{AreRunwayAreas}
+use Rattle.airfield_reach.specs.Areas.{AreRunwayAreas}
 use Rattle.airfield_areas.specs.Outside.{LeavesRunwaysOut}
 use Rattle.airfield_areas.proofs.runways.push_runways.Given as goal
 

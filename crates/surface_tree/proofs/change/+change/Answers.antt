@@ -2,7 +2,6 @@ use Rattle.std.proofs.Common.{◌≡◌, ◌+◌, ◌<◌, option_map, arith, na
 use Rattle.std.specs.Arc.{arc_value}
 use Rattle.std.proofs.lemmas.Bool.{and_from, and_right}
 use Rattle.std.proofs.lemmas.Result.{IfOk-weaker}
-use Rattle.surface_tree.specs.Levels.{cell_level}
 use Rattle.surface_tree.specs.Squares.{overlaps, in_cell, in_reach}
 use Rattle.surface_tree.specs.Changes.{edited_by}
 use Rattle.surface_tree.proofs.Holdings.{Holds_past, own_past, larger_cell}
@@ -12,13 +11,13 @@ use Rattle.surface_tree.proofs.change.+change.Goals as goal
 pub changed_part-returns-then-not-overlaps : goal.changed_part-returns-then-not-overlaps
 changed_part-returns-then-not-overlaps g t c =
     let q = c.args.square.now in
-    let a = c.args.edit.now.area in
+    let a = c.args.edit.now.plot in
     let item = option_map arc_value c.args.edit.now.item in
-    let o : overlaps q.level q.west q.south a ≡ false = sym c.overlaps.ensures ∙ c.if-not-overlaps.true in
-    let n : in_reach q.level q.west q.south a ≡ false = and_right (nat_lt (cell_level a) (q.level + 1)) (overlaps q.level q.west q.south a) o in
+    let o : overlaps q.level q.west q.south a.area ≡ false = sym c.overlaps.ensures ∙ c.if-not-overlaps.true in
+    let n : in_reach q.level q.west q.south a ≡ false = and_right (nat_lt a.level (q.level + 1)) (overlaps q.level q.west q.south a.area) o in
     IfOk-weaker c.shared_part.result _ _
-    (λ part h. λ value f k. h g.T.Placed.area_of (edited_by g.T.Key.Ord.cmp g.T.Placed.key_of c.args.edit.now.key item value) q.level q.west q.south
-    (Holds_past g.T.Key.Ord.cmp g.met.T.Key.Ord.total g.T.Placed.key_of g.T.Placed.area_of c.args.edit.now.key a item value f q.level q.west q.south c.args.part.now n k))
+    (λ part h. λ value f k. h g.T.Placed.plot_of (edited_by g.T.Key.Ord.cmp g.T.Placed.key_of c.args.edit.now.key item value) q.level q.west q.south
+    (Holds_past g.T.Key.Ord.cmp g.met.T.Key.Ord.total g.T.Placed.key_of g.T.Placed.plot_of c.args.edit.now.key a item value f q.level q.west q.south c.args.part.now n k))
     c.shared_part.ensures
 
 pub changed_part-returns : goal.changed_part-returns
@@ -28,34 +27,34 @@ pub reached_cell-returns-in-Bare : goal.reached_cell-returns-in-Bare
 reached_cell-returns-in-Bare g t c =
     let q = c.args.square.now in
     IfOk-weaker c.changed_cell.result _ _
-    (λ cell p. λ value f h. p value f (c.bare_cell-cell.ensures g.T.Placed.area_of value q.level q.west q.south (let n = rw c.in-Bare.is at h in n)))
+    (λ cell p. λ value f h. p value f (c.bare_cell-cell.ensures g.T.Placed.plot_of value q.level q.west q.south (let n = rw c.in-Bare.is at h in n)))
     c.changed_cell.ensures
 
 pub changed_cell-returns-then-edit-square : goal.changed_cell-returns-then-edit-square
 changed_cell-returns-then-edit-square g t c =
     let q = c.args.square.now in
-    let a = c.args.edit.now.area in
-    let e : nat_eq (cell_level a) q.level ≡ true = grind (arith, c.args.edit.now.sound.level_is, c.if-edit-square.true) in
-    let y : in_cell q.level q.west q.south a ≡ true = and_from (nat_eq (cell_level a) q.level) (overlaps q.level q.west q.south a) e c.requires.met in
+    let a = c.args.edit.now.plot in
+    let e : nat_eq a.level q.level ≡ true = grind (arith, c.if-edit-square.true) in
+    let y : in_cell q.level q.west q.south a ≡ true = and_from (nat_eq a.level q.level) (overlaps q.level q.west q.south a.area) e c.requires.met in
     IfOk-weaker c.edited_cell.result _ _ (λ cell p. λ value f h. p q.level q.west q.south y value f h) c.edited_cell.ensures
 
 pub changed_cell-returns : goal.changed_cell-returns
 changed_cell-returns g t c =
     λ value f h.
     let q = c.args.square.now in
-    let a = c.args.edit.now.area in
+    let a = c.args.edit.now.plot in
     let item = option_map arc_value c.args.edit.now.item in
     let l : 0 < q.level = omega (arith, c.if-edit-square.false, c.requires.deep) in
-    let m : cell_level a < q.level = omega (arith, c.if-edit-square.false, c.requires.deep, c.args.edit.now.sound.level_is) in
+    let m : a.level < q.level = omega (arith, c.if-edit-square.false, c.requires.deep) in
     let n : in_cell q.level q.west q.south a ≡ false = larger_cell q.level q.west q.south a m in
-    let past = own_past g.T.Key.Ord.cmp g.met.T.Key.Ord.total g.T.Placed.key_of g.T.Placed.area_of c.args.edit.now.key a item value f q.level q.west q.south c.args.cell.now.entries.items n h.0 in
+    let past = own_past g.T.Key.Ord.cmp g.met.T.Key.Ord.total g.T.Placed.key_of g.T.Placed.plot_of c.args.edit.now.key a item value f q.level q.west q.south c.args.cell.now.entries.items n h.0 in
     let told = rw c.deref.ensures.value at c.in_ok-entries.ensures in
     let k = h.1 l in
     let sw = c.south_west.ensures in
     let se = c.south_east.ensures in
     let nw = c.north_west.ensures in
     let ne = c.north_east.ensures in (
-      own_copied g.T.Placed.area_of (edited_by g.T.Key.Ord.cmp g.T.Placed.key_of c.args.edit.now.key item value) q.level q.west q.south c.args.cell.now.entries.items c.in_ok-entries.entries.items told past,
+      own_copied g.T.Placed.plot_of (edited_by g.T.Key.Ord.cmp g.T.Placed.key_of c.args.edit.now.key item value) q.level q.west q.south c.args.cell.now.entries.items c.in_ok-entries.entries.items told past,
       λ _. (
         rw (sw.level, sw.west, sw.south) at (c.in_ok-south_west.ensures value f (rw (sw.level, sw.west, sw.south) k.0)),
         rw (se.level, se.west, se.south) at (c.in_ok-south_east.ensures value f (rw (se.level, se.west, se.south) k.1)),

@@ -4,7 +4,7 @@ use Rattle.surface_tree.proofs.part.bare_cell.Goals as goal
 
 pub returns : goal.returns
 returns g c =
-    λ area value k w s h. (
-      rw c.new.ensures.items (own_none area value k w s h),
+    λ plot value k w s h. (
+      rw c.new.ensures.items (own_none plot value k w s h),
       λ l. (λ j d b. past_south_west k w s _ l (h j d b), λ j d b. past_south_east k w s _ l (h j d b), λ j d b. past_north_west k w s _ l (h j d b), λ j d b. past_north_east k w s _ l (h j d b)),
     )

@@ -11,7 +11,7 @@ returns-in-None g c =
     IfOk-weaker c.shared_part.result _ _
     (λ q h. λ items f k.
     let n = rw c.in-None.is at f.1 in
-    rw (none_found g.T.Key.Ord.cmp g.met.T.Key.Ord.total g.T.Placed.key_of c.args.key items (sym n)) (h g.T.Placed.area_of items _ _ _ k))
+    rw (none_found g.T.Key.Ord.cmp g.met.T.Key.Ord.total g.T.Placed.key_of c.args.key items (sym n)) (h g.T.Placed.plot_of items _ _ _ k))
     c.shared_part.ensures
 
 pub returns-in-Some : goal.returns-in-Some
@@ -20,6 +20,6 @@ returns-in-Some g c =
     (λ q h. λ items f k.
     let n : found_by g.T.Key.Ord.cmp g.T.Placed.key_of c.args.key items ≡ Some (arc_value c.in-Some.old.now) = sym (let m = rw c.in-Some.is at f.1 in m) in
     let e = c.take.ensures in
-    let new = h items (rw (e.key, e.area, e.item, c.deref.ensures) (fits_found g.T.Key.Ord.cmp g.met.T.Key.Ord.total g.T.Placed.key_of g.T.Placed.area_of c.args.key (arc_value c.in-Some.old.now) items f.0 n)) k in
+    let new = h items (rw (e.key, e.plot, e.item, c.deref.ensures) (fits_found g.T.Key.Ord.cmp g.met.T.Key.Ord.total g.T.Placed.key_of g.T.Placed.plot_of c.args.key (arc_value c.in-Some.old.now) items f.0 n)) k in
     rw (e.key, e.item) at new)
     c.changed_root.ensures

@@ -11,13 +11,13 @@ returns-then-is_covered g c =
     let cmp = g.T.Key.Ord.cmp in
     let total = g.met.T.Key.Ord.total in
     let key = g.T.Placed.key_of in
-    let area = g.T.Placed.area_of in
+    let plot = g.T.Placed.plot_of in
     let x = arc_value c.args.item in
     let e = c.put-edit.ensures in
     let there = c.is_covered.ensures c.if-is_covered.true in
     IfOk-weaker c.changed_root.result _ _
     (λ q h. λ items f r.
-    let new = h items (rw (e.key, e.area, e.item) (fits_covered cmp total key area x items f.0 (λ i o. rw e.area at (there i (f.1 ∙ o))))) r in
+    let new = h items (rw (e.key, e.plot, e.item) (fits_covered cmp total key plot x items f.0 (λ i o. rw e.plot at (there i (f.1 ∙ o))))) r in
     rw (e.key, e.item) at new)
     c.changed_root.ensures
 
@@ -26,12 +26,12 @@ returns g c =
     let cmp = g.T.Key.Ord.cmp in
     let total = g.met.T.Key.Ord.total in
     let key = g.T.Placed.key_of in
-    let area = g.T.Placed.area_of in
+    let plot = g.T.Placed.plot_of in
     let x = arc_value c.args.item in
     let e = c.put-edit.ensures in
     IfOk-weaker c.changed_root-2.result _ _
     (λ q h. λ items f r.
     let old = c.in_ok-root.ensures items (rw e.key f) r in
-    let new = h (removed_by cmp key c.put-edit.result.key items) (rw (e.key, e.area, e.item) (fits_new cmp total key area x items f.0)) old in
+    let new = h (removed_by cmp key c.put-edit.result.key items) (rw (e.key, e.plot, e.item) (fits_new cmp total key plot x items f.0)) old in
     rw (e.key, e.item, put_removed cmp total key x items f.0) at new)
     c.changed_root-2.ensures

@@ -3,10 +3,11 @@ use Rattle.std.proofs.lemmas.Int.{ints}
 use Rattle.std.specs.Option.{MatchOption}
 use Rattle.grid_exact.specs.declared.area.Area.{Area}
 use Rattle.grid_exact.specs.declared.point.Point.{Point}
+use Rattle.height_rules.specs.Heights.{notice_top, standards_top}
 use Rattle.height_rules.specs.NearAreas.{HasLimit, IsNearArea}
 use Rattle.outline_boxes.specs.Bounds.{box_of}
 use Rattle.airfield_findings.specs.StripLists.{runways_of}
-use Rattle.airfield_findings.specs.Reaches.{IsOver}
+use Rattle.airfield_reach.specs.Plots.{IsOver}
 use Rattle.airfields.specs.declared.runway.Runway.{Runway}
 use Rattle.airfields.specs.declared.airfield.Airport.{Airport}
 use Rattle.airfield_findings.specs.PreparedAirports.{IsPreparedAirport}
@@ -22,8 +23,8 @@ limited : (a : Airport) (area : Option Area) → MatchOption area (¬ HasLimit a
 limited a None h x k = absurd k
 limited a (Some box) h x k = h.has_limit
 
-pub invariant_of-result : goal.invariant_of-result
-invariant_of-result c =
+pub invariant_of-prepared : goal.invariant_of-prepared
+invariant_of-prepared c =
     let a = c.args.airport.now in
     let held = c.requires.held in
     let fe : FitsSigned w64 a.elevation = omega (arith, ints, held.elevation.least, held.elevation.most) in
@@ -39,10 +40,25 @@ invariant_of-result c =
       strips_are = c.in_ok-strips.ensures.strips ∙ c.as_slice.ensures.value;
       lone_is = c.of-lone.ensures.lone;
       reach = record {
-        near_limit = λ x h. limited a c.near_area.result c.near_area.ensures.exact x ((c.bounds_of-near.ensures x).0 h);
-        near_none = λ site n. c.near_area.ensures.skips site (λ h. n ((c.bounds_of-near.ensures site.at).1 h));
-        notice_none = λ x top level n. c.notice_area.ensures.skips x top (λ h. n ((c.bounds_of-notice.ensures x).1 h));
+        near_limit = λ x h. limited a c.near_area-near_box.result c.near_area-near_box.ensures.exact x ((c.bounds_of-near.ensures x).0 h);
+        near_none = λ site n. c.near_area-near_box.ensures.skips site (λ h. n ((c.bounds_of-near.ensures site.at).1 h));
+        notice_none = λ x top level n. c.notice_area-notice_box.ensures.skips x top (λ h. n ((c.bounds_of-notice.ensures x).1 h));
         surfaces_none = λ x top level n.
-            c.surfaces_area.ensures a held c.in_ok-hull.ensures.dome (c.as_slice-2.ensures.value ∙ c.in_ok-strips.ensures.strips ∙ c.as_slice.ensures.value) x top level (λ h. n ((c.bounds_of-surfaces.ensures x).1 h));
+            c.surfaces_area-surfaces_box.ensures.outside a held c.in_ok-hull.ensures.dome (c.as_slice-2.ensures.value ∙ c.in_ok-strips.ensures.strips ∙ c.as_slice.ensures.value) x top level (λ h. n ((c.bounds_of-surfaces.ensures x).1 h));
       };
     })
+
+pub returns-clause-plot : goal.returns-clause-plot
+returns-clause-plot c =
+    let a = c.args.airport.now in
+    let o = c.airport_plot-plot.ensures.outside in
+    let strips = c.as_slice-2.ensures.value ∙ c.in_ok-strips.ensures.strips ∙ c.as_slice.ensures.value in
+    record {
+      is_plot = c.airport_plot-plot.ensures.plot;
+      standards = λ site levels n.
+          rw (
+            c.near_area-near_box.ensures.skips site (o site.at n).0,
+            c.surfaces_area-surfaces_box.ensures.outside a c.requires.held c.in_ok-hull.ensures.dome strips site.at (standards_top site) levels.standards_level (o site.at n).2,
+          ) refl;
+      slopes = λ site levels n. rw (c.notice_area-notice_box.ensures.skips site.at (notice_top site) (o site.at n).1) refl;
+    }

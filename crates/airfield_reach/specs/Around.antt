@@ -1,0 +1,12 @@
+-- Boxes about points.
+use Rattle.std.specs.Prelude.{ℤ, ◌+ℤ◌, ◌-ℤ◌}
+use Rattle.grid_exact.specs.declared.area.Area.{Area}
+
+-- from a whole point so far to each side
+abbrev pub around_point : (x y r : ℤ) → Area
+around_point x y r = record {
+  x0 = x -ℤ r;
+  y0 = y -ℤ r;
+  x1 = x +ℤ r;
+  y1 = y +ℤ r;
+}

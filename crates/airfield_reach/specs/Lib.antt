@@ -1,0 +1,5 @@
+pub mod Areas
+pub mod Around
+pub mod Beside
+pub mod Kept
+pub mod Plots
