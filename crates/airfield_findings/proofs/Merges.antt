@@ -1,6 +1,5 @@
 -- The findings of two runs of airfields as one list.
-use Rattle.std.proofs.Common.{arith, ℕ, ℤ, zero, suc, ◌≡◌, ◌<◌, ◌+◌, ◌^◌, ◌-◌, ◌||◌, min, List, [], ◌∷◌, ◌++◌, take, length, get_or, Option, Some, None, Result, Ok, Err, Bool, true, false, not, cond, if◌then◌else◌, refl, sym, ◌∙◌, ap, append_assoc}
-use Rattle.std.specs.Prelude.{IfOk}
+use Rattle.std.proofs.Common.{arith, ℕ, ℤ, zero, suc, ◌≡◌, ◌<◌, ◌+◌, ◌^◌, ◌-◌, ◌||◌, min, List, [], ◌∷◌, ◌++◌, take, length, get_or, Option, Some, None, Bool, true, false, not, cond, if◌then◌else◌, refl, sym, ◌∙◌, ap, append_assoc}
 use Rattle.std.specs.List.{All, filter, flat_map, insert, list_any}
 use Rattle.std.specs.Option.{option_map, option_to_list}
 use Rattle.std.specs.Ordering.{is_le}
@@ -88,7 +87,7 @@ pub merged_next : (list more : List Finding) (i : ℕ) (x : Finding) → i < len
 merged_next list more i x l e =
     ap (merged list) (take_more more i x l ∙ ap (λ y. take i more ++ y ∷ []) (sym e)) ∙ merged_append list (take i more) (x ∷ [])
 
-pub merged_length : (list more : List Finding) → length (merged list more) ≡ length list + length more
+merged_length : (list more : List Finding) → length (merged list more) ≡ length list + length more
 merged_length list [] = omega arith
 merged_length list (x ∷ xs) = omega (arith, merged_length (put_in_order x list) xs, length_put x list)
 
@@ -127,12 +126,6 @@ tally_merged list more =
     ap (λ (b : Bool). tally b (is_obstruction all) (length all)) (any_merged (λ f. is_notice f.rule) list more)
     ∙ ap (λ (b : Bool). tally (asks_notice both) b (length all)) (any_merged (λ f. not (is_notice f.rule)) list more)
     ∙ ap (λ (n : ℕ). tally (asks_notice both) (is_obstruction both) n) (merged_length list more ∙ sym (length-append list more))
-
--- what a call answered of the one list after the other holds of the merged list
-pub tally_in_any_order : {E : Type 0} (a b : Verdict) (r : Result Verdict E) → IfOk r (λ all. (list more : List Finding) → a ≡ tally_of list → b ≡ tally_of more → all ≡ tally_of (list ++ more))
-    → IfOk r (λ all. (list more : List Finding) → a ≡ tally_of list → b ≡ tally_of more → all ≡ tally_of (merged list more))
-tally_in_any_order a b (Ok all) h = λ list more p q. h list more p q ∙ sym (tally_merged list more)
-tally_in_any_order a b (Err e) h = h
 
 -- ---- entries of one airfield after another
 

@@ -195,7 +195,7 @@ impl Findings {
     ///
     /// # Errors
     ///
-    /// `NoMemory` where memory was refused.
+    /// `NoMemory` where memory was refused; which findings are left then is not told.
     pub fn settle_from(&mut self, from: usize) -> Result<(), NoMemory>
         ensures { OnOk result ((list more : List AFinding) → from ≡ length list → self.old ≡ list ++ more → self.new ≡ merged list more) }
     {

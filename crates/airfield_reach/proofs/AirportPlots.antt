@@ -10,7 +10,7 @@ use Rattle.grid_exact.specs.declared.area.Area.{Area}
 use Rattle.grid_exact.specs.declared.point.Point.{Point}
 use Rattle.grid_exact.proofs.AreaLemmas.{has_point-Has}
 use Rattle.outline_boxes.specs.Boxes.{Encloses}
-use Rattle.outline_boxes.proofs.More.{Has_more}
+use Rattle.outline_boxes.proofs.More.{Encloses_through, Has_more}
 use Rattle.airfields.specs.Airfields.{IsHeldAirport}
 use Rattle.airfields.specs.declared.airfield.Airport.{Airport}
 use Rattle.airfields.specs.declared.runway.Runway.{Runway}
@@ -29,7 +29,7 @@ use Rattle.airfield_reach.specs.Around.{around_point}
 use Rattle.airfield_reach.specs.Beside.{IsBeside}
 use Rattle.airfield_reach.specs.Kept.{IsKept}
 use Rattle.airfield_reach.specs.Plots.{AreParts, IsJoin, IsOver, IsPlotOf}
-use Rattle.airfield_reach.proofs.BoxOrder.{encloses_all, encloses_same}
+use Rattle.airfield_reach.proofs.BoxOrder.{encloses_same}
 use Rattle.airfield_reach.proofs.Joins.{any_of, join_all, join_most, join_over, left, no_least, right}
 use Rattle.airfield_reach.proofs.Largest.{IsShort, near_of_kept}
 use Rattle.airfield_reach.proofs.NearAreas.{near_exact}
@@ -165,7 +165,7 @@ module _ (a : Airport) (notice surfaces rest : Option Area) (area : Area) (held 
   over : (t q : Area) → Contains list t → Encloses t q → Encloses area q
   over t q c e = through (Contains-append_cases p.areas (option_to_list notice) t c) where
     last : (b : Area) → Contains (option_to_list notice ++ option_to_list surfaces) b → Encloses b q → Encloses area q
-    last b m f = let r = join_over (option_to_list notice ++ option_to_list surfaces) rest b q k m f in encloses_all area r.0 q (All-contains (In area) (option_to_list rest) r.0 j.1.holds r.1) r.2
+    last b m f = let r = join_over (option_to_list notice ++ option_to_list surfaces) rest b q k m f in Encloses_through area r.0 q (All-contains (In area) (option_to_list rest) r.0 j.1.holds r.1) r.2
 
     through : Contains p.areas t ⊎ Contains (option_to_list notice) t → Encloses area q
     through (inl m) = let r = join_over p.areas surfaces t q p.surfaces_box m e in last r.0 (Contains-append_right (option_to_list notice) (option_to_list surfaces) r.0 r.1) r.2

@@ -8,14 +8,6 @@ use Rattle.airfield_reach.specs.Around.{around_point}
 pub encloses_same : (a : Area) → Encloses a a
 encloses_same a = record { west = omega (arith, ints); south = omega (arith, ints); east = omega (arith, ints); north = omega (arith, ints) }
 
-pub encloses_all : (a b c : Area) → Encloses a b → Encloses b c → Encloses a c
-encloses_all a b c h k = record {
-  west = omega (arith, ints, h.west, k.west);
-  south = omega (arith, ints, h.south, k.south);
-  east = omega (arith, ints, h.east, k.east);
-  north = omega (arith, ints, h.north, k.north);
-}
-
 -- two least boxes of one thing lie in each other
 pub least_once : (Holds : Area → Type 0) (a b : Area) → IsLeastBox Holds a → IsLeastBox Holds b → Encloses a b × Encloses b a
 least_once Holds a b h k = (k.least a h.holds, h.least b k.holds)

@@ -7,8 +7,9 @@ use Rattle.std.proofs.lemmas.Bool.{or_left, or_right}
 use Rattle.std.proofs.lemmas.List.Elements.{All-append, All-contains, All-cons, All-head, All-nil, All-same, All-tail, All-weaker}
 use Rattle.grid_exact.specs.declared.area.Area.{Area}
 use Rattle.outline_boxes.specs.Boxes.{Encloses, HoldsBoth, IsLeastBox}
+use Rattle.outline_boxes.proofs.More.{Encloses_through}
 use Rattle.airfield_reach.specs.Plots.{IsJoin}
-use Rattle.airfield_reach.proofs.BoxOrder.{encloses_all, encloses_same}
+use Rattle.airfield_reach.proofs.BoxOrder.{encloses_same}
 
 -- both parts of a list
 pub left : {X : Type 0} (P : X → Type 0) (xs ys : List X) → All P (xs ++ ys) → All P xs
@@ -45,7 +46,7 @@ join_most areas (Some box) b j h = All-cons (In b) box [] (j.1.least b h) (All-n
 -- and what a box of them encloses, a box of the join encloses
 pub join_over : (areas : List Area) (o : Option Area) (t k : Area) → IsJoin areas o → Contains areas t → Encloses t k → (box : Area) × Contains (option_to_list o) box × Encloses box k
 join_over areas None t k j c e = absurd (let l : 0 < length areas = omega (arith, c.1) in let z : length areas ≡ 0 = rw j refl in omega (arith, l, z))
-join_over areas (Some box) t k j c e = (box, (0, omega arith, refl), encloses_all box t k (All-contains (In box) areas t j.1.holds c) e)
+join_over areas (Some box) t k j c e = (box, (0, omega arith, refl), Encloses_through box t k (All-contains (In box) areas t j.1.holds c) e)
 
 -- the join of two boxes
 pub both_joined : (a b box : Area) → IsLeastBox (HoldsBoth a b) box → IsJoin (a ∷ b ∷ []) (Some box)
@@ -60,7 +61,7 @@ both_joined a b box h = (
 -- what encloses the join encloses the boxes
 pub join_all : (areas : List Area) (o : Option Area) (b : Area) → IsJoin areas o → All (In b) (option_to_list o) → All (In b) areas
 join_all areas None b j h = All-same (In b) areas [] j (All-nil (In b))
-join_all areas (Some box) b j h = All-weaker (In box) (In b) (λ t e. encloses_all b box t (All-head (In b) box [] h) e) areas j.1.holds
+join_all areas (Some box) b j h = All-weaker (In box) (In b) (λ t e. Encloses_through b box t (All-head (In b) box [] h) e) areas j.1.holds
 
 pub some_joined : (first second : Option Area) (a b box : Area) → first ≡ Some a → second ≡ Some b → IsLeastBox (HoldsBoth a b) box → IsJoin (option_to_list first ++ option_to_list second) (Some box)
 some_joined first second a b box e k h =
@@ -70,8 +71,8 @@ some_joined first second a b box e k h =
 -- the join with a runway's areas more
 pub join_next : (hull all own new : Area) (areas six : List Area) → IsLeastBox (λ b. All (In b) (hull ∷ areas)) all → IsLeastBox (λ b. All (In b) six) own → IsLeastBox (HoldsBoth all own) new → IsLeastBox (λ b. All (In b) (hull ∷ (areas ++ six))) new
 join_next hull all own new areas six a o n =
-    let first = All-weaker (In all) (In new) (λ t e. encloses_all new all t n.holds.first e) (hull ∷ areas) a.holds in
-    let second = All-weaker (In own) (In new) (λ t e. encloses_all new own t n.holds.second e) six o.holds in
+    let first = All-weaker (In all) (In new) (λ t e. Encloses_through new all t n.holds.first e) (hull ∷ areas) a.holds in
+    let second = All-weaker (In own) (In new) (λ t e. Encloses_through new own t n.holds.second e) six o.holds in
     record {
       holds = All-append (In new) (hull ∷ areas) six first second;
       least = λ b h. n.least b (record { first = a.least b (left (In b) (hull ∷ areas) six h); second = o.least b (right (In b) (hull ∷ areas) six h) });
@@ -80,7 +81,7 @@ join_next hull all own new areas six a o n =
 -- a box that lies in one of them is one of them
 pub join_inner : (inner outer all : Area) (rest : List Area) → Encloses outer inner → IsLeastBox (λ b. All (In b) (outer ∷ rest)) all → IsLeastBox (λ b. All (In b) (inner ∷ outer ∷ rest)) all
 join_inner inner outer all rest e h = record {
-  holds = All-cons (In all) inner (outer ∷ rest) (encloses_all all outer inner (All-head (In all) outer rest h.holds) e) h.holds;
+  holds = All-cons (In all) inner (outer ∷ rest) (Encloses_through all outer inner (All-head (In all) outer rest h.holds) e) h.holds;
   least = λ b k. h.least b (All-tail (In b) inner (outer ∷ rest) k);
 }
 

@@ -6,6 +6,7 @@ use Rattle.std.proofs.lemmas.List.Elements.{All-contains, All-weaker}
 use Rattle.grid_exact.specs.declared.area.Area.{Area}
 use Rattle.grid_exact.specs.declared.point.Point.{Point}
 use Rattle.outline_boxes.specs.Boxes.{Encloses}
+use Rattle.outline_boxes.proofs.More.{Encloses_through}
 use Rattle.airfields.specs.Airfields.{IsHeldAirport}
 use Rattle.airfields.specs.Runways.{HasNearEnds, IsNear}
 use Rattle.airfields.specs.declared.airfield.Airport.{Airport}
@@ -15,7 +16,7 @@ use Rattle.runway_notice.specs.Slopes.{range_of, sub_of}
 use Rattle.runway_notice.specs.declared.slope.Sub.{Sub}
 use Rattle.runway_notice.specs.declared.slope.Sub.TheVariants.{B1, B2}
 use Rattle.airfield_reach.specs.Around.{around_point}
-use Rattle.airfield_reach.proofs.BoxOrder.{around_less, around_near, encloses_all}
+use Rattle.airfield_reach.proofs.BoxOrder.{around_less, around_near}
 
 -- ---- the slope of notice goes 10,000 or 20,000 feet
 range_least : (s : Sub) → pos 100000 ≤ℤ range_of s
@@ -33,7 +34,7 @@ notice_about a box r exact listed =
     let ends : HoldsEnds range r box = All-contains (λ s. HoldsEnds range s box) a.runways r exact.runways_least.holds listed in
     let x = r.end1.at.x in
     let y = r.end1.at.y in
-    encloses_all box (around_point x y range) (around_point x y (pos 88000)) ends.first (around_less x y range (pos 88000) (omega (arith, ints, range_least (sub_of a.runways))))
+    Encloses_through box (around_point x y range) (around_point x y (pos 88000)) ends.first (around_less x y range (pos 88000) (omega (arith, ints, range_least (sub_of a.runways))))
 
 -- and lies about the reference point
 end_near : (arp at : Point) (range : ℤ) → IsNear arp at → range ≤ℤ pos 200000 → Encloses (around_point arp.x arp.y (pos 1048576)) (around at range)

@@ -5,13 +5,14 @@ use Rattle.std.specs.Option.{option_to_list, MatchOption}
 use Rattle.std.proofs.lemmas.List.Elements.{All-append, All-cons, All-head, All-nil, All-same, All-tail}
 use Rattle.grid_exact.specs.declared.area.Area.{Area}
 use Rattle.outline_boxes.specs.Boxes.{Encloses, IsLeastBox}
+use Rattle.outline_boxes.proofs.More.{Encloses_through}
 use Rattle.airfields.specs.declared.airfield.Airport.{Airport}
 use Rattle.airfields.specs.declared.runway.Runway.{Runway}
 use Rattle.horizontal_hull.specs.Arcs.{dome_of}
 use Rattle.imaginary_surfaces.specs.Areas.{AreStripAreas, in_order}
 use Rattle.runway_notice.specs.NoticeAreas.{HasSlope, IsNoticeArea}
 use Rattle.airfield_reach.specs.Areas.{AreRunwayAreas, AreSurfaceAreas, HaveSurfaces}
-use Rattle.airfield_reach.proofs.BoxOrder.{encloses_all, encloses_both, least_once}
+use Rattle.airfield_reach.proofs.BoxOrder.{encloses_both, least_once}
 use Rattle.airfield_reach.proofs.Joins.{left, no_least, right}
 use Rattle.airfield_reach.proofs.SixAreas.{all_six}
 
@@ -19,7 +20,7 @@ abbrev In : Area → Area → Type 0
 In b t = Encloses b t
 
 least_in : (Holds : Area → Type 0) (t u b : Area) → IsLeastBox Holds t → IsLeastBox Holds u → Encloses b u → Encloses b t
-least_in Holds t u b h k e = encloses_all b u t e (least_once Holds t u h k).1
+least_in Holds t u b h k e = Encloses_through b u t e (least_once Holds t u h k).1
 
 six_in : (r : Runway) (hull b : Area) (xs ys : List Area) → AreStripAreas r hull xs → AreStripAreas r hull ys → All (In b) ys → All (In b) xs
 six_in r hull b xs ys p q h =

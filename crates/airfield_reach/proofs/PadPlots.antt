@@ -5,7 +5,7 @@ use Rattle.std.proofs.lemmas.Int.{ints}
 use Rattle.std.proofs.lemmas.List.Elements.{All-weaker}
 use Rattle.grid_exact.specs.Area.{Has, has_point}
 use Rattle.grid_exact.proofs.AreaLemmas.{has_point-Has}
-use Rattle.outline_boxes.proofs.More.{Has_more}
+use Rattle.outline_boxes.proofs.More.{Encloses_through, Has_more}
 use Rattle.grid_exact.specs.declared.area.Area.{Area}
 use Rattle.grid_exact.specs.declared.point.Point.{Point}
 use Rattle.outline_boxes.specs.Boxes.{Encloses}
@@ -20,7 +20,7 @@ use Rattle.surface_tree.specs.declared.placed.Plot.{Plot}
 use Rattle.surface_tree.proofs.Boxes.{close_near}
 use Rattle.airfield_reach.specs.Around.{around_point}
 use Rattle.airfield_reach.specs.Plots.{IsPlotOf}
-use Rattle.airfield_reach.proofs.BoxOrder.{encloses_all, encloses_both, least_once}
+use Rattle.airfield_reach.proofs.BoxOrder.{encloses_both, least_once}
 use Rattle.airfield_reach.proofs.Joins.{any_of}
 use Rattle.airfield_reach.proofs.PadAreas.{notice_around, notice_listed, pad_in_notice}
 use Rattle.airfield_reach.proofs.PlotFacts.{placed_about, small_level}
@@ -32,7 +32,7 @@ pad_plot h areas held p d =
     let own = notice_around h areas held p in
     let far : Encloses (around_point h.a.x h.a.y (pos 1048576)) (around_point h.a.x h.a.y (pos 65000)) = record { west = omega (arith, ints); south = omega (arith, ints); east = omega (arith, ints); north = omega (arith, ints) } in
     let placed : IsPlaced plot =
-    placed_about h.a (around_point h.a.x h.a.y (pos 50000)) plot (encloses_all _ _ _ far own.outside) own.inside (omega (arith, ints)) (omega (arith, ints)) (small_level box h.a.x h.a.y (pos 50000) (omega (arith, ints)) own.inside) in
+    placed_about h.a (around_point h.a.x h.a.y (pos 50000)) plot (Encloses_through _ _ _ far own.outside) own.inside (omega (arith, ints)) (omega (arith, ints)) (small_level box h.a.x h.a.y (pos 50000) (omega (arith, ints)) own.inside) in
     record {
       placed = placed;
       level = refl;

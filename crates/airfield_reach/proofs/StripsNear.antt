@@ -9,6 +9,7 @@ use Rattle.grid_exact.specs.declared.point.Point.{Point}
 use Rattle.outline_boxes.specs.Boxes.{Encloses}
 use Rattle.outline_boxes.specs.Rectangles.{HasRectangle}
 use Rattle.outline_boxes.specs.Trapezoids.{HasTrapezoid}
+use Rattle.outline_boxes.proofs.More.{Encloses_through}
 use Rattle.airfields.specs.Airfields.{IsHeldAirport}
 use Rattle.airfields.specs.Runways.{HasNearEnds, IsProper}
 use Rattle.airfields.specs.declared.airfield.Airport.{Airport}
@@ -23,7 +24,7 @@ use Rattle.imaginary_surfaces.proofs.Sound.{approach_sound, primary_wide}
 use Rattle.horizontal_hull.specs.Arcs.{dome_of}
 use Rattle.airfield_reach.specs.Areas.{AreRunwayAreas, HaveSurfaces}
 use Rattle.airfield_reach.specs.Around.{around_point}
-use Rattle.airfield_reach.proofs.BoxOrder.{around_near, encloses_all, end_around}
+use Rattle.airfield_reach.proofs.BoxOrder.{around_near, end_around}
 use Rattle.airfield_reach.proofs.Centers.{center_near}
 use Rattle.airfield_reach.proofs.Conical.{conical_near, horizontal_in}
 use Rattle.airfield_reach.proofs.CornersIn.{rectangle_in, trapezoid_in}
@@ -96,6 +97,6 @@ surfaces_near a areas held s =
     let P : Area → Type 0 = Encloses near in
     let hull = s.hull in
     let k = conical_near a hull held s.hull_areas in
-    let m = encloses_all near hull.conical hull.horizontal k (horizontal_in (dome_of a).arcs hull s.hull_areas) in
+    let m = Encloses_through near hull.conical hull.horizontal k (horizontal_in (dome_of a).arcs hull s.hull_areas) in
     All-same P areas (hull.horizontal ∷ hull.conical ∷ s.runways) s.ordered
     (All-cons P hull.horizontal (hull.conical ∷ s.runways) m (All-cons P hull.conical s.runways k (runways_near a.arp hull.conical a.runways s.runways held.proper held.near k s.runway_areas)))

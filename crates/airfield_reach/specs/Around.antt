@@ -1,4 +1,4 @@
--- Boxes about points.
+-- For proofs alone: boxes about points.
 use Rattle.std.specs.Prelude.{ℤ, ◌+ℤ◌, ◌-ℤ◌}
 use Rattle.grid_exact.specs.declared.area.Area.{Area}
 

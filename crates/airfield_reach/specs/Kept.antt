@@ -1,4 +1,4 @@
--- Areas that others stand for.
+-- For proofs alone: areas that others stand for.
 use Rattle.std.specs.Prelude.{List}
 use Rattle.std.specs.List.{Contains}
 use Rattle.grid_exact.specs.declared.area.Area.{Area}

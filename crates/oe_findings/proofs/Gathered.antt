@@ -2,7 +2,7 @@
 use Rattle.std.proofs.Common.{◌≡◌, ℕ, zero, suc, ◌+◌, ◌<◌, ◌≤◌, List, [], ◌∷◌, ◌++◌, ◌&&◌, ◌||◌, Bool, true, false, not, refl, sym, ap, ◌∙◌, arith, nat_eq, inl, inr, if◌then◌else◌, ◌⊎◌, get_or}
 use Rattle.std.specs.Prelude.{nat_lt}
 use Rattle.std.specs.List.{All, filter, flat_map}
-use Rattle.std.proofs.lemmas.Bool.{and_parts, cases_Bool}
+use Rattle.std.proofs.lemmas.Bool.{and_parts, cases_Bool, not-true}
 use Rattle.std.proofs.lemmas.List.{append-nil, append_assoc}
 use Rattle.std.proofs.lemmas.List.Elements.{All-append, All-cons, All-filter, All-head, All-nil, All-tail, All-weaker, filter-append, filter_passes}
 use Rattle.grid_exact.specs.declared.point.Point.{Point}
@@ -17,7 +17,7 @@ use Rattle.airfield_findings.specs.declared.prepared.Prepared.{Prepared}
 use Rattle.airfield_findings.proofs.Merges.{merged_append}
 use Rattle.oe_findings.specs.Screenings.{gathered, is_small}
 
-abbrev plot_of : Prepared → Plot
+abbrev pub plot_of : Prepared → Plot
 plot_of p = p.plot
 
 -- ---- one airfield more
@@ -101,13 +101,10 @@ module _ (x : Point) (items : List Prepared) (sized : All IsSized items) where
 
   front : (ahead rest : List Prepared) → All (λ p. large p ≡ true) ahead → filter large rest ++ filter is_small rest ≡ rest → filter large (ahead ++ rest) ++ filter is_small (ahead ++ rest) ≡ ahead ++ rest
   front ahead rest h e =
-      let n : filter is_small ahead ≡ [] = none_pass is_small ahead (All-weaker (λ p. large p ≡ true) (λ p. is_small p ≡ false) (λ p k. not_back (is_small p) k) ahead h) in
+      let n : filter is_small ahead ≡ [] = none_pass is_small ahead (All-weaker (λ p. large p ≡ true) (λ p. is_small p ≡ false) (λ p k. not-true (is_small p) k) ahead h) in
       ap (λ zs. zs ++ filter is_small (ahead ++ rest)) (filter-append large ahead rest ∙ ap (λ zs. zs ++ filter large rest) (all_pass large ahead h))
       ∙ ap (λ zs. (ahead ++ filter large rest) ++ zs) (filter-append is_small ahead rest ∙ ap (λ zs. zs ++ filter is_small rest) n)
-      ∙ append_assoc ahead (filter large rest) (filter is_small rest) ∙ ap (λ zs. ahead ++ zs) e where
-        not_back : (b : Bool) → not b ≡ true → b ≡ false
-        not_back true e = sym e
-        not_back false e = refl
+      ∙ append_assoc ahead (filter large rest) (filter is_small rest) ∙ ap (λ zs. ahead ++ zs) e
 
   in_runs : (k : ℕ) → filter large (hits plot_of x k items) ++ filter is_small (hits plot_of x k items) ≡ hits plot_of x k items
   in_runs zero = not_large (hits plot_of x zero items) (low zero (omega arith))

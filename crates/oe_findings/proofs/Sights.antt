@@ -2,7 +2,7 @@
 use Rattle.std.proofs.Common.{◌≡◌, ℕ, List, [], ◌∷◌, ◌++◌, ◌&&◌, ◌||◌, Bool, true, false, Option, Some, None, map, not, refl, sym, ap, ◌∙◌, subst, get_or, arith, nat_eq, ◌⊎◌, inl, inr, if◌then◌else◌}
 use Rattle.std.specs.List.{All, filter, flat_map, list_any}
 use Rattle.std.specs.List.Sorted.{IsPermutation}
-use Rattle.std.proofs.lemmas.Bool.{cases_Bool}
+use Rattle.std.proofs.lemmas.Bool.{cases_Bool, not-true}
 use Rattle.std.proofs.lemmas.List.Elements.{All-nil, All-cons, All-weaker, filter_passes}
 use Rattle.std.proofs.lemmas.List.Folds.{flat_map-map, list_any-append}
 use Rattle.std.proofs.lemmas.List.Sorted.{list_any-IsPermutation}
@@ -34,10 +34,7 @@ use Rattle.airfield_findings.specs.declared.prepared.Prepared.{Prepared}
 use Rattle.airfield_findings.proofs.Merges.{merged_runs, named_standards, named_slopes}
 use Rattle.oe_findings.specs.List.{rule_a}
 use Rattle.oe_findings.specs.Screenings.{exceeds_over, slopes_over, slopes_by, gathered, is_small, HasGathered, HasSeen}
-use Rattle.oe_findings.proofs.Gathered.{all_large, all_small, gathered_more, runs_in_order}
-
-abbrev plot_of : Prepared → Plot
-plot_of p = p.plot
+use Rattle.oe_findings.proofs.Gathered.{all_large, all_small, gathered_more, plot_of, runs_in_order}
 
 -- the items over the point give what all give
 over : (f : Airfield → List Finding) (has : Prepared → Bool) (all : List Prepared) → ((p : Prepared) → has p ≡ false → f (airfield_of p) ≡ [])
@@ -95,13 +92,10 @@ by_visit f first x all rises named none nothing =
     let sized : All (λ p. (p.plot.level ≡ SMALL_LEVEL) ⊎ (p.plot.level ≡ LARGE_LEVEL)) all = λ j d l. either_level (get_or all j d).plot.level (get_or all j d).in_place.is_plot.level in
     ap (gathered f first) (sym (runs_in_order x all sized))
     ∙ gathered_more f first big little
-    ∙ ap (λ zs. gathered f zs little) (all_large f first big (All-weaker (λ p. not (is_small p) ≡ true) (λ p. is_small p ≡ false) (λ p e. not_true (is_small p) e) big (filter_passes (λ p. not (is_small p)) seen)))
+    ∙ ap (λ zs. gathered f zs little) (all_large f first big (All-weaker (λ p. not (is_small p) ≡ true) (λ p. is_small p ≡ false) (λ p e. not-true (is_small p) e) big (filter_passes (λ p. not (is_small p)) seen)))
     ∙ all_small f (first ++ flat_map (λ p. f (airfield_of p)) big) little (filter_passes is_small seen)
     ∙ sym (ap (λ zs. merged (first ++ zs) (flat_map f (map airfield_of little))) (flat_map-map f airfield_of big) ∙ ap (merged (first ++ flat_map (λ p. f (airfield_of p)) big)) (flat_map-map f airfield_of little))
-    ∙ runs f first x all rises named none nothing where
-      not_true : (b : Bool) → not b ≡ true → b ≡ false
-      not_true true e = sym e
-      not_true false e = refl
+    ∙ runs f first x all rises named none nothing
 
 slopes_seen : (site : Site) (due : Bool) (all : List Prepared) (x : Point) → Rises name_cmp id_of (map airfield_of all) → x ≡ site.at → HasLevels site
     → (if due then slopes_by site (all_hits plot_of x all) else []) ≡ slopes_over site due (map airfield_of all)

@@ -298,37 +298,37 @@ fn another_area(rt: HostRuntime) -> Result<(), Fail> {
     Ok(())
 }
 
-#[test]
-fn a_larger_area(rt: HostRuntime) -> Result<(), Fail> {
-    let two = two_fields(rt.alloc())?;
-    let large = Area {
+/// An area on both sides of both axes.
+fn wide(east: i64) -> Area {
+    Area {
         x0: -300_000,
         y0: -300_000,
-        x1: 300_000,
+        x1: east,
         y1: 300_000,
-    };
-    let grown = with(rt.alloc(), &two, 7, &large)?;
-    let grown_again = with(
-        rt.alloc(),
-        &grown,
-        7,
-        &Area {
-            x1: 600_000,
-            ..large
-        },
-    )?;
-    let far = Point::new(550_000, -290_000)?;
-    assert_eq!(rt;
-        near(rt.alloc(), &grown_again)?.as_slice(),
-        [3, 7].as_slice()
-    );
-    assert_eq!(rt; seen(rt.alloc(), &grown, &far)?.len(), 0);
-    assert_eq!(rt;
-        seen(rt.alloc(), &grown_again, &far)?.as_slice(),
-        [7].as_slice()
-    );
-    let shrunk = with(rt.alloc(), &grown_again, 7, &large)?;
-    assert_eq!(rt; seen(rt.alloc(), &shrunk, &far)?.len(), 0);
+    }
+}
+
+/// The numbers of the areas that have a point east of the narrower of two such areas.
+fn far_east(alloc: Global, tree: &Tree<Field>) -> Result<Vec<u32>, Fail> {
+    seen(alloc, tree, &Point::new(550_000, -290_000)?)
+}
+
+#[test]
+fn a_larger_area(rt: HostRuntime) -> Result<(), Fail> {
+    let grown = with(rt.alloc(), &two_fields(rt.alloc())?, 7, &wide(300_000))?;
+    let again = with(rt.alloc(), &grown, 7, &wide(600_000))?;
+    assert_eq!(rt; near(rt.alloc(), &again)?.as_slice(), [3, 7].as_slice());
+    assert_eq!(rt; far_east(rt.alloc(), &grown)?.len(), 0);
+    assert_eq!(rt; far_east(rt.alloc(), &again)?.as_slice(), [7].as_slice());
+    Ok(())
+}
+
+#[test]
+fn a_smaller_area(rt: HostRuntime) -> Result<(), Fail> {
+    let grown = with(rt.alloc(), &two_fields(rt.alloc())?, 7, &wide(600_000))?;
+    let shrunk = with(rt.alloc(), &grown, 7, &wide(300_000))?;
+    assert_eq!(rt; far_east(rt.alloc(), &grown)?.as_slice(), [7].as_slice());
+    assert_eq!(rt; far_east(rt.alloc(), &shrunk)?.len(), 0);
     Ok(())
 }
 
