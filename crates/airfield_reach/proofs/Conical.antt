@@ -6,6 +6,7 @@ use Rattle.std.proofs.lemmas.List.Elements.{All-cons, All-head, All-nil, All-tai
 use Rattle.grid_exact.specs.declared.area.Area.{Area}
 use Rattle.grid_exact.specs.declared.point.Point.{Point}
 use Rattle.outline_boxes.specs.Boxes.{Encloses, IsLeastBox}
+use Rattle.outline_boxes.proofs.More.{Encloses_through}
 use Rattle.airfields.specs.Airfields.{IsHeldAirport}
 use Rattle.airfields.specs.Categories.{has_civil_surfaces}
 use Rattle.airfields.specs.declared.airfield.Airport.{Airport}
@@ -20,7 +21,7 @@ use Rattle.horizontal_hull.specs.declared.areas.HullAreas.{HullAreas}
 use Rattle.horizontal_hull.specs.declared.sizes.TheConstants.{CONICAL_RUN}
 use Rattle.horizontal_hull.proofs.ArcFacts.{arcs_near}
 use Rattle.airfield_reach.specs.Around.{around_point}
-use Rattle.airfield_reach.proofs.BoxOrder.{around_near, encloses_all}
+use Rattle.airfield_reach.proofs.BoxOrder.{around_near}
 use Rattle.airfield_reach.proofs.Centers.{center_at, conical_reach, reach_least}
 
 -- ---- an airport with these boxes has arcs: without any, each box would have to lie in each other
@@ -67,7 +68,7 @@ conical_about_end hull r end h =
     let y = center_y r end in
     let at = (end_of r end).at in
     let c = center_at r end in
-    encloses_all hull (around_point x y (conical_reach r)) (around_point at.x at.y (pos 88000)) (disc_about hull r end h)
+    Encloses_through hull (around_point x y (conical_reach r)) (around_point at.x at.y (pos 88000)) (disc_about hull r end h)
     (around_near x y at.x at.y (conical_reach r) (pos 88000) (pos 2000) (omega (arith, ints, c.x_close)) (omega (arith, ints, c.y_close)) (omega (arith, ints, reach_least r)))
 
 -- ---- it encloses the box of the horizontal surface
@@ -78,7 +79,7 @@ pub horizontal_in : (arcs : List ArcShape) (hull : HullAreas) → AreHullAreas a
 horizontal_in arcs hull h =
     let c = hull.conical in
     h.horizontal_least.least c
-    (All-weaker (λ a. Encloses c (disc_box CONICAL_RUN a)) (λ a. Encloses c (disc_box 0 a)) (λ a k. encloses_all c (disc_box CONICAL_RUN a) (disc_box 0 a) k (disc_more a)) arcs h.conical_least.holds)
+    (All-weaker (λ a. Encloses c (disc_box CONICAL_RUN a)) (λ a. Encloses c (disc_box 0 a)) (λ a k. Encloses_through c (disc_box CONICAL_RUN a) (disc_box 0 a) k (disc_more a)) arcs h.conical_least.holds)
 
 -- ---- and lies about the reference point
 disc_near : (arp : Point) (a : ArcShape) → IsNearReference arp a → Encloses (around_point arp.x arp.y (pos 1048576)) (disc_box CONICAL_RUN a)

@@ -7,6 +7,7 @@ use Rattle.std.proofs.lemmas.List.Elements.{All-append, All-contains, All-cons, 
 use Rattle.grid_exact.specs.declared.area.Area.{Area}
 use Rattle.outline_boxes.specs.Boxes.{Encloses, IsLeastBox}
 use Rattle.outline_boxes.specs.Trapezoids.{HasBoxAndTrapezoid, HasTrapezoid}
+use Rattle.outline_boxes.proofs.More.{Encloses_through}
 use Rattle.airfields.specs.Airfields.{IsHeldAirport}
 use Rattle.airfields.specs.Runways.{IsProper}
 use Rattle.airfields.specs.declared.airfield.Airport.{Airport}
@@ -20,7 +21,7 @@ use Rattle.horizontal_hull.specs.Arcs.{dome_of}
 use Rattle.airfield_reach.specs.Areas.{AreRunwayAreas, HaveSurfaces}
 use Rattle.airfield_reach.specs.Around.{around_point}
 use Rattle.airfield_reach.specs.Kept.{IsKept}
-use Rattle.airfield_reach.proofs.BoxOrder.{encloses_all, encloses_same}
+use Rattle.airfield_reach.proofs.BoxOrder.{encloses_same}
 use Rattle.airfield_reach.proofs.Centers.{conical_reach, plain_reach, reach_least}
 use Rattle.airfield_reach.proofs.Conical.{HasDiscs, conical_about, conical_about_end, disc_about, horizontal_in}
 use Rattle.airfield_reach.proofs.OutlineFacts.{trapezoid_less}
@@ -54,14 +55,14 @@ approach_kept r end near hull area beside all p discs n first second least held 
     elim (cases_Bool (approach_of r end).precision) [
       | inl t ↦ (
           let k : HasBoxAndTrapezoid hull (approach_outline (approach_of r end) (pos 2000000)) beside = rw t at held in
-          record { kept = beside; listed = second; has_area = least.least beside (wide_has_narrow r end beside p k.corners); has_near = encloses_all beside hull near k.box n }
+          record { kept = beside; listed = second; has_area = least.least beside (wide_has_narrow r end beside p k.corners); has_near = Encloses_through beside hull near k.box n }
           )
       | inr f ↦ record { kept = hull; listed = first; has_area = least.least hull (plain_in r end hull p discs f); has_near = n }
     ]
 
 -- an area that encloses the conical surface's stands for itself
 itself_kept : (near hull area : Area) (all : List Area) → Encloses hull near → Contains all area → Encloses area hull → IsKept near all area
-itself_kept near hull area all n listed h = record { kept = area; listed = listed; has_area = encloses_same area; has_near = encloses_all area hull near h n }
+itself_kept near hull area all n listed h = record { kept = area; listed = listed; has_area = encloses_same area; has_near = Encloses_through area hull near h n }
 
 -- ---- the areas of one runway
 six_kept : (r : Runway) (near hull : Area) (areas all : List Area) → IsProper r → HasDiscs hull r → Encloses hull near → Contains all hull → ((x : Area) → Contains areas x → Contains all x) → AreStripAreas r hull areas → All (IsKept near all) areas
