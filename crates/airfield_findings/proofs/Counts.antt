@@ -25,9 +25,9 @@ use Rattle.heliport_surfaces.specs.declared.parts.PadEnd.TheVariants as pad_ends
 use Rattle.heliport_surfaces.specs.declared.parts.Beside.TheVariants as sides
 use Rattle.runway_notice.specs.Notices.{notice_slope}
 use Rattle.airfield_findings.specs.Entries.{entries, field_key, runway_key, of_runway, of_runways, of_surfaces, of_pad, of_airfield, rule_b3, slope_finding, slope_entries}
-use Rattle.airfield_findings.specs.declared.finding.SurfaceKey.{SurfaceKey}
-use Rattle.airfield_findings.specs.declared.finding.Rule.{Rule}
-use Rattle.airfield_findings.specs.declared.finding.Rule.TheVariants as rules
+use Rattle.finding_lists.specs.declared.finding.SurfaceKey.{SurfaceKey}
+use Rattle.finding_lists.specs.declared.finding.Rule.{Rule}
+use Rattle.finding_lists.specs.declared.finding.Rule.TheVariants as rules
 
 pub one : (rule : Rule) (key : SurfaceKey) (x : Option ℕ) → length (entries rule key x) ≤ 1
 one rule key None = omega arith

@@ -1,4 +1,3 @@
-pub mod SameFindings
 pub mod ListFacts
 pub mod EntryFacts
 pub mod SlopeFacts

@@ -32,100 +32,14 @@ use Rattle.heliport_surfaces.specs.declared.parts.Beside.TheVariants as sides
 use Rattle.runway_notice.specs.Notices.{notice_slope}
 use Rattle.runway_notice.specs.declared.slope.Slope.{Slope}
 use Rattle.airfield_findings.specs.Entries.{entries, field_key, runway_key, of_runway, of_runways, of_surfaces, of_pad, of_airfield, rule_b3, slope_finding, slope_entries}
-use Rattle.airfield_findings.specs.Orders.{is_up_to, stays_before, put_in_order, merged}
-use Rattle.airfield_findings.specs.Verdicts.{is_notice, asks_notice, is_obstruction, tally_of}
-use Rattle.airfield_findings.specs.declared.finding.Finding.{Finding}
-use Rattle.airfield_findings.specs.declared.finding.Rule.{Rule}
-use Rattle.airfield_findings.specs.declared.finding.Rule.TheVariants as rules
-use Rattle.airfield_findings.specs.declared.finding.SurfaceKey.{SurfaceKey}
-use Rattle.airfield_findings.specs.declared.verdict.Verdict.{Verdict}
-
--- ---- one entry
-
-put_by_test : (x y : Finding) (ys : List Finding) (b : Bool) → stays_before y x ≡ b → put_in_order x (y ∷ ys) ≡ (if b then y ∷ put_in_order x ys else x ∷ y ∷ ys)
-put_by_test x y ys b e = ap (λ (t : Bool). if t then y ∷ put_in_order x ys else x ∷ y ∷ ys) e
-
-put_behind : (x y : Finding) (ys : List Finding) → stays_before y x ≡ true → put_in_order x (y ∷ ys) ≡ y ∷ put_in_order x ys
-put_behind x y ys e = put_by_test x y ys true e
-
-put_before : (x y : Finding) (ys : List Finding) → stays_before y x ≡ false → put_in_order x (y ∷ ys) ≡ x ∷ y ∷ ys
-put_before x y ys e = put_by_test x y ys false e
-
--- an insertion behind entries that stay before x, where the next one, if there is one, does not
-pub put_at : (x d : Finding) (ys : List Finding) (i : ℕ) → All (λ y. stays_before y x ≡ true) (take i ys) → (i < length ys → stays_before (get_or ys i d) x ≡ false) → insert ys i x ≡ put_in_order x ys
-put_at x d [] zero before next = refl
-put_at x d [] (suc i) before next = refl
-put_at x d (y ∷ ys) zero before next = sym (put_before x y ys (next (omega arith)))
-put_at x d (y ∷ ys) (suc i) before next =
-    ap (λ zs. y ∷ zs) (put_at x d ys i (All-tail (λ z. stays_before z x ≡ true) y (take i ys) before) (λ l. next (omega (arith, l))))
-    ∙ sym (put_behind x y ys (All-head (λ z. stays_before z x ≡ true) y (take i ys) before))
-
--- entries that stay before x, and then entries that do not
-put_between : (x : Finding) (front back : List Finding) → All (λ y. stays_before y x ≡ true) front → All (λ y. stays_before y x ≡ false) back → put_in_order x (front ++ back) ≡ front ++ x ∷ back
-put_between x [] [] p q = refl
-put_between x [] (y ∷ ys) p q = put_before x y ys (All-head (λ z. stays_before z x ≡ false) y ys q)
-put_between x (y ∷ ys) back p q =
-    put_behind x y (ys ++ back) (All-head (λ z. stays_before z x ≡ true) y ys p)
-    ∙ ap (λ zs. y ∷ zs) (put_between x ys back (All-tail (λ z. stays_before z x ≡ true) y ys p) q)
-
-length_step : (x y : Finding) (ys : List Finding) (b : Bool) → length (put_in_order x ys) ≡ length ys + 1 → length (if b then y ∷ put_in_order x ys else x ∷ y ∷ ys) ≡ length ys + 2
-length_step x y ys true h = omega (arith, h)
-length_step x y ys false h = omega arith
-
-length_put : (x : Finding) (ys : List Finding) → length (put_in_order x ys) ≡ length ys + 1
-length_put x [] = omega arith
-length_put x (y ∷ ys) = omega (arith, length_step x y ys (stays_before y x) (length_put x ys))
-
--- ---- all entries of a second list
-
-pub merged_append : (list xs ys : List Finding) → merged list (xs ++ ys) ≡ merged (merged list xs) ys
-merged_append list [] ys = refl
-merged_append list (x ∷ xs) ys = merged_append (put_in_order x list) xs ys
-
--- one entry more
-pub merged_next : (list more : List Finding) (i : ℕ) (x : Finding) → i < length more → x ≡ get_or more i x → merged list (take (i + 1) more) ≡ put_in_order x (merged list (take i more))
-merged_next list more i x l e =
-    ap (merged list) (take_more more i x l ∙ ap (λ y. take i more ++ y ∷ []) (sym e)) ∙ merged_append list (take i more) (x ∷ [])
-
-merged_length : (list more : List Finding) → length (merged list more) ≡ length list + length more
-merged_length list [] = omega arith
-merged_length list (x ∷ xs) = omega (arith, merged_length (put_in_order x list) xs, length_put x list)
-
--- ---- what the entries come to, whatever their order
-
-swapped : (a b d : Bool) → (a || (b || d)) ≡ (b || (a || d))
-swapped true true d = refl
-swapped true false d = refl
-swapped false true d = refl
-swapped false false d = refl
-
-any_front : (test : Finding → Bool) (x : Finding) (ys zs : List Finding) → list_any test (ys ++ x ∷ zs) ≡ list_any test (x ∷ (ys ++ zs))
-any_front test x [] zs = refl
-any_front test x (y ∷ ys) zs = ap (λ (b : Bool). test y || b) (any_front test x ys zs) ∙ swapped (test y) (test x) (list_any test (ys ++ zs))
-
-any_step : (test : Finding → Bool) (x y : Finding) (ys zs : List Finding) (b : Bool) → list_any test (put_in_order x ys ++ zs) ≡ list_any test (ys ++ x ∷ zs)
-    → list_any test ((if b then y ∷ put_in_order x ys else x ∷ y ∷ ys) ++ zs) ≡ list_any test ((y ∷ ys) ++ x ∷ zs)
-any_step test x y ys zs true h = ap (λ (b : Bool). test y || b) h
-any_step test x y ys zs false h = sym (any_front test x (y ∷ ys) zs)
-
-any_put : (test : Finding → Bool) (x : Finding) (ys zs : List Finding) → list_any test (put_in_order x ys ++ zs) ≡ list_any test (ys ++ x ∷ zs)
-any_put test x [] zs = refl
-any_put test x (y ∷ ys) zs = any_step test x y ys zs (stays_before y x) (any_put test x ys zs)
-
-any_merged : (test : Finding → Bool) (list more : List Finding) → list_any test (merged list more) ≡ list_any test (list ++ more)
-any_merged test list [] = ap (list_any test) (sym (append-nil list))
-any_merged test list (x ∷ xs) = any_merged test (put_in_order x list) xs ∙ any_put test x list xs
-
-abbrev tally : Bool → Bool → ℕ → Verdict
-tally notice obstruction entries = record { notice = notice; obstruction = obstruction; entries = min entries (2 ^ 32 - 1) }
-
-pub tally_merged : (list more : List Finding) → tally_of (merged list more) ≡ tally_of (list ++ more)
-tally_merged list more =
-    let all = merged list more in
-    let both = list ++ more in
-    ap (λ (b : Bool). tally b (is_obstruction all) (length all)) (any_merged (λ f. is_notice f.rule) list more)
-    ∙ ap (λ (b : Bool). tally (asks_notice both) b (length all)) (any_merged (λ f. not (is_notice f.rule)) list more)
-    ∙ ap (λ (n : ℕ). tally (asks_notice both) (is_obstruction both) n) (merged_length list more ∙ sym (length-append list more))
+use Rattle.finding_lists.specs.Orders.{is_up_to, stays_before, put_in_order, merged_list}
+use Rattle.finding_lists.specs.Verdicts.{is_notice, asks_notice, is_obstruction, tally_of}
+use Rattle.finding_lists.specs.declared.finding.Finding.{Finding}
+use Rattle.finding_lists.specs.declared.finding.Rule.{Rule}
+use Rattle.finding_lists.specs.declared.finding.Rule.TheVariants as rules
+use Rattle.finding_lists.specs.declared.finding.SurfaceKey.{SurfaceKey}
+use Rattle.finding_lists.specs.declared.verdict.Verdict.{Verdict}
+use Rattle.finding_lists.proofs.Merges.{merged_append, put_between}
 
 -- ---- entries of one airfield after another
 
@@ -152,7 +66,7 @@ none_stays : (k : List ℕ) (e : Finding) → e.key.field ≡ None → Stays k e
 none_stays k e m = ap (λ (o : Option (List ℕ)). is_up_to o (Some k)) m
 
 -- all entries of an airfield, between those that stay before them and those that do not
-put_run : (k : List ℕ) (front run back : List Finding) → All (Stays k) front → All (IsOf k) run → All (Yields k) back → merged (front ++ back) run ≡ front ++ run ++ back
+put_run : (k : List ℕ) (front run back : List Finding) → All (Stays k) front → All (IsOf k) run → All (Yields k) back → merged_list (front ++ back) run ≡ front ++ run ++ back
 put_run k front [] back p q r = ap (λ zs. zs ++ back) (sym (append-nil front))
 put_run k front (x ∷ run) back p q r =
     let own : IsOf k x = All-head (IsOf k) x run q in
@@ -160,7 +74,7 @@ put_run k front (x ∷ run) back p q r =
     let before = All-weaker (Stays k) (λ y. stays_before y x ≡ true) (λ y s. here y ∙ s) front p in
     let after = All-weaker (Yields k) (λ y. stays_before y x ≡ false) (λ y s. here y ∙ s) back r in
     let more = All-append (Stays k) front (x ∷ []) p (All-cons (Stays k) x [] (own_stays k x own) (All-nil (Stays k))) in
-    ap (λ zs. merged zs run) (put_between x front back before after ∙ sym (append_assoc front (x ∷ []) back))
+    ap (λ zs. merged_list zs run) (put_between x front back before after ∙ sym (append_assoc front (x ∷ []) back))
     ∙ put_run k (front ++ x ∷ []) run back more (All-tail (IsOf k) x run q) r
     ∙ ap (λ zs. zs ++ back) (append_assoc front (x ∷ []) run)
 
@@ -170,17 +84,17 @@ all_flat f P (x ∷ xs) h = All-append P (f x) (flat_map f xs) (All-head (λ y. 
 
 module _ {A : Type 0} (f : A → List Finding) (name : A → List ℕ) (p : A → Bool) where
   -- the airfield x is of the first run or of the second
-  runs_step : (front : List Finding) (x : A) (first second xs : List A) (b : Bool) → merged (front ++ flat_map f first) (f x) ≡ front ++ f x ++ flat_map f first
-      → merged (front ++ f x ++ flat_map f first) (flat_map f second) ≡ front ++ f x ++ flat_map f xs
-      → merged (front ++ flat_map f (cond (not b) (x ∷ first) first)) (flat_map f (cond b (x ∷ second) second)) ≡ front ++ flat_map f (x ∷ xs)
+  runs_step : (front : List Finding) (x : A) (first second xs : List A) (b : Bool) → merged_list (front ++ flat_map f first) (f x) ≡ front ++ f x ++ flat_map f first
+      → merged_list (front ++ f x ++ flat_map f first) (flat_map f second) ≡ front ++ f x ++ flat_map f xs
+      → merged_list (front ++ flat_map f (cond (not b) (x ∷ first) first)) (flat_map f (cond b (x ∷ second) second)) ≡ front ++ flat_map f (x ∷ xs)
   runs_step front x first second xs true put rest =
-      merged_append (front ++ flat_map f first) (f x) (flat_map f second) ∙ ap (λ zs. merged zs (flat_map f second)) put ∙ rest ∙ append_assoc front (f x) (flat_map f xs)
+      merged_append (front ++ flat_map f first) (f x) (flat_map f second) ∙ ap (λ zs. merged_list zs (flat_map f second)) put ∙ rest ∙ append_assoc front (f x) (flat_map f xs)
   runs_step front x first second xs false put rest =
-      ap (λ zs. merged zs (flat_map f second)) (sym (append_assoc front (f x) (flat_map f first))) ∙ rest ∙ append_assoc front (f x) (flat_map f xs)
+      ap (λ zs. merged_list zs (flat_map f second)) (sym (append_assoc front (f x) (flat_map f first))) ∙ rest ∙ append_assoc front (f x) (flat_map f xs)
 
   -- behind entries that stay before those of each airfield
   runs_behind : (front : List Finding) (xs : List A) → Rises name_cmp name xs → ((x : A) → All (λ e. e.key.field ≡ Some (name x)) (f x)) → All (λ x. All (Stays (name x)) front) xs
-      → merged (front ++ flat_map f (filter (λ x. not (p x)) xs)) (flat_map f (filter p xs)) ≡ front ++ flat_map f xs
+      → merged_list (front ++ flat_map f (filter (λ x. not (p x)) xs)) (flat_map f (filter p xs)) ≡ front ++ flat_map f xs
   runs_behind front [] rises of stay = refl
   runs_behind front (x ∷ xs) rises of stay =
       let k = name x in
@@ -196,7 +110,7 @@ module _ {A : Type 0} (f : A → List Finding) (name : A → List ℕ) (p : A �
 
 -- the entries of the airfields that pass the test, put among those of the others, make the entries of all airfields in order of name
 pub merged_runs : {A : Type 0} (f : A → List Finding) (name : A → List ℕ) (p : A → Bool) (first : List Finding) (xs : List A) → Rises name_cmp name xs → ((x : A) → All (λ e. e.key.field ≡ Some (name x)) (f x)) → All (λ e. e.key.field ≡ None) first
-    → merged (first ++ flat_map f (filter (λ x. not (p x)) xs)) (flat_map f (filter p xs)) ≡ first ++ flat_map f xs
+    → merged_list (first ++ flat_map f (filter (λ x. not (p x)) xs)) (flat_map f (filter p xs)) ≡ first ++ flat_map f xs
 merged_runs f name p first xs rises of none =
     runs_behind f name p first xs rises of (λ j d l. All-weaker (λ e. e.key.field ≡ None) (Stays (name (get_or xs j d))) (λ e m. none_stays (name (get_or xs j d)) e m) first none)
 

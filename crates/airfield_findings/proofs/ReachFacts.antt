@@ -29,7 +29,7 @@ use Rattle.heliport_surfaces.specs.Areas.{SkipsIn as PadSkips, in_order as pad_o
 use Rattle.heliport_surfaces.specs.Pads.{pad_approach_excess, pad_notice_excess, pad_primary_excess, pad_transition_excess}
 use Rattle.airfield_findings.specs.Entries.{of_pad, of_runway, of_runways, of_surfaces}
 use Rattle.airfield_findings.specs.Reaches.{IsRunwayReach}
-use Rattle.airfield_findings.specs.declared.finding.Finding.{Finding}
+use Rattle.finding_lists.specs.declared.finding.Finding.{Finding}
 
 -- a point outside of a box is outside of those that it encloses
 pub outside : (outer inner : Area) (x : Point) → Encloses outer inner → ¬ Has outer x → ¬ Has inner x

@@ -9,9 +9,9 @@ use Rattle.height_rules.specs.Heights.{notice_top}
 use Rattle.runway_notice.specs.Notices.{notice_slope}
 use Rattle.runway_notice.specs.declared.slope.Slope.{Slope}
 use Rattle.airfield_findings.specs.Entries.{rule_b, runway_key, slope_entries, slope_finding}
-use Rattle.airfield_findings.specs.declared.finding.Finding.{Finding}
-use Rattle.airfield_findings.specs.declared.finding.SurfaceKey.{SurfaceKey}
-use Rattle.airfield_findings.specs.declared.finding.Rule.{Rule}
+use Rattle.finding_lists.specs.declared.finding.Finding.{Finding}
+use Rattle.finding_lists.specs.declared.finding.SurfaceKey.{SurfaceKey}
+use Rattle.finding_lists.specs.declared.finding.Rule.{Rule}
 use Rattle.airfield_findings.proofs.EntryFacts.{Puts}
 
 abbrev made : Rule → SurfaceKey → ℕ → Finding

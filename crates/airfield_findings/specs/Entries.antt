@@ -1,4 +1,4 @@
--- The entries that one airfield gives to the list of findings of a structure.
+-- The entries of one airfield in the list of findings of a structure.
 use Rattle.std.specs.Prelude.{ℕ, ℤ, List, [], ◌++◌, Option, Some, None, option_map, if◌then◌else◌}
 use Rattle.std.specs.List.{flat_map}
 use Rattle.std.specs.Option.{option_to_list}
@@ -24,12 +24,12 @@ use Rattle.runway_notice.specs.Notices.{notice_slope}
 use Rattle.runway_notice.specs.declared.slope.Slope.{Slope}
 use Rattle.runway_notice.specs.declared.slope.Sub.{Sub}
 use Rattle.runway_notice.specs.declared.slope.Sub.TheVariants.{B1, B2}
-use Rattle.airfield_findings.specs.declared.finding.Finding.{Finding}
-use Rattle.airfield_findings.specs.declared.finding.SurfaceKey.{SurfaceKey}
-use Rattle.airfield_findings.specs.declared.finding.Rule.{Rule}
-use Rattle.airfield_findings.specs.declared.finding.Rule.TheVariants as rules
+use Rattle.finding_lists.specs.declared.finding.Finding.{Finding}
+use Rattle.finding_lists.specs.declared.finding.SurfaceKey.{SurfaceKey}
+use Rattle.finding_lists.specs.declared.finding.Rule.{Rule}
+use Rattle.finding_lists.specs.declared.finding.Rule.TheVariants as rules
 
--- the key of a rule that looks at no airfield
+-- the key of a rule without an airfield
 abbrev pub no_key : SurfaceKey
 no_key = record { field = None; runway = None; part = 0 }
 
@@ -58,7 +58,7 @@ of_runway id at top cap r =
     ++ entries rules.Transition (runway_key id r.name 1) (approach_transition_excess r ends.One at cap top)
     ++ entries rules.Transition (runway_key id r.name 2) (approach_transition_excess r ends.Two at cap top)
 
--- the entries of the surfaces of an airport's runways, in order of their names: 77.19 is for civil airports alone
+-- the entries of the surfaces of an airport's runways, in order of their names; only civil airports have surfaces of 77.19
 abbrev pub of_runways : Point → ℤ → Airport → List Finding
 of_runways at top a = if has_civil_surfaces a.category then flat_map (of_runway a.id at top (cap_of (dome_of a) at)) a.runways else []
 
@@ -79,14 +79,14 @@ of_pad at top h =
     ++ entries rules.PadTransition (field_key h.id 1) (pad_transition_excess h sides.ApproachOne at top)
     ++ entries rules.PadTransition (field_key h.id 2) (pad_transition_excess h sides.ApproachTwo at top)
 
--- the standards of one airfield: the height near an airport of 77.17(a)(2), and the imaginary surfaces that it has
+-- the standards of one airfield: the limit near an airport of 77.17(a)(2), and its imaginary surfaces
 abbrev pub of_airfield : Site → Airfield → List Finding
 of_airfield site (AnAirport a) = entries rules.Near (field_key a.id 0) (near_excess a site) ++ of_surfaces site.at (standards_top site) a
 of_airfield site (AHeliport h) = of_pad site.at (standards_top site) h
 
 -- ---- notice
 
--- what notice rules are called for a traverse way, under 77.9(c)
+-- the notice rule for a structure; a traverse way has it under 77.9(c)
 abbrev pub rule_b : Site → Sub → Rule
 rule_b site B1 = if is_traverse_way site.kind then rules.WayB1 else rules.NoticeB1
 rule_b site B2 = if is_traverse_way site.kind then rules.WayB2 else rules.NoticeB2

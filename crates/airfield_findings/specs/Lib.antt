@@ -1,8 +1,6 @@
 pub mod Entries
-pub mod Verdicts
 pub mod Reaches
 pub mod PreparedAirports
 pub mod Surfaces
 pub mod Prepared
 pub mod StripLists
-pub mod Orders

@@ -1,4 +1,4 @@
--- What is prepared of an airfield.
+-- Prepared airfields as specs see them.
 use Rattle.airfields.specs.declared.airfield.Airfield.{Airfield}
 use Rattle.airfield_findings.specs.Surfaces.{airfield_with}
 use Rattle.airfield_findings.specs.declared.prepared.Prepared.{Prepared}

@@ -1,4 +1,4 @@
--- What is prepared of an airport.
+-- The invariant of a prepared airport.
 use Rattle.std.specs.Prelude.{ℕ, List, Option, IfSome, ◌≡◌}
 use Rattle.grid_exact.specs.declared.area.Area.{Area}
 use Rattle.airfields.specs.Airfields.{IsHeldAirport}
@@ -16,8 +16,8 @@ pub record IsDatumOf (a : Airport) (d : Datum) : Type 0 where
   pub y_is : d.y ≡ a.arp.y
   pub elevation_is : d.elevation ≡ a.elevation
 
--- the airport keeps its limits, what is kept beside it is its own, the surfaces are those of its runways, the boxes are how far its parts reach, and a runway that is kept apart
--- is the only one
+-- the airport is within its limits, the data stored beside it are its own, the surfaces are those of its runways, the boxes contain its
+-- parts, and a runway that is stored separately is the only one
 pub record IsPreparedAirport (a : Airport) (datum : Datum) (id : List ℕ) (category : Category) (hull : Dome) (strips : List Runway) (lone : Option Runway) (near notice surfaces : Option Area) : Type 0 where
   pub held : IsHeldAirport a
   pub datum_is : IsDatumOf a datum

@@ -1,4 +1,4 @@
--- For proofs alone: the surfaces of runways as they are kept.
+-- For proofs alone: the stored form of the surfaces of runways.
 use Rattle.std.specs.Prelude.{List}
 use Rattle.airfields.specs.declared.runway.Runway.{Runway}
 use Rattle.airfield_findings.specs.declared.strips.Strips.{Strips}

@@ -1,4 +1,4 @@
-//! Reference points of airports, with their elevations, in half the room.
+//! Reference points of airports, with their elevations, in half the memory.
 
 ghost use Rattle.std.specs.Prelude.{◌≡◌, ◌≤ℤ◌, neg_ℤ};
 ghost use Rattle.grid_exact.specs.Grid.{OnGrid};
@@ -7,8 +7,8 @@ ghost use Rattle.airfields.specs.Runways.{IsElevation};
 
 use grid_exact::Point;
 
-/// An airport's reference point and its elevation in 12 bytes: they stand next to the airport's boxes, since each structure near it asks
-/// for them.
+/// An airport's reference point and elevation in 12 bytes. They are stored next to the airport's boxes, since each structure near it reads
+/// them.
 #[derive(Clone, Copy)]
 pub(crate) struct Datum {
     x: i32,
@@ -17,7 +17,7 @@ pub(crate) struct Datum {
     ghost on_grid: { OnGrid x y },
 }
 
-/// A coordinate of the grid.
+/// A coordinate of the grid as 32 bits.
 fn narrow_coordinate(coordinate: i64) -> i32
     requires low { neg_ℤ COORDINATE_LIMIT ≤ℤ coordinate }
     requires high { coordinate ≤ℤ COORDINATE_LIMIT }
@@ -26,7 +26,7 @@ fn narrow_coordinate(coordinate: i64) -> i32
     coordinate as i32
 }
 
-/// An elevation within its limits.
+/// An elevation within its limits as 32 bits.
 fn narrow_elevation(elevation: i64) -> i32
     requires { IsElevation elevation }
     ensures { result ≡ elevation }
@@ -35,7 +35,7 @@ fn narrow_elevation(elevation: i64) -> i32
 }
 
 impl Datum {
-    /// A reference point and an elevation.
+    /// The compact form of a reference point and an elevation.
     pub(crate) fn of(point: &Point, elevation: i64) -> Datum
         requires { IsElevation elevation }
         ensures x { result.x ≡ point.now.x }

@@ -2,14 +2,13 @@
 
 ghost use Rattle.std.specs.Prelude.{◌≡◌, ◌++◌, List, None, Some, OnOk, OnErr};
 ghost use Rattle.airfield_findings.specs.Entries.{entries, field_key as field_key_of, runway_key as runway_key_of, no_key};
-ghost use Rattle.airfield_findings.specs.declared.finding.Finding.{Finding as AFinding};
+ghost use Rattle.finding_lists.specs.declared.finding.Finding.{Finding as AFinding};
 
-use crate::collector::Collector;
-use crate::finding::{Finding, Rule, SurfaceKey};
 use airfields::{FieldId, RunwayName};
+use finding_lists::{Collector, Finding, Rule, SurfaceKey};
 use grid_exact::NoMemory;
 
-/// The key of a rule that looks at no airfield.
+/// The key of a rule without an airfield.
 pub fn no_field() -> SurfaceKey
     ensures { result ≡ no_key }
 {
@@ -20,7 +19,7 @@ pub fn no_field() -> SurfaceKey
     }
 }
 
-/// The key of a surface of an airfield, with its end or side.
+/// The key of a surface of an airfield, with its end or side, or 0.
 pub fn field_key(field: FieldId, part: u8) -> SurfaceKey
     ensures { result ≡ field_key_of field part }
 {
@@ -31,7 +30,7 @@ pub fn field_key(field: FieldId, part: u8) -> SurfaceKey
     }
 }
 
-/// The key of a surface of a runway, with its end or side.
+/// The key of a surface of a runway, with its end or side, or 0.
 pub fn runway_key(field: FieldId, runway: RunwayName, part: u8) -> SurfaceKey
     ensures { result ≡ runway_key_of field runway part }
 {
@@ -42,7 +41,7 @@ pub fn runway_key(field: FieldId, runway: RunwayName, part: u8) -> SurfaceKey
     }
 }
 
-/// Hands over the entry of a rule, where it is exceeded.
+/// Passes the entry of a rule to the collector, where the rule is exceeded.
 #[inline(always)]
 pub fn put_entry<C: Collector>(
     out: &mut C,
@@ -50,7 +49,8 @@ pub fn put_entry<C: Collector>(
     key: SurfaceKey,
     excess: Option<u32>,
 ) -> Result<(), NoMemory>
-    ensures taken { OnOk result ((list : List AFinding) → C.taken out.old list → C.taken out.new (list ++ entries rule key excess)) }
+    ensures taken { OnOk result ((list : List AFinding) → C.taken out.old list
+        → C.taken out.new (list ++ entries rule key excess)) }
     ensures fails { OnErr result C.fails }
 {
     if let Some(excess) = excess {
@@ -59,7 +59,7 @@ pub fn put_entry<C: Collector>(
     Ok(())
 }
 
-/// Hands over the entry of a surface of an airfield, where it is exceeded.
+/// Passes the entry of a surface of an airfield to the collector, where the surface is exceeded.
 #[inline(always)]
 pub fn put_on_field<C: Collector>(
     out: &mut C,
@@ -68,13 +68,14 @@ pub fn put_on_field<C: Collector>(
     part: u8,
     excess: Option<u32>,
 ) -> Result<(), NoMemory>
-    ensures taken { OnOk result ((list : List AFinding) → C.taken out.old list → C.taken out.new (list ++ entries rule (field_key_of field part) excess)) }
+    ensures taken { OnOk result ((list : List AFinding) → C.taken out.old list
+        → C.taken out.new (list ++ entries rule (field_key_of field part) excess)) }
     ensures fails { OnErr result C.fails }
 {
     put_entry(out, rule, field_key(field, part), excess)
 }
 
-/// Hands over the entry of a surface of a runway, where it is exceeded.
+/// Passes the entry of a surface of a runway to the collector, where the surface is exceeded.
 #[inline(always)]
 pub fn put_on_runway<C: Collector>(
     out: &mut C,
@@ -84,7 +85,8 @@ pub fn put_on_runway<C: Collector>(
     part: u8,
     excess: Option<u32>,
 ) -> Result<(), NoMemory>
-    ensures taken { OnOk result ((list : List AFinding) → C.taken out.old list → C.taken out.new (list ++ entries rule (runway_key_of field runway part) excess)) }
+    ensures taken { OnOk result ((list : List AFinding) → C.taken out.old list
+        → C.taken out.new (list ++ entries rule (runway_key_of field runway part) excess)) }
     ensures fails { OnErr result C.fails }
 {
     put_entry(out, rule, runway_key(field, runway, part), excess)

@@ -2,18 +2,18 @@
 
 ghost use Rattle.std.specs.Prelude.{◌≡◌, nat_eq, IfOk};
 ghost use Rattle.airfields.specs.Airfields.{IsHeld};
-ghost use Rattle.airfield_reach.specs.declared.plots.TheConstants.{SMALL_LEVEL};
+ghost use Rattle.airfield_plots.specs.declared.plots.TheConstants.{SMALL_LEVEL};
 ghost use Rattle.airfield_findings.specs.Surfaces.{airfield_with};
 ghost use Rattle.airfield_findings.specs.Reaches.{IsInPlace};
 
 use crate::surfaces::Surfaces;
-use airfield_reach::SMALL_LEVEL;
+use airfield_plots::SMALL_LEVEL;
 use airfields::{Airfield, FieldId};
 use grid_exact::NoMemory;
 use std::alloc::Global;
 use surface_tree::{Placed, Plot};
 
-/// An airfield with its surfaces, and its plot, outside of whose area it gives no findings.
+/// An airfield with its surfaces, and its plot; it has no findings for structures outside the plot's area.
 #[derive(Drop)]
 pub struct Prepared {
     pub(crate) surfaces: Surfaces,
@@ -35,7 +35,7 @@ impl Prepared {
         Ok(Prepared { surfaces, plot })
     }
 
-    /// Whether the smaller squares hold its plot. A visit comes to such airfields last.
+    /// Whether its plot is stored in the smaller squares. A visit gives such airfields last.
     #[inline(always)]
     pub fn is_small(&self) -> bool
         ensures { result ≡ nat_eq self.now.plot.level SMALL_LEVEL }
@@ -44,10 +44,10 @@ impl Prepared {
     }
 }
 
-/// An airfield with its surfaces stands under its name, on its plot.
+/// In a tree of areas, a prepared airfield has the airfield's name as its key, and its own plot.
 impl Placed for Prepared {
     ghost use Rattle.airfields.specs.Airfields.{id_of};
-    ghost use Rattle.airfield_reach.specs.declared.plots.TheConstants.{SMALL_LEVEL};
+    ghost use Rattle.airfield_plots.specs.declared.plots.TheConstants.{SMALL_LEVEL};
     ghost use Rattle.airfield_findings.specs.Surfaces.{airfield_with};
 
     type Key = FieldId;

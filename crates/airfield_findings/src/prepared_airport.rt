@@ -15,7 +15,7 @@ use crate::bounds::bounds_of;
 use crate::datum::Datum;
 use crate::reach::surfaces_area;
 use crate::strips::Strips;
-use airfield_reach::airport_plot;
+use airfield_plots::airport_plot;
 use airfields::{Airport, Category, FieldId};
 use grid_exact::{NoMemory, Point};
 use height_rules::{Structure, excess_near_limited, near_area};
@@ -27,23 +27,23 @@ use std::alloc::Global;
 use std::marker::Model;
 use surface_tree::Plot;
 
-/// An airport with its surfaces; seen as the airport.
+/// An airport with its surfaces; contracts see it as the airport.
 #[derive(Drop)]
 pub struct PreparedAirport {
-    /// The box of 77.17(a)(2), where the airport has such a limit. The boxes stand beside the airport, since each structure near it asks
-    /// for them, and for more only where one of them has its point.
+    /// The box of 77.17(a)(2), if the airport has that limit. The boxes are stored beside the airport, since each structure near it reads
+    /// them, and reads more only where one of them contains its point.
     near: Bounds,
-    /// The box of the surfaces of 77.19, where the airport has them.
+    /// The box of the surfaces of 77.19, if the airport has them.
     surfaces: Bounds,
-    /// The box of 77.9(b), where notice is asked about the airport.
+    /// The box of 77.9(b), if the airport has a notice slope.
     notice: Bounds,
-    /// Its reference point and elevation stand next to them, since they are asked for first.
+    /// The reference point and elevation are stored next to the boxes, since they are read first.
     datum: Datum,
-    /// Its name, which each entry has.
+    /// The airport's name, which each entry contains.
     id: FieldId,
     category: Category,
     hull: Hull,
-    /// The runway that notice is measured from, ready, where the airport has no other.
+    /// The runway from which notice is measured, prepared, if it is the airport's only one.
     lone: Option<LoneRunway>,
     strips: Strips,
     airport: Airport,
@@ -64,7 +64,7 @@ impl Model for PreparedAirport {
 }
 
 impl PreparedAirport {
-    /// The airport with its surfaces prepared, and its plot.
+    /// Prepares the surfaces of the airport, and its plot.
     pub fn of(alloc: Global, airport: &Airport) -> Result<(PreparedAirport, Plot), NoMemory>
         requires held { IsHeldAirport airport.now }
         ensures airport { IfOk result (λ p. p.0 ≡ airport.now) }
@@ -143,7 +143,7 @@ impl PreparedAirport {
         self.strips.as_slice()
     }
 
-    /// How far the structure is above the limit near the airport, 77.17(a)(2).
+    /// The structure's excess over the limit near the airport (77.17(a)(2)), in tenths of a foot; `None` where it is not above.
     #[inline(always)]
     pub(crate) fn excess_near(&self, structure: &Structure) -> Option<u32>
         ensures { result ≡ near_excess self.now structure.now }
@@ -154,7 +154,7 @@ impl PreparedAirport {
         excess_near_limited(&self.datum.point(), self.datum.elevation(), structure)
     }
 
-    /// The slope of 77.9(b) that the structure is above.
+    /// The notice slope of 77.9(b) that the structure is above, with the excess; `None` where there is none.
     #[inline(always)]
     pub(crate) fn excess_notice(&self, structure: &Structure) -> Option<Slope>
         ensures { result ≡ notice_slope self.now structure.now.at (notice_top structure.now) }
@@ -166,7 +166,7 @@ impl PreparedAirport {
         self.slope_over(structure.at(), top)
     }
 
-    /// The slope of 77.9(b) that a top is above, where the box of 77.9(b) may have its point.
+    /// The notice slope of 77.9(b) that a top is above, where the box of 77.9(b) may contain its point.
     #[inline(never)]
     fn slope_over(&self, at: &Point, top: i64) -> Option<Slope>
         requires { IsLevel top }
@@ -178,10 +178,11 @@ impl PreparedAirport {
         }
     }
 
-    /// Whether a surface of 77.19 may lie over the point.
+    /// Whether a surface of 77.19 may cover the point.
     #[inline(always)]
     pub(crate) fn has_surfaces_over(&self, spot: &Spot) -> bool
-        ensures none { result ≡ false → (top : ℤ) → IsLevel top → of_surfaces spot.now top self.now ≡ [] }
+        ensures none { result ≡ false → (top : ℤ) → IsLevel top
+            → of_surfaces spot.now top self.now ≡ [] }
     {
         self.surfaces.has(spot)
     }

@@ -4,21 +4,20 @@ ghost use Rattle.std.specs.Prelude.{◌≡◌, ◌++◌, List, OnOk, OnErr};
 ghost use Rattle.airfield_findings.specs.Entries.{rule_b as rule_b_of, rule_b3 as rule_b3_of, slope_entries};
 ghost use Rattle.airfield_findings.specs.Prepared.{airfield_of};
 ghost use Rattle.airfields.specs.declared.airfield.Airfield.TheVariants.{Airport as AnAirport, Heliport as AHeliport};
-ghost use Rattle.airfield_findings.specs.declared.finding.Finding.{Finding as AFinding};
+ghost use Rattle.finding_lists.specs.declared.finding.Finding.{Finding as AFinding};
 
-use crate::collector::Collector;
 use crate::entry::{put_on_field, runway_key};
-use crate::finding::{Finding, Rule};
 use crate::prepared::Prepared;
 use crate::prepared_airport::PreparedAirport;
 use crate::surfaces::Surfaces;
 use airfields::Filing;
+use finding_lists::{Collector, Finding, Rule};
 use grid_exact::NoMemory;
 use height_rules::Structure;
 use heliport_surfaces::Pad;
 use runway_notice::Sub;
 
-/// What 77.9(b)(1) and (2) are called for the structure.
+/// The rule of 77.9(b)(1) or (2) for the structure; a traverse way has it under 77.9(c).
 fn rule_b(filing: &Filing, sub: Sub) -> Rule
     ensures { result ≡ rule_b_of filing.now sub }
 {
@@ -30,7 +29,7 @@ fn rule_b(filing: &Filing, sub: Sub) -> Rule
     }
 }
 
-/// What 77.9(b)(3) is called for the structure.
+/// The rule of 77.9(b)(3) for the structure; a traverse way has it under 77.9(c).
 fn rule_b3(filing: &Filing) -> Rule
     ensures { result ≡ rule_b3_of filing.now }
 {
@@ -41,14 +40,15 @@ fn rule_b3(filing: &Filing) -> Rule
     }
 }
 
-/// Hands over the entry of the notice slope of an airport.
+/// Passes the entry of the notice slope of an airport to the collector.
 #[inline(always)]
 fn put_airport_slope<C: Collector>(
     out: &mut C,
     structure: &Structure,
     prepared: &PreparedAirport,
 ) -> Result<(), NoMemory>
-    ensures taken { OnOk result ((list : List AFinding) → C.taken out.old list → C.taken out.new (list ++ slope_entries structure.now (AnAirport prepared.now))) }
+    ensures taken { OnOk result ((list : List AFinding) → C.taken out.old list
+        → C.taken out.new (list ++ slope_entries structure.now (AnAirport prepared.now))) }
     ensures fails { OnErr result C.fails }
 {
     if let Some(slope) = prepared.excess_notice(structure) {
@@ -61,14 +61,15 @@ fn put_airport_slope<C: Collector>(
     Ok(())
 }
 
-/// Hands over the entry of the notice slope of a heliport.
+/// Passes the entry of the notice slope of a heliport to the collector.
 #[inline(never)]
 fn put_heliport_slope<C: Collector>(
     out: &mut C,
     structure: &Structure,
     pad: &Pad,
 ) -> Result<(), NoMemory>
-    ensures taken { OnOk result ((list : List AFinding) → C.taken out.old list → C.taken out.new (list ++ slope_entries structure.now (AHeliport pad.now))) }
+    ensures taken { OnOk result ((list : List AFinding) → C.taken out.old list
+        → C.taken out.new (list ++ slope_entries structure.now (AHeliport pad.now))) }
     ensures fails { OnErr result C.fails }
 {
     let excess = pad.excess_notice(structure.at(), structure.notice_top());
@@ -81,14 +82,15 @@ fn put_heliport_slope<C: Collector>(
     )
 }
 
-/// Hands over the entry of the notice slope of one airfield.
+/// Passes the entry of the notice slope of one airfield to the collector.
 #[inline(always)]
 pub fn put_slope<C: Collector>(
     out: &mut C,
     structure: &Structure,
     prepared: &Prepared,
 ) -> Result<(), NoMemory>
-    ensures taken { OnOk result ((list : List AFinding) → C.taken out.old list → C.taken out.new (list ++ slope_entries structure.now (airfield_of prepared.now))) }
+    ensures taken { OnOk result ((list : List AFinding) → C.taken out.old list
+        → C.taken out.new (list ++ slope_entries structure.now (airfield_of prepared.now))) }
     ensures fails { OnErr result C.fails }
 {
     match &prepared.surfaces {

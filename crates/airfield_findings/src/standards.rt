@@ -1,4 +1,4 @@
-//! The standards that a structure exceeds over one airfield.
+//! The standards of one airfield that a structure exceeds.
 
 ghost use Rattle.std.specs.Prelude.{◌≡◌, ◌++◌, List, OnOk, OnErr};
 ghost use Rattle.std.specs.List.{flat_map};
@@ -9,21 +9,20 @@ ghost use Rattle.horizontal_hull.specs.Within.{cap_of};
 ghost use Rattle.airfield_findings.specs.Entries.{of_airfield, of_pad, of_runway, of_runways, of_surfaces};
 ghost use Rattle.airfield_findings.specs.Prepared.{airfield_of};
 ghost use Rattle.airfields.specs.declared.airfield.Airfield.TheVariants.{Airport as AnAirport, Heliport as AHeliport};
-ghost use Rattle.airfield_findings.specs.declared.finding.Finding.{Finding as AFinding};
+ghost use Rattle.finding_lists.specs.declared.finding.Finding.{Finding as AFinding};
 
-use crate::collector::Collector;
 use crate::entry::{put_on_field, put_on_runway};
-use crate::finding::Rule;
 use crate::prepared::Prepared;
 use crate::prepared_airport::PreparedAirport;
 use crate::surfaces::Surfaces;
 use airfields::FieldId;
+use finding_lists::{Collector, Rule};
 use grid_exact::{Cap, NoMemory, Point};
 use height_rules::Structure;
 use heliport_surfaces::Pad;
 use imaginary_surfaces::Strip;
 
-/// Hands over the entries of the surfaces of one runway.
+/// Passes the entries of the surfaces of one runway to the collector.
 fn put_runway<C: Collector>(
     out: &mut C,
     field: FieldId,
@@ -33,11 +32,12 @@ fn put_runway<C: Collector>(
     strip: &Strip,
 ) -> Result<(), NoMemory>
     requires top { IsLevel top }
-    ensures taken { OnOk result ((list : List AFinding) → C.taken out.old list → C.taken out.new (list ++ of_runway field at.now top cap.now strip.now)) }
+    ensures taken { OnOk result ((list : List AFinding) → C.taken out.old list
+        → C.taken out.new (list ++ of_runway field at.now top cap.now strip.now)) }
     ensures fails { OnErr result C.fails }
 {
     let excesses = strip.excesses(at, top, cap);
-    // read last, since most points are clear of the runway and its name is then not asked for
+    // read last, since most points are clear of the runway and its name is then not needed
     let name = strip.runway().name;
     put_on_runway(out, Rule::Primary, field, name, 0, excesses.primary)?;
     put_on_runway(out, Rule::Approach, field, name, 1, excesses.approach1)?;
@@ -69,7 +69,7 @@ fn put_runway<C: Collector>(
     Ok(())
 }
 
-/// Hands over the entries of the surfaces of runways, one runway after the other.
+/// Passes the entries of the surfaces of several runways to the collector, one runway after the other.
 fn put_strips<C: Collector>(
     out: &mut C,
     field: FieldId,
@@ -79,7 +79,8 @@ fn put_strips<C: Collector>(
     strips: &[Strip],
 ) -> Result<(), NoMemory>
     requires top { IsLevel top }
-    ensures taken { OnOk result ((list : List AFinding) → C.taken out.old list → C.taken out.new (list ++ flat_map (of_runway field at.now top cap.now) strips.now)) }
+    ensures taken { OnOk result ((list : List AFinding) → C.taken out.old list
+        → C.taken out.new (list ++ flat_map (of_runway field at.now top cap.now) strips.now)) }
     ensures fails { OnErr result C.fails }
 {
     for strip in strips {
@@ -88,7 +89,7 @@ fn put_strips<C: Collector>(
     Ok(())
 }
 
-/// Hands over the entries of the surfaces of an airport's runways, in order of name; only a civil airport has them.
+/// Passes the entries of the surfaces of an airport's runways to the collector, in order of name; only a civil airport has them.
 fn put_runways<C: Collector>(
     out: &mut C,
     at: &Point,
@@ -98,7 +99,8 @@ fn put_runways<C: Collector>(
 ) -> Result<(), NoMemory>
     requires top { IsLevel top }
     requires cap { cap.now ≡ cap_of (dome_of prepared.now) at.now }
-    ensures taken { OnOk result ((list : List AFinding) → C.taken out.old list → C.taken out.new (list ++ of_runways at.now top prepared.now)) }
+    ensures taken { OnOk result ((list : List AFinding) → C.taken out.old list
+        → C.taken out.new (list ++ of_runways at.now top prepared.now)) }
     ensures fails { OnErr result C.fails }
 {
     if !prepared.category().civil_surfaces() {
@@ -107,15 +109,17 @@ fn put_runways<C: Collector>(
     put_strips(out, prepared.id(), at, top, cap, prepared.strips())
 }
 
-/// Hands over the entries of the surfaces of an airport: horizontal, conical, then those of its runways in order of name. How the
-/// point stands under the first two is found once, for them and for the limit of the transitional surfaces.
+/// Passes the entries of an airport's surfaces of 77.19 to the collector: horizontal, conical, then those of its runways in order of name.
+/// The surface over the point is found once, for the first two and for the limit of the transitional surfaces.
 #[inline(always)]
 fn put_surfaces<C: Collector>(
     out: &mut C,
     structure: &Structure,
     prepared: &PreparedAirport,
 ) -> Result<(), NoMemory>
-    ensures taken { OnOk result ((list : List AFinding) → C.taken out.old list → C.taken out.new (list ++ of_surfaces structure.now.at (standards_top structure.now) prepared.now)) }
+    ensures taken { OnOk result ((list : List AFinding) → C.taken out.old list
+        → C.taken out.new (list ++ of_surfaces structure.now.at
+        (standards_top structure.now) prepared.now)) }
     ensures fails { OnErr result C.fails }
 {
     let top = structure.standards_top();
@@ -125,7 +129,7 @@ fn put_surfaces<C: Collector>(
     put_surfaces_over(out, structure.at(), top, prepared)
 }
 
-/// The same where one of them may lie over the point. It is kept apart, as most airports near a structure need none of it.
+/// The same where a surface may cover the point. Not inlined, since most airports near a structure do not need it.
 #[inline(never)]
 fn put_surfaces_over<C: Collector>(
     out: &mut C,
@@ -134,7 +138,8 @@ fn put_surfaces_over<C: Collector>(
     prepared: &PreparedAirport,
 ) -> Result<(), NoMemory>
     requires top { IsLevel top }
-    ensures taken { OnOk result ((list : List AFinding) → C.taken out.old list → C.taken out.new (list ++ of_surfaces at.now top prepared.now)) }
+    ensures taken { OnOk result ((list : List AFinding) → C.taken out.old list
+        → C.taken out.new (list ++ of_surfaces at.now top prepared.now)) }
     ensures fails { OnErr result C.fails }
 {
     let field = prepared.id();
@@ -147,10 +152,11 @@ fn put_surfaces_over<C: Collector>(
     put_runways(out, at, top, &hull.cap_at(&standing), prepared)
 }
 
-/// Hands over the entries of the surfaces of a heliport.
+/// Passes the entries of the surfaces of a heliport to the collector.
 fn put_pad<C: Collector>(out: &mut C, at: &Point, top: i64, pad: &Pad) -> Result<(), NoMemory>
     requires top { IsLevel top }
-    ensures taken { OnOk result ((list : List AFinding) → C.taken out.old list → C.taken out.new (list ++ of_pad at.now top pad.now)) }
+    ensures taken { OnOk result ((list : List AFinding) → C.taken out.old list
+        → C.taken out.new (list ++ of_pad at.now top pad.now)) }
     ensures fails { OnErr result C.fails }
 {
     let field = pad.heliport().id;
@@ -176,14 +182,15 @@ fn put_pad<C: Collector>(out: &mut C, at: &Point, top: i64, pad: &Pad) -> Result
     Ok(())
 }
 
-/// Hands over the entries of an airport.
+/// Passes the entries of the standards of an airport to the collector.
 #[inline(always)]
 fn put_airport<C: Collector>(
     out: &mut C,
     structure: &Structure,
     prepared: &PreparedAirport,
 ) -> Result<(), NoMemory>
-    ensures taken { OnOk result ((list : List AFinding) → C.taken out.old list → C.taken out.new (list ++ of_airfield structure.now (AnAirport prepared.now))) }
+    ensures taken { OnOk result ((list : List AFinding) → C.taken out.old list
+        → C.taken out.new (list ++ of_airfield structure.now (AnAirport prepared.now))) }
     ensures fails { OnErr result C.fails }
 {
     let near = prepared.excess_near(structure);
@@ -191,23 +198,25 @@ fn put_airport<C: Collector>(
     put_surfaces(out, structure, prepared)
 }
 
-/// Hands over the entries of a heliport.
+/// Passes the entries of the standards of a heliport to the collector.
 #[inline(never)]
 fn put_heliport<C: Collector>(out: &mut C, structure: &Structure, pad: &Pad) -> Result<(), NoMemory>
-    ensures taken { OnOk result ((list : List AFinding) → C.taken out.old list → C.taken out.new (list ++ of_airfield structure.now (AHeliport pad.now))) }
+    ensures taken { OnOk result ((list : List AFinding) → C.taken out.old list
+        → C.taken out.new (list ++ of_airfield structure.now (AHeliport pad.now))) }
     ensures fails { OnErr result C.fails }
 {
     put_pad(out, structure.at(), structure.standards_top(), pad)
 }
 
-/// Hands over the standards of one airfield.
+/// Passes the entries of the standards of one airfield to the collector.
 #[inline(always)]
 pub fn put_airfield<C: Collector>(
     out: &mut C,
     structure: &Structure,
     prepared: &Prepared,
 ) -> Result<(), NoMemory>
-    ensures taken { OnOk result ((list : List AFinding) → C.taken out.old list → C.taken out.new (list ++ of_airfield structure.now (airfield_of prepared.now))) }
+    ensures taken { OnOk result ((list : List AFinding) → C.taken out.old list
+        → C.taken out.new (list ++ of_airfield structure.now (airfield_of prepared.now))) }
     ensures fails { OnErr result C.fails }
 {
     match &prepared.surfaces {

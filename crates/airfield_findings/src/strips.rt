@@ -10,8 +10,8 @@ use grid_exact::NoMemory;
 use imaginary_surfaces::Strip;
 use std::alloc::Global;
 
-/// The surfaces of runways, in order of the runways' names. Those of a lone runway, which most airports have, stand in place: a structure
-/// under them asks for them without going elsewhere in memory first.
+/// The surfaces of runways, in order of the runways' names. Those of an only runway, the most frequent case, are stored in place, so that
+/// a structure under them is tested without another memory access.
 #[derive(Drop)]
 pub(crate) enum Strips {
     Lone([Strip; 1]),
@@ -42,7 +42,7 @@ impl Strips {
         Ok(Strips::Listed(strips_of(alloc, runways)?))
     }
 
-    /// One after the other.
+    /// The surfaces as a slice.
     #[inline(always)]
     pub(crate) fn as_slice(&self) -> &[Strip]
         ensures value { result.now ≡ runways_of self.now }

@@ -7,7 +7,7 @@ ghost use Rattle.airfield_findings.specs.Reaches.{IsInPlace};
 ghost use Rattle.airfield_findings.specs.Surfaces.{airfield_with};
 
 use crate::prepared_airport::PreparedAirport;
-use airfield_reach::heliport_plot;
+use airfield_plots::heliport_plot;
 use airfields::{Airfield, FieldId, Heliport};
 use grid_exact::NoMemory;
 use heliport_surfaces::Pad;
@@ -22,7 +22,7 @@ pub(crate) enum Surfaces {
 }
 
 impl Surfaces {
-    /// The surfaces of an airfield, and its plot.
+    /// Prepares the surfaces of an airfield, and its plot.
     pub(crate) fn of(alloc: Global, airfield: &Airfield) -> Result<(Surfaces, Plot), NoMemory>
         requires held { IsHeld airfield.now }
         ensures airfield { IfOk result (λ s. airfield_with s.0 ≡ airfield.now) }

@@ -2,3 +2,4 @@ pub mod Lengths
 pub mod WithinLimits
 pub mod NameText
 pub mod SameFiling
+pub mod SameStructures

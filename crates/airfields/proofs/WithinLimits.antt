@@ -10,7 +10,7 @@ use Rattle.std.proofs.lemmas.List.Sums.{AllPass-from_list_all}
 use Rattle.runway_classes.specs.declared.ApproachKind.{ApproachKind}
 use Rattle.runway_classes.specs.declared.ApproachKind.TheVariants.{Precision}
 use Rattle.grid_exact.specs.declared.point.Point.{Point}
-use Rattle.airfields.specs.Runways.{length_square, IsWithinLength, is_within_length, IsElevation, is_elevation, has_elevations, is_precision, is_precision_on_utility, IsProper, apart, IsNear, is_near, HasNearEnds, has_near_ends}
+use Rattle.airfields.specs.Runways.{length_square, IsWithinLength, is_within_length, IsElevation, is_elevation, has_elevations, is_precision, is_precision_on_utility, IsProper, distance_apart, IsNear, is_near, HasNearEnds, has_near_ends}
 use Rattle.airfields.specs.Airfields.{axis_square, is_axis, is_width, has_heliport_shape, IsHeldHeliport}
 use Rattle.airfields.specs.declared.airfield.Heliport.{Heliport}
 use Rattle.airfields.specs.declared.runway.Runway.{Runway}
@@ -58,8 +58,8 @@ proper_told r p e l =
 
 near_told : (arp at : Point) → is_near arp at ≡ true → IsNear arp at
 near_told arp at e =
-    let m : ℕ = apart at.x arp.x in
-    let n : ℕ = apart at.y arp.y in
+    let m : ℕ = distance_apart at.x arp.x in
+    let n : ℕ = distance_apart at.y arp.y in
     record { x = grind (arith, nat_tests); y = grind (arith, nat_tests) }
 
 pub near_ends_told : (arp : Point) (r : Runway) → has_near_ends arp r ≡ true → HasNearEnds arp r

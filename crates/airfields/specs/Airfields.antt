@@ -21,8 +21,8 @@ abbrev pub category_of : Airfield → Category
 category_of (AnAirport a) = a.category
 category_of (AHeliport h) = h.category
 
--- an airport as the register holds it: not too many runways, in rising order of name, each within its limits and near the
--- reference point
+-- an airport that may stand in the register: at most the allowed number of runways, in rising order of name, each within its limits and
+-- near the reference point
 pub record IsHeldAirport (a : Airport) : Type 0 where
   pub elevation : IsElevation a.elevation
   pub number : length a.runways ≤ MOST_RUNWAYS
@@ -34,8 +34,8 @@ pub record IsHeldAirport (a : Airport) : Type 0 where
 abbrev pub axis_square : Heliport → ℕ
 axis_square h = length_of (h.b.x -ℤ h.a.x) (h.b.y -ℤ h.a.y)
 
--- a heliport as the register holds it: the length of the axis of its takeoff and landing area is within its limits, and so is the
--- width of the area
+-- a heliport that may stand in the register: the length of the axis of its takeoff and landing area is within its limits, and so is
+-- the width of that area
 pub record IsHeldHeliport (h : Heliport) : Type 0 where
   pub elevation : IsElevation h.elevation
   pub axis_least : HELIPORT_AXIS_LEAST * HELIPORT_AXIS_LEAST ≤ axis_square h
@@ -43,7 +43,7 @@ pub record IsHeldHeliport (h : Heliport) : Type 0 where
   pub width_least : HELIPORT_WIDTH_LEAST ≤ℤ h.width
   pub width_most : h.width ≤ℤ HELIPORT_WIDTH_MOST
 
--- an airfield as the register holds it
+-- an airfield that may stand in the register
 abbrev pub IsHeld : Airfield → Type 0
 IsHeld (AnAirport a) = IsHeldAirport a
 IsHeld (AHeliport h) = IsHeldHeliport h

@@ -10,17 +10,17 @@ use Rattle.airfields.specs.declared.names.TheConstants.{NAME_LIMIT}
 abbrev pub IsLetterOrDigit : ℕ → Type 0
 IsLetterOrDigit b = ((65 ≤ b) × (b ≤ 90)) ⊎ ((48 ≤ b) × (b ≤ 57))
 
--- the code of a letter A to Z, of a digit, or of the stroke between the two numbers of a runway
+-- the code of a letter A to Z, of a digit, or of the slash between the two numbers of a runway
 abbrev pub IsRunwayByte : ℕ → Type 0
 IsRunwayByte b = IsLetterOrDigit b ⊎ (b ≡ 47)
 
--- the name of an airfield: one to so many letters and digits
+-- the name of an airfield: letters and digits, from one up to the limit
 pub record IsFieldId (name : List ℕ) : Type 0 where
   pub least : 1 ≤ length name
   pub most : length name ≤ NAME_LIMIT
   pub bytes : All IsLetterOrDigit name
 
--- the name of a runway: one to so many letters, digits and strokes
+-- the name of a runway: letters, digits and slashes, from one up to the limit
 pub record IsRunwayName (name : List ℕ) : Type 0 where
   pub least : 1 ≤ length name
   pub most : length name ≤ NAME_LIMIT

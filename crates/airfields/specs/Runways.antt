@@ -16,15 +16,15 @@ name_of r = r.name
 abbrev pub runway_at : List Runway → List ℕ → Option Runway
 runway_at runways name = found_by name_cmp name_of name runways
 
--- how far two coordinates are apart
-abbrev pub apart : ℤ → ℤ → ℕ
-apart a b = unsigned_abs (a -ℤ b)
+-- the distance between two coordinates
+abbrev pub distance_apart : ℤ → ℤ → ℕ
+distance_apart a b = unsigned_abs (a -ℤ b)
 
 -- the square of the length, from end to end
 abbrev pub length_square : Runway → ℕ
-length_square r = apart r.end1.at.x r.end2.at.x * apart r.end1.at.x r.end2.at.x + apart r.end1.at.y r.end2.at.y * apart r.end1.at.y r.end2.at.y
+length_square r = distance_apart r.end1.at.x r.end2.at.x * distance_apart r.end1.at.x r.end2.at.x + distance_apart r.end1.at.y r.end2.at.y * distance_apart r.end1.at.y r.end2.at.y
 
--- a runway of more than 3,200 feet
+-- a runway longer than 3,200 feet
 abbrev pub is_long : Runway → Bool
 is_long r = nat_lt (LONG_RUNWAY * LONG_RUNWAY) (length_square r)
 
@@ -38,8 +38,8 @@ pub record IsElevation (z : ℤ) : Type 0 where
   pub least : ELEVATION_LEAST ≤ℤ z
   pub most : z ≤ℤ ELEVATION_MOST
 
--- the limits that a runway keeps by itself: its length, the elevations of both ends, and that no end of a utility runway
--- is a precision one, for which 77.19 has no class
+-- the limits of a runway that do not depend on its airport: its length, the elevations of both ends, and that no end of a utility
+-- runway is a precision one, for which 77.19 has no class
 pub record IsProper (r : Runway) : Type 0 where
   pub within_length : IsWithinLength r
   pub elevation1 : IsElevation r.end1.z
@@ -49,15 +49,15 @@ pub record IsProper (r : Runway) : Type 0 where
 
 -- a point is near enough to the reference point in each coordinate
 pub record IsNear (arp at : Point) : Type 0 where
-  pub x : apart at.x arp.x ≤ RUNWAY_REACH
-  pub y : apart at.y arp.y ≤ RUNWAY_REACH
+  pub x : distance_apart at.x arp.x ≤ RUNWAY_REACH
+  pub y : distance_apart at.y arp.y ≤ RUNWAY_REACH
 
--- so are both ends of a runway
+-- both ends of a runway are near enough to the reference point
 pub record HasNearEnds (arp : Point) (r : Runway) : Type 0 where
   pub end1 : IsNear arp r.end1.at
   pub end2 : IsNear arp r.end2.at
 
--- ---- the same as tests that compute
+-- ---- the same predicates as tests that compute
 
 abbrev pub is_within_length : Runway → Bool
 is_within_length r = nat_le (RUNWAY_LEAST * RUNWAY_LEAST) (length_square r) && nat_le (length_square r) (RUNWAY_MOST * RUNWAY_MOST)
@@ -79,7 +79,7 @@ abbrev pub is_precision_on_utility : Runway → Bool
 is_precision_on_utility r = r.utility && (is_precision r.end1.kind || is_precision r.end2.kind)
 
 abbrev pub is_near : Point → Point → Bool
-is_near arp at = nat_le (apart at.x arp.x) RUNWAY_REACH && nat_le (apart at.y arp.y) RUNWAY_REACH
+is_near arp at = nat_le (distance_apart at.x arp.x) RUNWAY_REACH && nat_le (distance_apart at.y arp.y) RUNWAY_REACH
 
 abbrev pub has_near_ends : Point → Runway → Bool
 has_near_ends arp r = is_near arp r.end1.at && is_near arp r.end2.at

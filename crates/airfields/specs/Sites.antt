@@ -8,8 +8,8 @@ use Rattle.airfields.specs.declared.limits.TheConstants.{ELEVATION_LEAST, ELEVAT
 use Rattle.airfields.specs.declared.structure.TheConstants.{HEIGHT_LIMIT}
 use Rattle.airfields.specs.declared.filing.TheConstants.{MOBILE_LIMIT}
 
--- a structure: its place, the elevation of the terrain there, its height above it, its kind, the height of the highest
--- mobile object on it, and the name of the airfield that it is on
+-- a structure: its position, the elevation of the ground there, its height above ground, its kind, the height of the highest
+-- mobile object on it, its flags, and the name of the airfield that it is on
 pub record Site : Type 0 where
   pub at : Point
   pub terrain : ℤ
@@ -33,7 +33,7 @@ is_traverse_way Private = true
 is_traverse_way Rail = true
 is_traverse_way Water = true
 
--- the greatest height of a mobile object: it is given for private roads and waterways alone (77.9(c))
+-- the greatest height of a mobile object: only private roads and waterways have one (77.9(c))
 abbrev pub greatest_mobile : StructureKind → ℤ
 greatest_mobile Object = pos 0
 greatest_mobile Antenna = pos 0

@@ -10,7 +10,7 @@ use grid_exact::Point;
 pub struct Airport {
     /// Its name in the register.
     pub id: FieldId,
-    /// What it is under 77.9(d).
+    /// Its category under 77.9(d).
     pub category: Category,
     /// The airport reference point.
     pub arp: Point,
@@ -20,12 +20,12 @@ pub struct Airport {
     pub runways: Runways,
 }
 
-/// A heliport; a value that is copied.
+/// A heliport, which can be copied.
 #[derive(Clone, Copy, Debug, PartialEq, Eq)]
 pub struct Heliport {
     /// Its name in the register.
     pub id: FieldId,
-    /// What it is under 77.9(d).
+    /// Its category under 77.9(d).
     pub category: Category,
     /// One end of the axis of its takeoff and landing area.
     pub a: Point,

@@ -19,7 +19,7 @@ impl Airfield {
         }
     }
 
-    /// The category of the airfield, which says whether 77.9(d) describes it.
+    /// The category of the airfield, which decides whether 77.9(d) describes it.
     pub fn category(&self) -> Category
         ensures { result ≡ category_of self.now }
     {
@@ -30,7 +30,7 @@ impl Airfield {
     }
 }
 
-/// An airfield stands under its name.
+/// The key of an airfield is its name.
 impl Keyed for Airfield {
     type Key = FieldId;
 

@@ -2,7 +2,7 @@
 
 ghost use Rattle.std.specs.Prelude.{◌≡◌};
 
-/// What an airfield is, under 77.9(d).
+/// The category of an airfield under 77.9(d).
 #[derive(Clone, Copy, Debug, PartialEq, Eq)]
 pub enum Category {
     /// A public use airport that is listed in a directory of the FAA.
@@ -24,14 +24,14 @@ pub enum Category {
 impl Category {
     ghost use Rattle.airfields.specs.Categories.{is_described, has_civil_surfaces, is_military};
 
-    /// Whether 77.9(d) describes the airfield.
+    /// Whether 77.9(d) describes the airfield: all categories but `OtherPrivate`.
     pub fn described(&self) -> bool
         ensures { result ≡ is_described self.now }
     {
         !matches!(self, Category::OtherPrivate)
     }
 
-    /// Whether the airfield's runways have the civil surfaces of 77.19.
+    /// Whether the airfield's runways have the civil surfaces of 77.19: the described categories without the military ones.
     pub fn civil_surfaces(&self) -> bool
         ensures { result ≡ has_civil_surfaces self.now }
     {
@@ -46,7 +46,7 @@ impl Category {
         }
     }
 
-    /// Whether the airfield is military.
+    /// Whether the airfield is military, in operation or under construction.
     pub fn military(&self) -> bool
         ensures { result ≡ is_military self.now }
     {

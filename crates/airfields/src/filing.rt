@@ -1,4 +1,4 @@
-//! A filing within its limits.
+//! A structure within the limits of a filing.
 
 ghost use Rattle.std.specs.Prelude.{◌≡◌, MatchResult};
 ghost use Rattle.airfields.specs.Sites.{IsSite, site, greatest_mobile};
@@ -8,7 +8,7 @@ use crate::names::FieldId;
 use crate::structure::{Filing, Flags, HEIGHT_LIMIT, StructureKind};
 use grid_exact::Point;
 
-/// The greatest height of a mobile object, in tenths of a foot.
+/// The greatest height of a mobile object, in tenths of a foot (77.9(c)).
 pub const MOBILE_LIMIT: i64 = 1_000;
 
 /// An elevation or height is outside its limit, or a mobile object's height is given for a kind that has none.
@@ -29,12 +29,12 @@ impl StructureKind {
 }
 
 impl Filing {
-    /// The filing of a structure at `at`, where the ground is `terrain` high, of this height above ground, with a mobile object of
-    /// height `mobile` on it, on the airfield `on`.
+    /// The filing of a structure at `at`, where the elevation of the ground is `terrain`, with the height `height` above ground and a
+    /// mobile object of height `mobile` on it, on the airfield `on`. Heights are in tenths of a foot.
     ///
     /// # Errors
     ///
-    /// `FilingRange` exactly where `terrain` or `height` is outside its limits, or `mobile` is not from 0 to the most of the kind.
+    /// `FilingRange` exactly where `terrain` or `height` is outside its limits, or `mobile` is not from 0 to the greatest of the kind.
     pub fn new(
         at: Point,
         terrain: i64,
@@ -67,7 +67,7 @@ impl Filing {
         })
     }
 
-    /// Shows to a proof that the filing is within its limits.
+    /// For proofs: the filing is within its limits.
     pub fn limits(&self)
         ensures { IsSite self.now }
     {

@@ -1,7 +1,7 @@
 //! The limits of one runway, and of one heliport.
 
 ghost use Rattle.std.specs.Prelude.{◌≡◌, ◌≤◌, ◌↔◌, IsTrue};
-ghost use Rattle.airfields.specs.Runways.{apart, length_square, is_within_length, is_elevation, has_elevations, IsProper};
+ghost use Rattle.airfields.specs.Runways.{distance_apart, length_square, is_within_length, is_elevation, has_elevations, IsProper};
 ghost use Rattle.airfields.specs.Runways.{is_precision, is_precision_on_utility, is_near, has_near_ends, HasNearEnds};
 ghost use Rattle.airfields.specs.Airfields.{axis_square, is_axis, is_width, has_heliport_shape, IsHeldAirport, IsHeldHeliport};
 
@@ -11,10 +11,10 @@ use crate::runways::MOST_RUNWAYS;
 use grid_exact::{COORDINATE_LIMIT, Point, Vector};
 use runway_classes::ApproachKind;
 
-/// The least elevation that is allowed, in tenths of a foot.
+/// The least allowed elevation, in tenths of a foot.
 pub const ELEVATION_LEAST: i64 = -20_000;
 
-/// The greatest elevation that is allowed, in tenths of a foot.
+/// The greatest allowed elevation, in tenths of a foot.
 pub const ELEVATION_MOST: i64 = 200_000;
 
 /// The least length of a runway, from end to end, in tenths of a foot.
@@ -23,7 +23,7 @@ pub const RUNWAY_LEAST: u64 = 1_000;
 /// The greatest length of a runway, from end to end, in tenths of a foot.
 pub const RUNWAY_MOST: u64 = 200_000;
 
-/// An end of a runway is at most so far from the airport's reference point, in each coordinate, in tenths of a foot.
+/// Greatest distance of a runway end from the airport's reference point in each coordinate, in tenths of a foot.
 pub const RUNWAY_REACH: u64 = 400_000;
 
 /// The least length of the axis of a heliport's takeoff and landing area, in tenths of a foot.
@@ -38,20 +38,20 @@ pub const HELIPORT_WIDTH_LEAST: i64 = 100;
 /// The greatest width of a heliport's takeoff and landing area, in tenths of a foot.
 pub const HELIPORT_WIDTH_MOST: i64 = 5_000;
 
-/// No two points of the grid are farther apart in one coordinate.
+/// Greatest distance of two points of the grid in one coordinate, in tenths of a foot.
 const GRID_SPAN: u64 = 2 * COORDINATE_LIMIT as u64;
 
-/// How far east or west two points of the grid are apart.
+/// The distance of two points from east to west, in tenths of a foot.
 fn east_span(a: &Point, b: &Point) -> u64
-    ensures value { result ≡ apart a.now.x b.now.x }
+    ensures value { result ≡ distance_apart a.now.x b.now.x }
     ensures most { result ≤ GRID_SPAN }
 {
     a.x.abs_diff(b.x)
 }
 
-/// How far north or south two points of the grid are apart.
+/// The distance of two points from north to south, in tenths of a foot.
 fn north_span(a: &Point, b: &Point) -> u64
-    ensures value { result ≡ apart a.now.y b.now.y }
+    ensures value { result ≡ distance_apart a.now.y b.now.y }
     ensures most { result ≤ GRID_SPAN }
 {
     a.y.abs_diff(b.y)
@@ -72,7 +72,7 @@ impl RunwayEnd {
         matches!(self.kind, ApproachKind::Precision)
     }
 
-    /// Whether it is near enough to the reference point in each coordinate.
+    /// Whether the end is near enough to the reference point in each coordinate.
     fn is_near(&self, arp: &Point) -> bool
         ensures { result ≡ is_near arp.now self.now.at }
     {
@@ -91,7 +91,7 @@ impl Runway {
         east * east + north * north
     }
 
-    /// Whether the runway's length is within its limits, by its exact square.
+    /// Whether the runway's length is within its limits; the exact square is compared.
     pub fn is_within_length(&self) -> bool
         ensures { result ≡ is_within_length self.now }
     {
@@ -113,7 +113,7 @@ impl Runway {
         self.utility && (self.end1.is_precision() || self.end2.is_precision())
     }
 
-    /// Whether it keeps all limits that a runway keeps by itself.
+    /// Whether the runway is within all limits that do not depend on its airport.
     pub fn is_proper(&self) -> bool
         ensures { IsTrue result ↔ IsProper self.now }
     {
@@ -144,7 +144,7 @@ impl Heliport {
         Vector::between(&self.a, &self.b).square_length()
     }
 
-    /// Whether the length of the axis is within its limits, by its exact square.
+    /// Whether the length of the axis is within its limits; the exact square is compared.
     fn has_allowed_axis(&self) -> bool
         ensures { result ≡ is_axis self.now }
     {
@@ -160,7 +160,7 @@ impl Heliport {
         self.has_allowed_axis() && is_allowed_width(&self.width)
     }
 
-    /// Whether it is as the register holds a heliport: its elevation and its shape are within their limits.
+    /// Whether the heliport may stand in the register: its elevation and its shape are within their limits.
     pub fn is_held(&self) -> bool
         ensures { IsTrue result ↔ IsHeldHeliport self.now }
     {
@@ -169,8 +169,8 @@ impl Heliport {
 }
 
 impl Airport {
-    /// Whether it is as the register holds an airport: each runway within its limits and near the reference point, not too many of
-    /// them, and the elevation within its limits.
+    /// Whether the airport may stand in the register: at most `MOST_RUNWAYS` runways, each within its limits and near the reference point,
+    /// and the elevation within its limits.
     pub fn is_held(&self) -> bool
         ensures { IsTrue result ↔ IsHeldAirport self.now }
     {

@@ -7,10 +7,10 @@ use short_text::ShortText;
 use std::cmp::Ordering;
 use std::marker::Model;
 
-/// How many bytes a name may have.
+/// Most bytes in a name.
 pub const NAME_LIMIT: usize = 8;
 
-/// The text is no name.
+/// The text is not a name.
 #[derive(Clone, Copy, Debug, PartialEq, Eq)]
 pub struct BadName;
 
@@ -33,7 +33,7 @@ impl Model for FieldId {
     ghost inverse = { λ v. record { text = v } };
 }
 
-/// The name of a runway: 1 to 8 letters A to Z, digits and strokes, as `09/27`.
+/// The name of a runway: 1 to 8 letters A to Z, digits and slashes, as `09/27`.
 #[derive(Clone, Copy, Debug, PartialEq, Eq, PartialOrd, Ord)]
 pub struct RunwayName {
     text: ShortText<NAME_LIMIT>,
@@ -52,14 +52,14 @@ impl Model for RunwayName {
     ghost inverse = { λ v. record { text = v } };
 }
 
-/// Whether it is the code of a letter A to Z or of a digit.
+/// Whether the byte is a letter A to Z or a digit.
 fn is_letter_or_digit(byte: u8) -> bool
     ensures { IsTrue result ↔ IsLetterOrDigit byte }
 {
     byte.is_ascii_uppercase() || byte.is_ascii_digit()
 }
 
-/// Whether it is the code of a letter A to Z, of a digit or of the stroke.
+/// Whether the byte is a letter A to Z, a digit or a slash.
 fn is_runway_byte(byte: u8) -> bool
     ensures { IsTrue result ↔ IsRunwayByte byte }
 {
@@ -116,7 +116,7 @@ impl RunwayName {
     ///
     /// # Errors
     ///
-    /// `BadName` exactly where `text` is not 1 to 8 letters A to Z, digits and strokes.
+    /// `BadName` exactly where `text` is not 1 to 8 letters A to Z, digits and slashes.
     pub fn new(text: &[u8]) -> Result<RunwayName, BadName>
         ensures exact { MatchResult result (λ n. n ≡ text.now) (λ _. ¬ IsRunwayName text.now) }
     {

@@ -8,30 +8,30 @@ use runway_classes::ApproachKind;
 /// An end of a runway.
 #[derive(Clone, Copy, Debug, PartialEq, Eq)]
 pub struct RunwayEnd {
-    /// Where the end of the runway, or of the stopway or clearway, lies.
+    /// The position of the end of the runway, or of the stopway or clearway.
     pub at: Point,
     /// Its elevation, in tenths of a foot.
     pub z: i64,
-    /// The approaches that it has or is planned for.
+    /// The kind of approach that the end has or is planned for.
     pub kind: ApproachKind,
 }
 
 /// A runway of an airport.
 #[derive(Clone, Copy, Debug, PartialEq, Eq)]
 pub struct Runway {
-    /// Its name, under which the runways of an airport are kept in order.
+    /// Its name, by which the runways of an airport are ordered.
     pub name: RunwayName,
-    /// Whether it is for propeller driven aircraft of 12,500 pounds and less alone (77.3).
+    /// Whether it is only for propeller driven aircraft of 12,500 pounds and less (77.3).
     pub utility: bool,
     /// Whether it has a prepared hard surface (77.19(c)).
     pub hard: bool,
-    /// The end that its notice gives first.
+    /// The first end in the runway's notice.
     pub end1: RunwayEnd,
     /// The other end.
     pub end2: RunwayEnd,
 }
 
-/// A runway stands under its name.
+/// The key of a runway is its name.
 impl Keyed for Runway {
     ghost use Rattle.airfields.specs.Runways.{name_of};
 

@@ -13,13 +13,13 @@ use ordered_list::OrderedList;
 use std::alloc::Global;
 use std::marker::Model;
 
-/// How many runways an airport may have.
+/// Most runways of an airport.
 pub const MOST_RUNWAYS: usize = 16;
 
-/// An airport has a long runway where one of them is longer than this, 3,200 feet: 77.9(b) and 77.17(a)(2).
+/// Length in tenths of a foot above which a runway is long: 3,200 feet (77.9(b), 77.17(a)(2)).
 pub const LONG_RUNWAY: u64 = 32_000;
 
-/// The runways of one airport, seen as their list in rising order of name.
+/// The runways of one airport, which contracts see as their list in rising order of name.
 #[derive(Drop)]
 pub struct Runways {
     items: OrderedList<Runway>,
@@ -35,7 +35,7 @@ impl Model for Runways {
 }
 
 impl Runway {
-    /// Whether it is longer than 3,200 feet.
+    /// Whether the runway is longer than 3,200 feet.
     fn is_long(&self) -> bool
         ensures { result ≡ is_long self.now }
     {
@@ -44,7 +44,7 @@ impl Runway {
 }
 
 impl Runways {
-    /// No runways. It takes no memory.
+    /// No runways; it takes no memory.
     pub fn empty(alloc: Global) -> Runways
         ensures { result ≡ [] }
     {
@@ -53,7 +53,7 @@ impl Runways {
         }
     }
 
-    /// How many runways there are.
+    /// The number of runways.
     pub fn len(&self) -> usize
         ensures { result ≡ length self.now }
     {
@@ -93,7 +93,7 @@ impl Runways {
             .all(|runway| runway.has_near_ends(arp))
     }
 
-    /// Whether each keeps all limits that a runway keeps by itself.
+    /// Whether each runway is within all limits that do not depend on its airport.
     pub fn are_proper(&self) -> bool
         ensures { IsTrue result ↔ All IsProper self.now }
     {
@@ -103,7 +103,7 @@ impl Runways {
             .all(|runway| runway.is_proper())
     }
 
-    /// Whether one of them is longer than 3,200 feet, which 77.9(b) and 77.17(a)(2) ask for.
+    /// Whether a runway is longer than 3,200 feet, which 77.9(b) and 77.17(a)(2) distinguish.
     pub fn has_long(&self) -> bool
         ensures { result ≡ list_any is_long self.now }
     {
@@ -123,7 +123,7 @@ impl Runways {
         })
     }
 
-    /// A copy with the runway in its place, instead of the one of its name.
+    /// A copy with the runway put in its place, instead of the one with its name.
     ///
     /// # Errors
     ///

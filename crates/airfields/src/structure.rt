@@ -7,7 +7,7 @@ use std::marker::Model;
 /// The greatest height of a structure above the ground, in tenths of a foot.
 pub const HEIGHT_LIMIT: i64 = 100_000;
 
-/// What is to be built or altered.
+/// The kind of structure to be built or altered.
 #[derive(Clone, Copy, Debug, PartialEq, Eq)]
 pub enum StructureKind {
     /// A structure that is none of the others.
@@ -30,7 +30,7 @@ impl StructureKind {
     ghost use Rattle.std.specs.Prelude.{◌≡◌};
     ghost use Rattle.airfields.specs.Sites.{is_traverse_way};
 
-    /// Whether it is a traverse way, which 77.9(c) raises by the height of what moves on it.
+    /// Whether it is a traverse way, whose height includes the vehicles or other mobile objects on it (77.9(c)).
     pub fn is_traverse_way(&self) -> bool
         ensures { result ≡ is_traverse_way self.now }
     {
@@ -46,7 +46,7 @@ impl StructureKind {
     }
 }
 
-/// What a notice says besides place and height.
+/// The flags of a notice.
 #[derive(Clone, Copy, Debug, PartialEq, Eq)]
 pub struct Flags {
     /// Shielded by existing structures or natural terrain (77.9(e)(1)).
@@ -63,22 +63,23 @@ pub struct Flags {
     pub temporary: bool,
 }
 
-/// The structure of one notice, within the limits of a filing; a value that is copied.
+/// The structure of one notice, within the limits of a filing; it can be copied.
 #[derive(Clone, Copy, Debug, PartialEq, Eq)]
 pub struct Filing {
-    /// Where it stands.
+    /// The position of the structure.
     pub at: Point,
-    /// The elevation of the ground there, in tenths of a foot, within the limits of elevations.
+    /// The elevation of the ground at the structure, in tenths of a foot, within the limits of elevations.
     pub ground: i64,
     /// The height above ground, in tenths of a foot: 0 to `HEIGHT_LIMIT`.
     pub height: i64,
-    /// What is to be built or altered.
+    /// The kind of structure to be built or altered.
     pub kind: StructureKind,
-    /// The height of the highest mobile object, in tenths of a foot: 0 to `MOBILE_LIMIT`, and 0 but for a private road or a waterway (77.9(c)).
+    /// The height of the highest mobile object, in tenths of a foot: 0 to `MOBILE_LIMIT`, and 0 except for a private road or a waterway
+    /// (77.9(c)).
     pub mobile: i64,
-    /// What the notice says besides.
+    /// The flags of the notice.
     pub flags: Flags,
-    /// The airfield that it is on.
+    /// The airfield that the structure is on, if any.
     pub on: Option<FieldId>,
 }
 

@@ -1,4 +1,4 @@
--- What an amendment does to the airfields of a register, and when it is refused.
+-- The effect of an amendment on the airfields of a register, and its refusals.
 use Rattle.std.specs.Prelude.{ℕ, ℤ, List, [], ◌∷◌, length, Option, Some, None, is_none, Bool, true, false, not, ◌&&◌, cond, nat_le}
 use Rattle.std.specs.List.{list_all}
 use Rattle.ordered_list.specs.Ordered.{found_by, put_by, removed_by}
@@ -23,7 +23,7 @@ use Rattle.airport_register.specs.declared.amendment.AmendRefusal.TheVariants.{P
 abbrev pub airfield_at : List Airfield → List ℕ → Option Airfield
 airfield_at airfields id = found_by name_cmp id_of id airfields
 
--- the name of the airfield that the amendment is about
+-- the name of the airfield that the amendment changes
 abbrev pub amended_id : Amendment → List ℕ
 amended_id (PutAirport id category arp elevation) = id
 amended_id (PutRunway id runway) = id
@@ -41,7 +41,7 @@ is_airport None = false
 is_airport (Some (AnAirport a)) = true
 is_airport (Some (AHeliport h)) = false
 
--- the runways of an airport; there are none where there is no airport
+-- the runways of an airport; empty where there is no airport
 abbrev pub runways_in : Option Airfield → List Runway
 runways_in None = []
 runways_in (Some (AnAirport a)) = a.runways
@@ -53,66 +53,66 @@ is_far_from None runway = false
 is_far_from (Some (AnAirport a)) runway = not (has_near_ends a.arp runway)
 is_far_from (Some (AHeliport h)) runway = false
 
--- ---- when an amendment is refused
+-- ---- refusals
 
--- a rule: whether it is broken, and the refusal that comes then
+-- a rule: whether it is broken, and its refusal
 pub record Rule : Type 0 where
   pub is_broken : Bool
   pub refusal : AmendRefusal
 
-abbrev pub when : Bool → AmendRefusal → Rule
-when b refusal = record { is_broken = b; refusal = refusal }
+abbrev pub rule_if : Bool → AmendRefusal → Rule
+rule_if b refusal = record { is_broken = b; refusal = refusal }
 
--- the refusal of the first rule that is broken
+-- the refusal of the first broken rule
 abbrev pub first_of : List Rule → Option AmendRefusal
 first_of [] = None
 first_of (rule ∷ rules) = cond rule.is_broken (Some rule.refusal) (first_of rules)
 
--- the name is new, and the register has as many airfields as it may have
+-- the name is new, and the register has the greatest number of airfields
 abbrev pub is_register_full : List Airfield → Option Airfield → Bool
 is_register_full airfields field = is_none field && nat_le MOST_AIRFIELDS (length airfields)
 
--- the rules for an airport of a name, where field is the airfield of this name that is there
+-- the rules for putting an airport, where field is the registered airfield of its name
 abbrev pub airport_rules : List Airfield → Option Airfield → Point → ℤ → List Rule
 airport_rules airfields field arp elevation =
-    when (is_heliport field) WrongKind
-    ∷ when (not (is_elevation elevation)) ElevationRange
-    ∷ when (not (list_all (has_near_ends arp) (runways_in field))) RunwayFar
-    ∷ when (is_register_full airfields field) RegisterFull
+    rule_if (is_heliport field) WrongKind
+    ∷ rule_if (not (is_elevation elevation)) ElevationRange
+    ∷ rule_if (not (list_all (has_near_ends arp) (runways_in field))) RunwayFar
+    ∷ rule_if (is_register_full airfields field) RegisterFull
     ∷ []
 
--- the rules for a runway that this airfield is to have
+-- the rules for putting a runway on this airfield
 abbrev pub runway_rules : Option Airfield → Runway → List Rule
 runway_rules field runway =
-    when (is_none field) UnknownAirfield
-    ∷ when (is_heliport field) WrongKind
-    ∷ when (is_precision_on_utility runway) PrecisionOnUtility
-    ∷ when (not (has_elevations runway)) ElevationRange
-    ∷ when (not (is_within_length runway)) RunwayLength
-    ∷ when (is_far_from field runway) RunwayFar
-    ∷ when (is_none (runway_at (runways_in field) runway.name) && nat_le MOST_RUNWAYS (length (runways_in field))) TooManyRunways
+    rule_if (is_none field) UnknownAirfield
+    ∷ rule_if (is_heliport field) WrongKind
+    ∷ rule_if (is_precision_on_utility runway) PrecisionOnUtility
+    ∷ rule_if (not (has_elevations runway)) ElevationRange
+    ∷ rule_if (not (is_within_length runway)) RunwayLength
+    ∷ rule_if (is_far_from field runway) RunwayFar
+    ∷ rule_if (is_none (runway_at (runways_in field) runway.name) && nat_le MOST_RUNWAYS (length (runways_in field))) TooManyRunways
     ∷ []
 
--- the rules where this airfield is to lose its runway of this name
+-- the rules for removing this airfield's runway of this name
 abbrev pub drop_runway_rules : Option Airfield → List ℕ → List Rule
 drop_runway_rules field name =
-    when (is_none field) UnknownAirfield
-    ∷ when (is_heliport field) WrongKind
-    ∷ when (is_none (runway_at (runways_in field) name)) UnknownRunway
+    rule_if (is_none field) UnknownAirfield
+    ∷ rule_if (is_heliport field) WrongKind
+    ∷ rule_if (is_none (runway_at (runways_in field) name)) UnknownRunway
     ∷ []
 
--- the rules for a heliport, where field is the airfield of its name that is there
+-- the rules for putting a heliport, where field is the registered airfield of its name
 abbrev pub heliport_rules : List Airfield → Option Airfield → Heliport → List Rule
 heliport_rules airfields field heliport =
-    when (is_airport field) WrongKind
-    ∷ when (not (is_elevation heliport.elevation)) ElevationRange
-    ∷ when (not (has_heliport_shape heliport)) HeliportShape
-    ∷ when (is_register_full airfields field) RegisterFull
+    rule_if (is_airport field) WrongKind
+    ∷ rule_if (not (is_elevation heliport.elevation)) ElevationRange
+    ∷ rule_if (not (has_heliport_shape heliport)) HeliportShape
+    ∷ rule_if (is_register_full airfields field) RegisterFull
     ∷ []
 
--- the rules where this airfield is to be taken out
+-- the rules for removing this airfield
 abbrev pub drop_rules : Option Airfield → List Rule
-drop_rules field = when (is_none field) UnknownAirfield ∷ []
+drop_rules field = rule_if (is_none field) UnknownAirfield ∷ []
 
 -- the rules for the amendment, in the order in which they are tested
 abbrev pub rules_of : List Airfield → Amendment → List Rule
@@ -126,10 +126,10 @@ rules_of airfields (Drop id) = drop_rules (airfield_at airfields id)
 abbrev pub first_broken : List Airfield → Amendment → Option AmendRefusal
 first_broken airfields a = first_of (rules_of airfields a)
 
--- ---- what an amendment does
+-- ---- effects
 
--- the airport of this name with this category, reference point and elevation: a new one has no runways, and one that is
--- there keeps its runways
+-- the airport with this name, category, reference point and elevation: a new one has no runways, and an existing one keeps its
+-- runways
 abbrev pub put_airport : List Airfield → List ℕ → Category → Point → ℤ → Airport
 put_airport airfields id category arp elevation =
     record { id = id; category = category; arp = arp; elevation = elevation; runways = runways_in (airfield_at airfields id) }
@@ -138,7 +138,7 @@ put_airport airfields id category arp elevation =
 abbrev pub with_runways : List Runway → Airport → Airport
 with_runways runways a = record { id = a.id; category = a.category; arp = a.arp; elevation = a.elevation; runways = runways }
 
--- the airport with the runway, instead of the one of its name
+-- the airport with the runway, instead of the one with its name
 abbrev pub with_runway : Runway → Airport → Airport
 with_runway runway a = with_runways (put_by name_cmp name_of runway a.runways) a
 
@@ -157,9 +157,9 @@ drop_runway airfields (Some (AnAirport a)) name = put_by name_cmp id_of (AnAirpo
 drop_runway airfields (Some (AHeliport h)) name = airfields
 
 -- the airfields with this one in its place, or without the one of this name
-abbrev pub replaced : List ℕ → Option Airfield → List Airfield → List Airfield
-replaced id None airfields = removed_by name_cmp id_of id airfields
-replaced id (Some field) airfields = put_by name_cmp id_of field airfields
+abbrev pub list_with_replaced : List ℕ → Option Airfield → List Airfield → List Airfield
+list_with_replaced id None airfields = removed_by name_cmp id_of id airfields
+list_with_replaced id (Some field) airfields = put_by name_cmp id_of field airfields
 
 -- the airfields after an amendment that breaks no rule
 abbrev pub after_amendment : List Airfield → Amendment → List Airfield

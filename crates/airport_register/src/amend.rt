@@ -1,9 +1,9 @@
-//! Amendments of the register: the airfield that each amendment puts, and the airfield that it takes out.
+//! Amendments of the register: the airfield that each amendment adds, changes or removes.
 
 ghost use Rattle.std.specs.Prelude.{◌≡◌, ◌≢◌, IfOk, IfErr, OnErr, None, Some, IfSome, option_copied, option_map};
 ghost use Rattle.std.specs.Arc.{arc_value};
 ghost use Rattle.airfields.specs.Airfields.{id_of, IsHeld};
-ghost use Rattle.airport_register.specs.Amendments.{airfield_at, amended_id, first_broken, after_amendment, replaced};
+ghost use Rattle.airport_register.specs.Amendments.{airfield_at, amended_id, first_broken, after_amendment, list_with_replaced};
 ghost use Rattle.airport_register.specs.Amendments.{runways_in, with_runways as with_runways_of};
 ghost use Rattle.airport_register.specs.Changes.{IsChange};
 ghost use Rattle.airfields.specs.declared.airfield.Airfield.TheVariants.{Airport as AnAirport};
@@ -25,7 +25,7 @@ impl From<NoMemory> for AmendRefusal {
     }
 }
 
-/// A copy of the runways of an airport; none where there is no airport.
+/// A copy of the runways of an airport; empty where there is no airport.
 fn runways_of(alloc: Global, field: Option<&Airfield>) -> Result<Runways, NoMemory>
     ensures { IfOk result (λ r. r ≡ runways_in (option_copied field.entry)) }
 {
@@ -49,10 +49,11 @@ fn with_runways(airport: &Airport, runways: Runways) -> Airfield
 }
 
 impl Register {
-    /// The airfield that the amendment leaves under its name; none where it takes it out. The amendment breaks no rule.
+    /// The airfield under the amendment's name afterwards; `None` where it is removed. The amendment must break no rule.
     fn amended(&self, alloc: Global, a: &Amendment) -> Result<Option<Airfield>, NoMemory>
         requires { first_broken self.now a.now ≡ None }
-        ensures after { IfOk result (λ o. after_amendment self.now a.now ≡ replaced (amended_id a.now) o self.now) }
+        ensures after { IfOk result (λ o. after_amendment self.now a.now
+            ≡ list_with_replaced (amended_id a.now) o self.now) }
         ensures held { IfOk result (λ o. IfSome o (λ f. IsHeld f)) }
         ensures named { IfOk result (λ o. IfSome o (λ f. id_of f ≡ amended_id a.now)) }
     {
@@ -96,14 +97,16 @@ impl Register {
     ///
     /// # Errors
     ///
-    /// The first rule that the amendment breaks, in the order of the rules, or `NoMemory` where memory was refused. The register
-    /// then stays as it was.
+    /// The refusal of the first rule that the amendment breaks, in the order of the rules, or `NoMemory` where memory was refused. The
+    /// register is then unchanged.
     pub fn amend(&mut self, alloc: Global, a: &Amendment) -> Result<Changed, AmendRefusal>
         ensures allowed { IfOk result (λ _. first_broken self.old a.now ≡ None) }
         ensures after { IfOk result (λ _. self.new ≡ after_amendment self.old a.now) }
         ensures change { IfOk result (λ c. IsChange self.old self.new (amended_id a.now) c) }
-        ensures put { IfOk result (λ c. self.new ≡ replaced (amended_id a.now) (option_map arc_value c.after) self.old) }
-        ensures refused { IfErr result (λ e. e ≢ AmendRefusal.NoMemory → first_broken self.old a.now ≡ Some e) }
+        ensures put { IfOk result (λ c. self.new
+            ≡ list_with_replaced (amended_id a.now) (option_map arc_value c.after) self.old) }
+        ensures refused { IfErr result (λ e. e ≢ AmendRefusal.NoMemory →
+            first_broken self.old a.now ≡ Some e) }
         ensures same { OnErr result (self.new ≡ self.old) }
     {
         if let Some(refusal) = self.refusal(a) {

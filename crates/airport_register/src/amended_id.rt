@@ -1,4 +1,4 @@
-//! The name of the airfield that an amendment is about.
+//! The name of the airfield that an amendment changes.
 
 ghost use Rattle.std.specs.Prelude.{◌≡◌};
 ghost use Rattle.airport_register.specs.Amendments.{amended_id};
@@ -7,7 +7,7 @@ use crate::amendment::Amendment;
 use airfields::FieldId;
 
 impl Amendment {
-    /// The name of the airfield that the amendment is about.
+    /// The name of the airfield that the amendment changes.
     pub(crate) fn id(&self) -> &FieldId
         ensures { result.now ≡ amended_id self.now }
     {

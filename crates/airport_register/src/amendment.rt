@@ -1,4 +1,4 @@
-//! Amendments of the register, and what they change.
+//! Amendments of the register, and their results.
 
 use airfields::{Airfield, Category, FieldId, Heliport, Runway, RunwayName};
 use grid_exact::Point;
@@ -7,26 +7,26 @@ use std::sync::Arc;
 /// A change to the register.
 #[derive(Clone, Copy, Debug, PartialEq, Eq)]
 pub enum Amendment {
-    /// An airport without runways is added; one that is there gets this category, reference point and elevation, and keeps its runways.
+    /// Adds an airport without runways, or gives an existing one this category, reference point and elevation; it keeps its runways.
     PutAirport {
         id: FieldId,
         category: Category,
         arp: Point,
         elevation: i64,
     },
-    /// The airport gets the runway, instead of the one of its name.
+    /// Puts the runway on the airport, instead of the one with its name.
     PutRunway {
         id: FieldId,
         runway: Runway,
     },
-    /// The airport loses the runway of this name.
+    /// Removes the airport's runway of this name.
     DropRunway {
         id: FieldId,
         name: RunwayName,
     },
-    /// The heliport is added, or takes the place of the heliport of its name.
+    /// Adds the heliport, or replaces the heliport with its name.
     PutHeliport(Heliport),
-    /// The airfield is taken out.
+    /// Removes the airfield.
     Drop(FieldId),
 }
 
@@ -41,15 +41,15 @@ pub enum AmendRefusal {
     UnknownRunway,
     /// The runway's length is outside its limits.
     RunwayLength,
-    /// An end of the runway, or of one that is kept, is too far from the reference point in a coordinate.
+    /// An end of the runway, or of an existing runway of the airport, is too far from the reference point in a coordinate.
     RunwayFar,
-    /// The runway's name is new, and the airport has as many runways as it may have.
+    /// The runway's name is new, and the airport has `MOST_RUNWAYS` runways.
     TooManyRunways,
-    /// The airfield's name is new, and the register has as many airfields as it may have.
+    /// The airfield's name is new, and the register has `MOST_AIRFIELDS` airfields.
     RegisterFull,
     /// An elevation is outside its limits.
     ElevationRange,
-    /// The axis or the width of a heliport is outside its limit.
+    /// The axis or the width of a heliport is outside its limits.
     HeliportShape,
     /// The name is that of an airfield of the other kind.
     WrongKind,
@@ -57,13 +57,13 @@ pub enum AmendRefusal {
     NoMemory,
 }
 
-/// What an amendment changed: the airfield of this name, as it was before and as it is now.
+/// The result of an amendment: the airfield with this name, before and after.
 #[derive(Drop)]
 pub struct Changed {
-    /// The name that the amendment is about.
+    /// The name of the changed airfield.
     pub id: FieldId,
-    /// The airfield of this name before; `None` where there was none.
+    /// The airfield before the amendment; `None` where there was none.
     pub before: Option<Arc<Airfield>>,
-    /// The airfield of this name as it is now; `None` where it was taken out.
+    /// The airfield after the amendment; `None` where it was removed.
     pub after: Option<Arc<Airfield>>,
 }

@@ -1,6 +1,6 @@
 //! The register of airfields, and its amendments.
 //!
-//! Lengths, coordinates and elevations are whole tenths of a foot. The types of airfields and structures stand in `airfields`.
+//! Lengths, coordinates and elevations are whole tenths of a foot. The types of airfields and structures are in `airfields`.
 #![tactic(auto)]
 
 mod amend;
@@ -15,5 +15,5 @@ pub use airfields::{
     RunwayEnd, RunwayName, Runways, StructureKind,
 };
 pub use amendment::{AmendRefusal, Amendment, Changed};
-pub use laws::other_airfields_stay;
+pub use laws::{other_airfields_stay, same_amendment};
 pub use register::{MOST_AIRFIELDS, Register};

@@ -28,7 +28,7 @@ fn is_airport(field: Option<&Airfield>) -> bool
     matches!(field, Some(Airfield::Airport(_)))
 }
 
-/// Whether all runways of an airport are near enough to a reference point.
+/// Whether all runways of an airport are near enough to a new reference point.
 fn has_near_runways(field: Option<&Airfield>, arp: &Point) -> bool
     ensures { result ≡ list_all (has_near_ends arp.now) (runways_in (option_copied field.entry)) }
 {
@@ -38,7 +38,7 @@ fn has_near_runways(field: Option<&Airfield>, arp: &Point) -> bool
     }
 }
 
-/// The first rule that a runway breaks which the airport is to have.
+/// The first rule broken by putting the runway on the airport.
 fn airport_runway_refusal(airport: &Airport, runway: &Runway) -> Option<AmendRefusal>
     ensures { result ≡ first_of (runway_rules (Some (AnAirport airport.now)) runway.now) }
 {
@@ -60,7 +60,7 @@ fn airport_runway_refusal(airport: &Airport, runway: &Runway) -> Option<AmendRef
     None
 }
 
-/// The first rule that a runway breaks which the airfield is to have.
+/// The first rule broken by putting the runway on the airfield.
 fn runway_refusal(field: Option<&Airfield>, runway: &Runway) -> Option<AmendRefusal>
     ensures { result ≡ first_of (runway_rules (option_copied field.entry) runway.now) }
 {
@@ -71,7 +71,7 @@ fn runway_refusal(field: Option<&Airfield>, runway: &Runway) -> Option<AmendRefu
     }
 }
 
-/// The first rule that is broken where the airfield is to lose its runway of this name.
+/// The first rule broken by removing the airfield's runway of this name.
 fn drop_runway_refusal(field: Option<&Airfield>, name: &RunwayName) -> Option<AmendRefusal>
     ensures { result ≡ first_of (drop_runway_rules (option_copied field.entry) name.now) }
 {
@@ -87,7 +87,7 @@ fn drop_runway_refusal(field: Option<&Airfield>, name: &RunwayName) -> Option<Am
     }
 }
 
-/// The first rule that is broken where the airfield is to be taken out.
+/// The first rule broken by removing the airfield.
 fn drop_refusal(field: Option<&Airfield>) -> Option<AmendRefusal>
     ensures { result ≡ first_of (drop_rules (option_copied field.entry)) }
 {
@@ -98,16 +98,17 @@ fn drop_refusal(field: Option<&Airfield>) -> Option<AmendRefusal>
 }
 
 impl Register {
-    /// Whether there is no room for an airfield whose place `field` would take: its name is new, and the register is full.
+    /// Whether a new airfield would not fit: `field` is `None`, and the register is full.
     fn is_full_for(&self, field: Option<&Airfield>) -> bool
         ensures { result ≡ is_register_full self.now (option_copied field.entry) }
     {
         field.is_none() && self.len() >= MOST_AIRFIELDS
     }
 
-    /// The first rule that an airport of this name breaks.
+    /// The first rule broken by putting an airport with this name.
     fn airport_refusal(&self, id: &FieldId, arp: &Point, elevation: &i64) -> Option<AmendRefusal>
-        ensures { result ≡ first_of (airport_rules self.now (airfield_at self.now id.now) arp.now elevation.now) }
+        ensures { result ≡ first_of (airport_rules self.now (airfield_at self.now id.now) arp.now
+            elevation.now) }
     {
         let field = self.get(id);
         if is_heliport(field) {
@@ -125,9 +126,10 @@ impl Register {
         None
     }
 
-    /// The first rule that the heliport breaks.
+    /// The first rule broken by putting the heliport.
     fn heliport_refusal(&self, heliport: &Heliport) -> Option<AmendRefusal>
-        ensures { result ≡ first_of (heliport_rules self.now (airfield_at self.now heliport.now.id) heliport.now) }
+        ensures { result ≡ first_of (heliport_rules self.now
+            (airfield_at self.now heliport.now.id) heliport.now) }
     {
         let field = self.get(&heliport.id);
         if is_airport(field) {
@@ -145,7 +147,7 @@ impl Register {
         None
     }
 
-    /// The first rule that the amendment breaks.
+    /// The first rule broken by the amendment.
     pub(crate) fn refusal(&self, a: &Amendment) -> Option<AmendRefusal>
         ensures { result ≡ first_broken self.now a.now }
     {

@@ -17,10 +17,10 @@ use std::alloc::Global;
 use std::marker::Model;
 use std::sync::Arc;
 
-/// How many airfields a register may have.
+/// Most airfields in a register.
 pub const MOST_AIRFIELDS: usize = 4_096;
 
-/// The register, seen as the list of its airfields in rising order of name.
+/// The register, which contracts see as the list of its airfields in rising order of name.
 #[derive(Drop)]
 pub struct Register {
     items: OrderedTree<Airfield, OwnKey>,
@@ -39,7 +39,7 @@ impl Model for Register {
 }
 
 impl Register {
-    /// A register without airfields. It takes no memory.
+    /// A register without airfields; it takes no memory.
     pub fn empty(alloc: Global) -> Register
         ensures { result ≡ [] }
     {
@@ -48,7 +48,7 @@ impl Register {
         }
     }
 
-    /// How many airfields are registered.
+    /// The number of registered airfields.
     pub fn len(&self) -> usize
         ensures { result ≡ length self.now }
     {
@@ -71,7 +71,7 @@ impl Register {
         self.items.get(i)
     }
 
-    /// An equal register, which shares all that it has with this one.
+    /// An equal register that shares its data with this one.
     ///
     /// # Errors
     ///
@@ -84,7 +84,7 @@ impl Register {
         })
     }
 
-    /// Shows to a proof that the register is within its limits.
+    /// For proofs: the register is within its limits.
     pub fn limits(&self)
         ensures { IsRegister self.now }
     {
@@ -104,14 +104,15 @@ impl Register {
         }
     }
 
-    /// Puts the airfield in its place, instead of the one of its name.
+    /// Puts the airfield in its place, instead of the one with its name.
     ///
     /// # Errors
     ///
     /// `NoMemory` where memory was refused. The register then stays as it was.
     pub(crate) fn put(&mut self, alloc: Global, field: Airfield) -> Result<Changed, NoMemory>
         requires held { IsHeld field }
-        requires room { airfield_at self.old (id_of field) ≡ None → length self.old < MOST_AIRFIELDS }
+        requires room { airfield_at self.old (id_of field) ≡ None →
+            length self.old < MOST_AIRFIELDS }
         ensures put { IfOk result (λ _. self.new ≡ put_by name_cmp id_of field self.old) }
         ensures change { IfOk result (λ c. IsChange self.old self.new (id_of field) c) }
         ensures after { IfOk result (λ c. option_map arc_value c.after ≡ Some field) }
@@ -129,7 +130,7 @@ impl Register {
         })
     }
 
-    /// Takes the airfield of this name out.
+    /// Removes the airfield of this name.
     ///
     /// # Errors
     ///

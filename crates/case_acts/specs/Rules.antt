@@ -1,16 +1,16 @@
--- The rules that an act on a case breaks, in the order in which they are tested: the status first, then the rules of the act in order of
+-- The rules that an act on a case may break, in the order of testing: the status first, then the rules of the act in order of
 -- their numbers. The limit of dates is the last rule of each act: where a date is outside, the act has no effect (see Effects).
 use Rattle.std.specs.Prelude.{List, [], ◌∷◌, ◌++◌, Bool, true, false, not, ◌&&◌, ◌||◌, cond, nat_lt, Option, Some, None, is_none, is_some, pos, int_lt, int_le}
 use Rattle.jiff_core.specs.declared.civil.date.Date.{Date}
 use Rattle.jiff_core.specs.Date.{epoch_day}
 use Rattle.jiff_span.specs.Months.{add_months}
-use Rattle.airfield_findings.specs.Verdicts.{is_obstruction}
+use Rattle.finding_lists.specs.Verdicts.{is_obstruction}
 use Rattle.determination_dates.specs.declared.determination.Record.{Record}
 use Rattle.determination_dates.specs.declared.evidence.TheConstants.{EVIDENCE_MONTHS}
 use Rattle.determination_dates.specs.declared.life.Status.{Status}
 use Rattle.determination_dates.specs.Statuses.{status_of}
 use Rattle.determination_dates.specs.Computed.{last_date}
-use Rattle.case_values.specs.declared.act.Impact.{Impact}
+use Rattle.case_requests.specs.declared.act.Impact.{Impact}
 use Rattle.case_records.specs.declared.refusal.Refusal.{Refusal}
 use Rattle.case_records.specs.declared.refusal.Refusal.TheVariants as refusals
 use Rattle.case_records.specs.declared.case.KeptList.{KeptList}
@@ -19,14 +19,14 @@ use Rattle.case_acts.specs.declared.extension.Extension.{Extension}
 use Rattle.case_acts.specs.Standing.{is_awaiting, is_standing, is_in_force, is_planned}
 
 -- the refusal, if its rule is broken
-abbrev pub when : Bool → Refusal → List Refusal
-when b refusal = cond b (refusal ∷ []) []
+abbrev pub refusal_if : Bool → Refusal → List Refusal
+refusal_if b refusal = cond b (refusal ∷ []) []
 
 -- ---- what must be there
 
--- a status in which the act comes
+-- a status in which the act is allowed
 abbrev pub in_status : (Status → Bool) → Date → KeptCase → List Refusal
-in_status comes today c = when (not (comes (status_of c.life (epoch_day today)))) (refusals.NotStanding (status_of c.life (epoch_day today)))
+in_status comes today c = refusal_if (not (comes (status_of c.life (epoch_day today)))) (refusals.NotStanding (status_of c.life (epoch_day today)))
 
 -- the record is there in each status of a determination
 abbrev pub of_record : Option Record → (Record → List Refusal) → List Refusal
@@ -39,36 +39,36 @@ on_determination comes rules today c = in_status comes today c ++ of_record c.li
 
 -- ---- the form of an emergency, and a determination
 
--- the form is due of an emergency, once: 77.7(e)
+-- the form is due once, in an emergency: 77.7(e)
 abbrev pub form_rules : KeptCase → List Refusal
-form_rules c = when (not c.submission.emergency || is_some c.form) refusals.NoFormDue
+form_rules c = refusal_if (not c.submission.emergency || is_some c.form) refusals.NoFormDue
 
--- a finding is wanted exactly where a standard is exceeded: 77.31
+-- a finding is required exactly where a standard is exceeded: 77.31
 abbrev pub finding_rules : Option Impact → KeptList → List Refusal
 finding_rules finding kept =
-    when (is_none finding && is_obstruction kept.list) refusals.FindingWanted
-    ++ when (is_some finding && not (is_obstruction kept.list)) refusals.FindingUnwanted
+    refusal_if (is_none finding && is_obstruction kept.list) refusals.FindingWanted
+    ++ refusal_if (is_some finding && not (is_obstruction kept.list)) refusals.FindingUnwanted
 
 abbrev pub determination_rules : Option Impact → KeptList → Date → KeptCase → List Refusal
 determination_rules finding kept today c = in_status is_awaiting today c ++ finding_rules finding kept
 
 -- ---- petitions: 77.37 and 77.39
 
--- a petition comes up to the deadline: 77.39(a)
+-- the last day for a petition is the deadline: 77.39(a)
 abbrev pub deadline_rules : Option Date → Date → List Refusal
 deadline_rules None today = []
-deadline_rules (Some deadline) today = when (int_lt (epoch_day deadline) (epoch_day today)) (refusals.PetitionLate deadline today)
+deadline_rules (Some deadline) today = refusal_if (int_lt (epoch_day deadline) (epoch_day today)) (refusals.PetitionLate deadline today)
 
--- it is of a determination that may be petitioned, comes in time, and is the only one
+-- the determination may be petitioned, the petition is in time, and no other is pending
 abbrev pub review_rules : Date → Record → List Refusal
-review_rules today r = when (is_none r.deadline) refusals.NotReviewable ++ deadline_rules r.deadline today ++ when r.pending refusals.PetitionPending
+review_rules today r = refusal_if (is_none r.deadline) refusals.NotReviewable ++ deadline_rules r.deadline today ++ refusal_if r.pending refusals.PetitionPending
 
 abbrev pub petition_rules : Date → KeptCase → List Refusal
 petition_rules today c = on_determination is_standing (review_rules today) today c
 
--- a petition is disposed of that is pending
+-- a petition is pending
 abbrev pub pending_rules : Record → List Refusal
-pending_rules r = when (not r.pending) refusals.NothingPending
+pending_rules r = refusal_if (not r.pending) refusals.NothingPending
 
 abbrev pub disposal_rules : Date → KeptCase → List Refusal
 disposal_rules today c = on_determination is_standing pending_rules today c
@@ -78,22 +78,22 @@ disposal_rules today c = on_determination is_standing pending_rules today c
 -- the petition comes at least 15 days before the expiry: 77.35(a)(2)
 abbrev pub last_day_rules : Option Date → Date → List Refusal
 last_day_rules None today = []
-last_day_rules (Some last) today = when (int_lt (epoch_day last) (epoch_day today)) (refusals.ExtensionLate last today)
+last_day_rules (Some last) today = refusal_if (int_lt (epoch_day last) (epoch_day today)) (refusals.ExtensionLate last today)
 
 -- the application to the FCC was filed at most 6 months after issuance and at most today, and more time is warranted: 77.35(c)
 abbrev pub has_evidence : Record → Date → Option Date → Bool → Bool
 has_evidence r today None warranted = false
 has_evidence r today (Some filed) warranted = int_le (epoch_day filed) (add_months r.issued (pos EVIDENCE_MONTHS)) && int_le (epoch_day filed) (epoch_day today) && warranted
 
--- one extension where the FCC has no part, 77.35(b); where it has, the evidence, 77.35(c)
+-- one extension where the FCC has no part: 77.35(b); where it has, the evidence: 77.35(c)
 abbrev pub evidence_rules : Option Date → Record → Bool → List Refusal
-evidence_rules None r evidence = when (nat_lt 0 r.extensions) refusals.AlreadyExtended
-evidence_rules (Some application) r evidence = when (not evidence) refusals.FccEvidence
+evidence_rules None r evidence = refusal_if (nat_lt 0 r.extensions) refusals.AlreadyExtended
+evidence_rules (Some application) r evidence = refusal_if (not evidence) refusals.FccEvidence
 
--- in time, before structural work, and as the FCC has part
+-- in time, before structural work, and once or with evidence
 abbrev pub moving_rules : Extension → Date → Option Date → Record → List Refusal
 moving_rules x today application r =
-    last_day_rules (last_date r) today ++ when x.started refusals.WorkStarted ++ evidence_rules application r (has_evidence r today x.filed x.warranted)
+    last_day_rules (last_date r) today ++ refusal_if x.started refusals.WorkStarted ++ evidence_rules application r (has_evidence r today x.filed x.warranted)
 
 abbrev pub extension_rules : Extension → Date → KeptCase → List Refusal
 extension_rules x today c = on_determination is_in_force (moving_rules x today c.submission.fcc) today c
@@ -102,7 +102,7 @@ extension_rules x today c = on_determination is_in_force (moving_rules x today c
 
 -- the FCC has part in the case
 abbrev pub license_rules : KeptCase → List Refusal
-license_rules c = when (is_none c.submission.fcc) refusals.FccEvidence
+license_rules c = refusal_if (is_none c.submission.fcc) refusals.FccEvidence
 
 abbrev pub fcc_rules : Date → KeptCase → List Refusal
 fcc_rules today c = on_determination is_in_force (λ r. license_rules c) today c

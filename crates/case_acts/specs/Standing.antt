@@ -1,9 +1,9 @@
--- The statuses in which acts on a case come.
+-- The statuses in which each act on a case is allowed.
 use Rattle.std.specs.Prelude.{Bool, true, false}
 use Rattle.determination_dates.specs.declared.life.Status.{Status}
 use Rattle.determination_dates.specs.declared.life.Status.TheVariants.{Awaiting, Pending, InForce, HazardStands, Expired, Abandoned, Reversed}
 
--- no determination was made: one may be issued, 77.31
+-- no determination was made yet: one may be issued, 77.31
 abbrev pub is_awaiting : Status → Bool
 is_awaiting Awaiting = true
 is_awaiting Pending = false
@@ -33,7 +33,7 @@ is_in_force Expired = false
 is_in_force Abandoned = false
 is_in_force Reversed = false
 
--- the structure may be built, now or later: it may be given up, 77.33(b)
+-- the structure may be built, now or later: it may be abandoned, 77.33(b)
 abbrev pub is_planned : Status → Bool
 is_planned Awaiting = true
 is_planned Pending = true

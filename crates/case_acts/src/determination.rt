@@ -1,21 +1,21 @@
-//! How a determination is issued (77.31).
+//! Issuing determinations (77.31).
 
 ghost use Rattle.std.specs.Prelude.{◌≡◌, ◌≢◌, Ok, Err, IfOk, MatchResult};
-ghost use Rattle.airfield_findings.specs.Verdicts.{is_obstruction as exceeds};
+ghost use Rattle.finding_lists.specs.Verdicts.{is_obstruction as exceeds};
 ghost use Rattle.determination_dates.specs.Days.{IsLimited};
 ghost use Rattle.determination_dates.specs.Effects.{IsWithinRange};
 ghost use Rattle.case_acts.specs.Cases.{IsSound, IsSoundStep};
 ghost use Rattle.case_acts.specs.Decisions.{decision_by as decided, is_reviewable as reviewable};
-ghost use Rattle.case_acts.specs.Effects.{issued as issued_effect};
+ghost use Rattle.case_acts.specs.Effects.{issue_effect as issued_effect};
 ghost use Rattle.case_acts.specs.Rulings.{determination_ruling};
 
 use crate::effect::{Effect, Step};
 use crate::standing::is_awaiting;
-use airfield_findings::Findings;
 use airfields::Filing;
 use case_records::{KeptCase, KeptList, Outcome, Refusal};
-use case_values::Impact;
+use case_requests::Impact;
 use determination_dates::{ClosedDays, Decision, Life, Record, effective, expiry, status};
+use finding_lists::Findings;
 use grid_exact::NoMemory;
 use jiff::civil::Date;
 use std::alloc::Global;
@@ -27,7 +27,7 @@ fn is_obstruction(list: &Findings) -> bool
     list.as_slice().iter().any(|f| !f.rule.is_notice())
 }
 
-/// What a finding decides: a substantial adverse effect is a hazard (77.31).
+/// The decision from a finding: a substantial adverse effect is a hazard (77.31).
 fn decision_by(finding: Option<Impact>) -> Decision
     ensures { result ≡ decided finding }
 {
@@ -37,7 +37,7 @@ fn decision_by(finding: Option<Impact>) -> Decision
     }
 }
 
-/// Whether the determination may be petitioned: not where it is no hazard of a temporary structure or of one that exceeds no standard
+/// Whether the determination may be petitioned: not where it is no hazard and the structure is temporary or exceeds no standard
 /// (77.37(b)).
 fn is_reviewable(decision: Decision, filing: &Filing, list: &Findings) -> bool
     ensures { result ≡ reviewable decision filing.now list.now }
@@ -48,7 +48,7 @@ fn is_reviewable(decision: Decision, filing: &Filing, list: &Findings) -> bool
     }
 }
 
-/// What the issuance of a record comes to.
+/// Outcome of issuing a record.
 fn issued(
     alloc: Global,
     number: u32,
@@ -82,14 +82,14 @@ fn issued(
     })
 }
 
-/// What a determination comes to that is issued today on a list, with what it means that a standard is exceeded (77.31). The closed days
-/// count as they stand.
+/// Issues a determination today on a list of findings, with the finding of its effect where a standard is exceeded (77.31). The deadline
+/// uses the closed days as they are now.
 ///
 /// # Errors
 ///
-/// The first of these that holds, or `NoMemory` where memory was refused: `NotStanding` where the case is not awaiting one,
-/// `FindingWanted` where a standard is exceeded and there is no finding, `FindingUnwanted` where none is and there is one, `DateRange`
-/// where the deadline, the ordinary day, the effective day or the expiry is outside the limit.
+/// The first of these that holds, or `NoMemory` where memory ran out: `NotStanding` where the case is not awaiting a determination,
+/// `FindingWanted` where a standard is exceeded and there is no finding, `FindingUnwanted` where none is exceeded and there is one,
+/// `DateRange` where the deadline, the ordinary day, the effective day or the expiry is outside the limit.
 pub fn determine(
     alloc: Global,
     number: u32,
@@ -103,7 +103,8 @@ pub fn determine(
     requires case { IsSound case.now }
     ensures value { MatchResult result
         (λ e. determination_ruling number finding closed.now kept today case.now ≡ Ok e)
-        (λ why. why ≢ Refusal.NoMemory → determination_ruling number finding closed.now kept today case.now ≡ Err why) }
+        (λ why. why ≢ Refusal.NoMemory
+        → determination_ruling number finding closed.now kept today case.now ≡ Err why) }
     ensures sound { IfOk result (λ e. IsSoundStep e.step) }
 {
     let status = status(&case.life, today);

@@ -1,11 +1,11 @@
-//! What an accepted request tells and does.
+//! Effects of accepted requests: their outcome and their change to the state.
 
 use airport_register::Amendment;
 use case_records::{KeptCase, KeptList, Outcome};
 use determination_dates::Life;
 use jiff::civil::Date;
 
-/// What an accepted request does to the register, the day, the closed days or the cases. A case is told by its number.
+/// The change that an accepted request makes to the register, the day, the closed days or the cases. Cases are given by number.
 #[derive(Drop)]
 pub enum Step {
     /// The register is amended.
@@ -14,19 +14,19 @@ pub enum Step {
     DaySet(Date),
     /// The government is closed on this day (77.39(c)).
     DayClosed(Date),
-    /// A case is opened behind the others.
+    /// A case is added after the others.
     CaseFiled(KeptCase),
-    /// The form of an emergency came on this day (77.7(e)).
+    /// The form of an emergency was received on this day (77.7(e)).
     FormPut {
         number: u32,
         day: Date,
     },
-    /// The case gets this life.
+    /// The case's life is replaced.
     LifePut {
         number: u32,
         life: Life,
     },
-    /// The case gets this life, and the list that its determination rests on.
+    /// The case's life is replaced, and the list of its determination is stored.
     Issued {
         number: u32,
         life: Life,
@@ -34,7 +34,7 @@ pub enum Step {
     },
 }
 
-/// What a request tells, and what it does.
+/// The outcome of a request, and the change that it makes.
 #[derive(Drop)]
 pub struct Effect {
     pub outcome: Outcome,

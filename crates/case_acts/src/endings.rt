@@ -1,4 +1,4 @@
-//! What ends a determination before its time: an act of the FCC (77.35(c)), and that the structure is given up (77.33(b)).
+//! What ends a determination early: the FCC's decision (77.35(c)), or abandoning the structure (77.33(b)).
 
 ghost use Rattle.std.specs.Prelude.{◌≡◌, IfOk, IfSome};
 ghost use Rattle.determination_dates.specs.Days.{IsLimited};
@@ -12,7 +12,7 @@ use case_records::{KeptCase, Outcome, Refusal};
 use determination_dates::{End, Life, Record, status};
 use jiff::civil::Date;
 
-/// The expiry that follows from what the FCC did: the completion date of the permit that it granted, or today where it refused one.
+/// The expiry after the FCC's decision: the completion date of a granted permit, or today where the permit is refused.
 fn expiry_by_fcc(completion: Option<Date>, today: Date) -> Date
     ensures { result ≡ expiry_by completion today }
 {
@@ -22,7 +22,7 @@ fn expiry_by_fcc(completion: Option<Date>, today: Date) -> Date
     }
 }
 
-/// What an act of the FCC comes to (77.35(c)): it granted a construction permit with a completion date, or refused one today.
+/// The effect of the FCC's decision (77.35(c)): it granted a construction permit with a completion date, or refused one today.
 ///
 /// # Errors
 ///
@@ -67,7 +67,7 @@ pub fn fcc(
     })
 }
 
-/// What it comes to that the structure is given up (77.33(b)).
+/// Outcome of abandoning the structure (77.33(b)).
 ///
 /// # Errors
 ///

@@ -21,14 +21,14 @@ use case_records::{KeptCase, Outcome, Refusal};
 use determination_dates::{Life, Record, expiry, is_filed_in_time, last_extension_day, status};
 use jiff::civil::Date;
 
-/// What is asked for where an expiry is to be moved, and what is shown for it.
+/// A request to extend an expiry, with its evidence.
 #[derive(Clone, Copy, Debug, PartialEq, Eq)]
 pub struct Extension {
-    /// By how many months the expiry is to be moved, at least one.
+    /// The number of months by which to extend, at least 1.
     pub months: u8,
-    /// Whether structural work has started; excavation is none.
+    /// Whether structural work has started; excavation does not count.
     pub started: bool,
-    /// The day on which a construction permit was filed for with the FCC.
+    /// The day of the application to the FCC for a construction permit.
     pub filed: Option<Date>,
     /// Whether more time is warranted.
     pub warranted: bool,
@@ -43,8 +43,8 @@ fn is_in_time(r: &Record, filed: Date) -> bool
     is_filed_in_time(r.issued, filed)
 }
 
-/// Whether there is the evidence that a case of the FCC wants: the application was filed at most 6 months after issuance and at most
-/// today, and more time is warranted (77.35(c)).
+/// Whether the evidence for a case with an FCC application is complete: the application was filed at most 6 months after issuance and not
+/// after today, and more time is warranted (77.35(c)).
 fn has_evidence(r: &Record, today: Date, filed: Option<Date>, warranted: bool) -> bool
     requires { IsKept r.now }
     ensures { result ≡ evidence r.now today filed warranted }
@@ -55,7 +55,7 @@ fn has_evidence(r: &Record, today: Date, filed: Option<Date>, warranted: bool) -
     is_in_time(r, day) && is_at_most(day, today) && warranted
 }
 
-/// The rule that a request for an extension breaks where it comes after the last day for one (77.35(a)(2)).
+/// `ExtensionLate` where the request is after the last day for an extension (77.35(a)(2)).
 fn late(r: &Record, today: Date) -> Option<Refusal>
     requires { IsKept r.now }
     ensures { option_to_list result ≡ last_day_rules (last_date r.now) today }
@@ -72,8 +72,8 @@ fn late(r: &Record, today: Date) -> Option<Refusal>
     None
 }
 
-/// The rule that it breaks where the FCC has no part in the case and an extension was granted (77.35(b)), or has part and the evidence is
-/// wanting (77.35(c)).
+/// `AlreadyExtended` where the FCC has no part in the case and an extension was granted (77.35(b)); `FccEvidence` where it has and the
+/// evidence is not complete (77.35(c)).
 fn unproven(
     r: &Record,
     application: Option<Date>,
@@ -81,7 +81,8 @@ fn unproven(
     today: Date,
 ) -> Option<Refusal>
     requires { IsKept r.now }
-    ensures { option_to_list result ≡ evidence_rules application r.now (evidence r.now today asked.now.filed asked.now.warranted) }
+    ensures { option_to_list result ≡ evidence_rules application r.now
+        (evidence r.now today asked.now.filed asked.now.warranted) }
 {
     match application {
         None => {
@@ -99,11 +100,12 @@ fn unproven(
     }
 }
 
-/// What moving the expiry of a record by so many months comes to.
+/// The effect of moving the expiry of a record by `months`.
 fn moved(number: u32, months: u8, case: &KeptCase, r: Record) -> Result<Effect, Refusal>
     requires kept { IsKept r }
     requires months { (1 ≤ months) × (months ≤ EXTENSION_MONTHS) }
-    ensures value { result ≡ ruling [] (with_some (extended_record months r) (moved number case.now)) }
+    ensures value { result ≡ ruling [] (with_some (extended_record months r)
+        (moved number case.now)) }
     ensures sound { IfOk result (λ e. IsSoundStep e.step) }
 {
     let mut next = r;
@@ -133,13 +135,13 @@ fn moved(number: u32, months: u8, case: &KeptCase, r: Record) -> Result<Effect, 
     })
 }
 
-/// What an extension comes to that is asked for today (77.35). The months count from the expiry that stands.
+/// Extends a determination today (77.35). The months count from the present expiry.
 ///
 /// # Errors
 ///
-/// The first of these that holds: `NotStanding` where no determination of no hazard is in force, `ExtensionLate` after the last day for
-/// it, `WorkStarted` where structural work has started, `AlreadyExtended` where the FCC has no part in the case and an extension was
-/// granted, `FccEvidence` where it has part and the evidence is wanting, `DateRange` where the new expiry is outside the limit.
+/// The first of these that holds: `NotStanding` where no determination of no hazard is in force, `ExtensionLate` after the last day to
+/// request it, `WorkStarted` where structural work has started, `AlreadyExtended` where the FCC has no part in the case and an extension
+/// was granted, `FccEvidence` where it has and the evidence is not complete, `DateRange` where the new expiry is outside the limit.
 pub fn extend(
     number: u32,
     asked: &Extension,

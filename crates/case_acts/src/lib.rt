@@ -1,4 +1,4 @@
-//! The acts on a case under 14 CFR Part 77: what each tells and does, and when it is refused.
+//! The acts on a case under 14 CFR Part 77: their effects and refusals.
 //!
 //! Dates are those of `jiff`, from 1900-01-01 to 2999-12-31. Each act happens on the desk's day.
 #![tactic(auto)]
@@ -7,6 +7,7 @@ mod determination;
 mod effect;
 mod endings;
 mod extension;
+mod laws;
 mod notice;
 mod order;
 mod review;
@@ -16,6 +17,7 @@ pub use determination::determine;
 pub use effect::{Effect, Step};
 pub use endings::{abandon, fcc};
 pub use extension::{Extension, extend};
+pub use laws::numbers;
 pub use notice::{PRESUMED_HEIGHT, file, form};
 pub use order::is_before;
 pub use review::{dispose, petition};

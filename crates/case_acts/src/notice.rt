@@ -7,19 +7,19 @@ ghost use Rattle.determination_dates.specs.Days.{IsLimited};
 ghost use Rattle.determination_dates.specs.declared.notice.TheConstants.{FORM_DAYS};
 ghost use Rattle.determination_dates.specs.Notices.{days_over};
 ghost use Rattle.case_acts.specs.Cases.{HasLimitedDates, IsSoundStep};
-ghost use Rattle.case_acts.specs.Effects.{explained as is_explained, fcc_days, form_days, new_case};
+ghost use Rattle.case_acts.specs.Effects.{explanation_of as is_explained, fcc_days, form_days, new_case};
 ghost use Rattle.case_acts.specs.Rulings.{file_ruling, form_ruling};
 
 use crate::effect::{Effect, Step};
 use case_records::{KeptCase, Outcome, Refusal};
-use case_values::Submission;
+use case_requests::Submission;
 use determination_dates::{FORM_DAYS, Life, fcc_late, timeliness};
 use jiff::civil::Date;
 
 /// A structure that is higher than this above ground, 2,000 feet in tenths of a foot, is presumed to be a hazard (77.7(d)).
 pub const PRESUMED_HEIGHT: i64 = 20_000;
 
-/// Whether a statement explains a height that is presumed to be a hazard; none where the height is not.
+/// Whether a statement explains a height that is presumed to be a hazard; `None` where the height is not.
 fn explained(notice: &Submission) -> Option<bool>
     ensures { result ≡ is_explained notice.now }
 {
@@ -29,7 +29,7 @@ fn explained(notice: &Submission) -> Option<bool>
     Some(notice.statement)
 }
 
-/// How many days the notice came after the application to the FCC.
+/// The number of days by which the notice came after the application to the FCC (77.7(c)).
 fn days_after(today: Date, application: Option<Date>) -> Option<u32>
     requires today { IsLimited today }
     requires application { IfSome application IsLimited }
@@ -41,7 +41,7 @@ fn days_after(today: Date, application: Option<Date>) -> Option<u32>
     }
 }
 
-/// A case to which nothing has happened yet.
+/// A new case for a notice received today.
 fn opened(today: Date, notice: &Submission) -> KeptCase
     ensures { result ≡ new_case today notice.now }
 {
@@ -57,7 +57,7 @@ fn opened(today: Date, notice: &Submission) -> KeptCase
     }
 }
 
-/// What a notice comes to that is received today and opens the case of this number: whether it is in time (77.7(b), (c) and (e)), and
+/// Receives a notice today, which opens the case of this number. The outcome says whether it is in time (77.7(b), (c) and (e)), and
 /// whether it explains a height of more than 2,000 feet (77.7(d)).
 ///
 /// # Errors
@@ -83,7 +83,7 @@ pub fn file(number: u32, today: Date, notice: &Submission) -> Result<Effect, Ref
     })
 }
 
-/// So many days where they are above 0, else 0.
+/// The number of days, or 0 where it is negative.
 fn days_over(days: i32) -> u32
     ensures { result ≡ days_over days }
 {
@@ -98,7 +98,7 @@ fn number(date: Date) -> i32
     date.to_plain().to_unix_epoch_day()
 }
 
-/// How far a day lies after the due day of a form, whose notice was received on another (77.7(e)); both by their numbers.
+/// By how many days the form came after its due day (77.7(e)); negative where it came before. Days are by number.
 fn after_due(received: i32, today: i32) -> i32
     requires received { IsEpochDay received }
     requires today { IsEpochDay today }
@@ -107,18 +107,18 @@ fn after_due(received: i32, today: i32) -> i32
     today - (received + FORM_DAYS)
 }
 
-/// How many days the form of an emergency came after the day on which it was due.
+/// The number of days by which the form of an emergency is late.
 fn form_late(received: Date, today: Date) -> u32
     ensures { result ≡ form_days received today }
 {
     days_over(after_due(number(received), number(today)))
 }
 
-/// What the form of an emergency's notice comes to that came today (77.7(e)).
+/// Receives the form of an emergency notice today (77.7(e)).
 ///
 /// # Errors
 ///
-/// `NoFormDue` exactly where the case is no emergency or its form came.
+/// `NoFormDue` exactly where the case is no emergency or its form was already received.
 pub fn form(number: u32, today: Date, case: &KeptCase) -> Result<Effect, Refusal>
     requires today { IsLimited today }
     ensures value { result ≡ form_ruling number today case.now }

@@ -1,10 +1,10 @@
-//! Petitions for review (77.37), and how they are disposed of.
+//! Petitions for review (77.37) and the decisions on them.
 
 ghost use Rattle.std.specs.Prelude.{◌≡◌, [], true, IfOk};
 ghost use Rattle.determination_dates.specs.Days.{IsLimited};
 ghost use Rattle.determination_dates.specs.Effects.{IsKept};
 ghost use Rattle.case_acts.specs.Cases.{IsSound, IsSoundStep};
-ghost use Rattle.case_acts.specs.Effects.{reversed, settled};
+ghost use Rattle.case_acts.specs.Effects.{reversal_effect, settlement_effect};
 ghost use Rattle.case_acts.specs.Rulings.{ruling, petition_ruling, disposal_ruling};
 
 use crate::effect::{Effect, Step};
@@ -14,7 +14,7 @@ use case_records::{KeptCase, Outcome, Refusal};
 use determination_dates::{End, Life, Record, effective, expiry, status};
 use jiff::civil::Date;
 
-/// What a petition comes to that is received today (77.37, 77.39).
+/// Outcome of a petition received today (77.37, 77.39).
 ///
 /// # Errors
 ///
@@ -57,11 +57,11 @@ pub fn petition(number: u32, today: Date, case: &KeptCase) -> Result<Effect, Ref
     })
 }
 
-/// What an affirmation comes to.
+/// Outcome of an affirmation.
 fn affirm(number: u32, today: Date, case: &KeptCase, r: Record) -> Result<Effect, Refusal>
     requires kept { IsKept r }
     requires day { IsLimited today }
-    ensures value { result ≡ ruling [] (settled number true today case.now r) }
+    ensures value { result ≡ ruling [] (settlement_effect number true today case.now r) }
     ensures sound { IfOk result (λ e. IsSoundStep e.step) }
 {
     let mut next = r;
@@ -83,10 +83,10 @@ fn affirm(number: u32, today: Date, case: &KeptCase, r: Record) -> Result<Effect
     })
 }
 
-/// What a reversal comes to.
+/// Outcome of a reversal.
 fn reverse(number: u32, case: &KeptCase) -> Effect
     requires { IsSound case.now }
-    ensures value { result ≡ reversed number case.now }
+    ensures value { result ≡ reversal_effect number case.now }
     ensures sound { IsSoundStep result.step }
 {
     let life = Life {
@@ -104,8 +104,8 @@ fn reverse(number: u32, case: &KeptCase) -> Effect
     }
 }
 
-/// What it comes to that the pending petition is disposed of today (77.37): the determination is affirmed, and takes effect today at the
-/// earliest, or else it is reversed and its case ended.
+/// Decides the pending petition today (77.37): the determination is affirmed, and takes effect today at the earliest, or it is reversed
+/// and its case ends.
 ///
 /// # Errors
 ///

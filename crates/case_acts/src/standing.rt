@@ -1,11 +1,11 @@
-//! The statuses in which acts on a case come.
+//! The statuses in which each act on a case is allowed.
 
 ghost use Rattle.std.specs.Prelude.{◌≡◌};
 ghost use Rattle.case_acts.specs.Standing.{is_awaiting as awaiting, is_standing as standing, is_in_force as in_force, is_planned as planned};
 
 use determination_dates::Status;
 
-/// Whether no determination was made, so that one may be issued (77.31).
+/// Whether no determination was made yet, so that one may be issued (77.31).
 pub fn is_awaiting(s: Status) -> bool
     ensures { result ≡ awaiting s }
 {
@@ -35,7 +35,7 @@ pub fn is_in_force(s: Status) -> bool
     }
 }
 
-/// Whether the structure may be built, now or later, so that it may be given up (77.33(b)).
+/// Whether the structure may be built, now or later, so that it may be abandoned (77.33(b)).
 pub fn is_planned(s: Status) -> bool
     ensures { result ≡ planned s }
 {

@@ -1,10 +1,10 @@
--- Refusals of amendments, among those of all requests.
+-- The refusals of amendments as refusals of requests.
 use Rattle.airport_register.specs.declared.amendment.AmendRefusal.{AmendRefusal}
 use Rattle.airport_register.specs.declared.amendment.AmendRefusal.TheVariants as amend_refusals
 use Rattle.case_records.specs.declared.refusal.Refusal.{Refusal}
 use Rattle.case_records.specs.declared.refusal.Refusal.TheVariants as refusals
 
--- the refusal of an amendment
+-- the refusal for a refused amendment
 abbrev pub refused_amendment : AmendRefusal → Refusal
 refused_amendment amend_refusals.PrecisionOnUtility = refusals.PrecisionOnUtility
 refused_amendment amend_refusals.UnknownAirfield = refusals.UnknownAirfield

@@ -2,24 +2,24 @@
 
 ghost use Rattle.std.specs.Prelude.{◌≡◌, IfOk};
 
-use airfield_findings::Findings;
-use case_values::Submission;
+use case_requests::Submission;
 use determination_dates::{Decision, Life, Status};
+use finding_lists::Findings;
 use grid_exact::NoMemory;
 use jiff::civil::Date;
 use std::alloc::Global;
 
-/// The list that a determination rests on.
+/// The list of findings that a determination was made on.
 #[derive(Drop)]
 pub struct KeptList {
-    /// The number of the last entry whose register it is over; 0 where that is the register without entries.
+    /// The number of the last change that was accepted before the list was computed; 0 where there was none.
     pub last: u64,
     /// The findings.
     pub list: Findings,
 }
 
 impl KeptList {
-    /// An equal one.
+    /// Copies the list.
     ///
     /// # Errors
     ///
@@ -34,27 +34,27 @@ impl KeptList {
     }
 }
 
-/// A case: a notice and what became of it.
+/// A case: a notice and its history.
 #[derive(Drop)]
 pub struct KeptCase {
     /// The notice.
     pub submission: Submission,
-    /// The day on which it was received.
+    /// The day on which the notice was received.
     pub received: Date,
-    /// The day on which the form of an emergency's notice came.
+    /// The day on which the form of an emergency notice was received.
     pub form: Option<Date>,
-    /// The end and the determination.
+    /// Whether and how the case ended, and its determination.
     pub life: Life,
-    /// The list of the determination; there exactly where a determination is.
+    /// The list of the determination; `Some` exactly where there is a determination.
     pub list: Option<KeptList>,
 }
 
-/// A case, as the reply to a question for it tells it. Dates that are not there are `None`.
+/// A case as the reply to a query shows it. Dates that do not exist are `None`.
 #[derive(Clone, Copy, Debug, PartialEq, Eq)]
 pub struct CaseView {
     /// Its number.
     pub case: u32,
-    /// How it stands on the desk's day.
+    /// Its status on the desk's day.
     pub status: Status,
     pub decision: Option<Decision>,
     pub issued: Option<Date>,
@@ -62,7 +62,7 @@ pub struct CaseView {
     pub deadline: Option<Date>,
     pub effective: Option<Date>,
     pub expiry: Option<Date>,
-    /// The last day for a request for an extension.
+    /// The last day to request an extension (77.35(a)).
     pub last_day: Option<Date>,
     /// Whether it is marked for review.
     pub marked: bool,

@@ -6,7 +6,7 @@ use grid_exact::NoMemory;
 use std::alloc::Global;
 use std::marker::Model;
 
-/// A list of cases, each told by its number.
+/// A list of case numbers.
 #[derive(Drop)]
 pub struct CaseList {
     cases: Vec<u32>,
@@ -21,7 +21,7 @@ impl Model for CaseList {
 }
 
 impl CaseList {
-    /// No cases. It takes no memory.
+    /// An empty list. It allocates nothing.
     pub fn new(alloc: Global) -> CaseList
         ensures { result ≡ [] }
     {
@@ -30,7 +30,7 @@ impl CaseList {
         }
     }
 
-    /// Appends a case.
+    /// Appends a case number.
     ///
     /// # Errors
     ///
@@ -43,21 +43,21 @@ impl CaseList {
         Ok(())
     }
 
-    /// How many cases there are.
+    /// The number of cases.
     pub fn len(&self) -> usize
         ensures { result ≡ length self.now }
     {
         self.cases.len()
     }
 
-    /// The case at place `i`, counted from 0.
+    /// The case number at index `i`, counted from 0.
     pub fn get(&self, i: usize) -> Option<u32>
         ensures { result ≡ slice_get self.now i }
     {
         self.cases.get(i).copied()
     }
 
-    /// The cases in their order.
+    /// The case numbers in their order.
     pub fn as_slice(&self) -> &[u32]
         ensures { result.now ≡ self.now }
     {

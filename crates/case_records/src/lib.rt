@@ -1,5 +1,5 @@
-//! What the desk keeps and tells of cases: the case with its determination's list, lists of cases, what an accepted request led to, and why
-//! one is refused.
+//! The data of cases: the case with its determination's list, lists of cases, the outcomes of accepted requests, and the
+//! refusals.
 //!
 //! Dates are those of `jiff`, from 1900-01-01 to 2999-12-31.
 #![tactic(auto)]
@@ -13,6 +13,3 @@ pub use case::{CaseView, KeptCase, KeptList};
 pub use case_list::CaseList;
 pub use outcome::Outcome;
 pub use refusal::Refusal;
-
-#[cfg(test)]
-mod tests;

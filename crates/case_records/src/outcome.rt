@@ -1,30 +1,30 @@
-//! What accepted requests led to.
+//! The outcomes of accepted requests.
 
 ghost use Rattle.std.specs.Prelude.{◌≡◌, IfOk};
 
-use airfield_findings::Findings;
 use determination_dates::{Decision, Timeliness};
+use finding_lists::Findings;
 use grid_exact::NoMemory;
 use jiff::civil::Date;
 use std::alloc::Global;
 use wire_values::Plain;
 
-/// What an accepted request led to. A case is told by its number.
+/// The outcome of an accepted request. Cases are given by number.
 #[derive(Drop)]
 pub enum Outcome {
-    /// No more than that it was accepted.
+    /// Accepted, with no further result.
     Plain(Plain),
     /// A notice opened a case.
     Filed {
         case: u32,
         /// Whether the notice is in time.
         timely: Timeliness,
-        /// How many days after the application to the FCC it came, 0 where it is in time; none without an application.
+        /// The number of days by which the notice came after the application to the FCC, 0 where in time (77.7(c)); `None` without one.
         fcc: Option<u32>,
-        /// Whether a statement explains a height of more than 2,000 feet; none where the height is less.
+        /// Whether a statement explains a height of more than 2,000 feet (77.7(d)); `None` where the height is not more.
         explained: Option<bool>,
     },
-    /// The form of an emergency's notice came, so many days late, or 0 where it is in time.
+    /// The form of an emergency notice was received (77.7(e)); the days by which it was late, or 0 where it was in time.
     FormCame {
         case: u32,
         late: u32,
@@ -33,46 +33,46 @@ pub enum Outcome {
     Determined {
         case: u32,
         decision: Decision,
-        /// The number of the last entry whose register the list is over.
+        /// The number of the last change that was accepted before the list was computed.
         last: u64,
         issued: Date,
         /// The last day for a petition.
         deadline: Option<Date>,
         effective: Option<Date>,
         expiry: Option<Date>,
-        /// The findings that the determination rests on.
+        /// The findings that the determination was made on.
         list: Findings,
     },
     /// A petition is pending.
     Petitioned {
         case: u32,
     },
-    /// The pending petition was decided: affirmed, or else reversed.
+    /// The pending petition was decided: the determination was affirmed or reversed.
     Disposed {
         case: u32,
         affirmed: bool,
         effective: Option<Date>,
         expiry: Option<Date>,
     },
-    /// The expiry was extended; `last_day` is the last day for the next request.
+    /// The expiry was extended; `last_day` is the last day to request the next extension.
     Extended {
         case: u32,
         expiry: Date,
         last_day: Date,
     },
-    /// The expiry follows what the FCC did.
+    /// The expiry was set by the FCC's decision (77.35(c)).
     Fcc {
         case: u32,
         expiry: Date,
     },
-    /// The structure was given up.
+    /// The structure was abandoned.
     Abandoned {
         case: u32,
     },
 }
 
 impl Outcome {
-    /// An equal one.
+    /// Copies the outcome.
     ///
     /// # Errors
     ///

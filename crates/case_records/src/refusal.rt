@@ -17,57 +17,57 @@ pub enum Refusal {
     RunwayLength,
     /// 6: an end of a runway is too far from the reference point.
     RunwayFar,
-    /// 7: the airport has as many runways as it may have.
+    /// 7: the airport already has the greatest number of runways.
     TooManyRunways,
-    /// 8: the register has as many airfields as it may have.
+    /// 8: the register already has the greatest number of airfields.
     RegisterFull,
     /// 9: an elevation is outside its limit.
     ElevationRange,
     /// 10: the axis or the width of a heliport is outside its limit.
     HeliportShape,
-    /// 11: the name is that of an airfield of the other kind.
+    /// 11: the name belongs to an airfield of the other kind.
     WrongKind,
-    /// 12: a date that the request computes is outside the limit.
+    /// 12: a date computed by the request is outside the limit.
     DateRange,
-    /// 13: the line is the record of no request; the field is that of the reader's refusal.
+    /// 13: the line is the record of no request; `field` is the field at which it is malformed.
     Malformed { field: u32 },
     /// 14: no case has this number.
     UnknownCase,
-    /// 15: the desk has as many cases as it may have.
+    /// 15: the desk already has the greatest number of cases.
     CasesFull,
-    /// 16: the day is before the desk's day, which is kept.
+    /// 16: the day is before the desk's day, `kept`.
     DayBack { kept: Date, day: Date },
-    /// 17: the act does not come in this status.
+    /// 17: the act is not allowed in this status.
     NotStanding { status: Status },
-    /// 18: a standard is exceeded, and no finding says what that means.
+    /// 18: a standard is exceeded, and the request has no finding (77.31).
     FindingWanted,
-    /// 19: no standard is exceeded, and there is a finding.
+    /// 19: no standard is exceeded, and the request has a finding.
     FindingUnwanted,
-    /// 20: the determination cannot be petitioned (77.37(b)).
+    /// 20: the determination may not be petitioned (77.37(b)).
     NotReviewable,
-    /// 21: the petition comes after its last day (77.39(a)).
+    /// 21: the petition is after its last day (77.39(a)).
     PetitionLate { deadline: Date, day: Date },
-    /// 22: a petition is pending.
+    /// 22: a petition is already pending.
     PetitionPending,
     /// 23: no petition is pending.
     NothingPending,
-    /// 24: the request comes after the last day for an extension (77.35(a)).
+    /// 24: the request is after the last day for an extension (77.35(a)).
     ExtensionLate { last_day: Date, day: Date },
     /// 25: structural work has started (77.35(a)).
     WorkStarted,
-    /// 26: an extension was granted before (77.35(c)).
+    /// 26: an extension was already granted (77.35(b)).
     AlreadyExtended,
-    /// 27: the evidence that 77.35(b) asks for is wanting, or the case is none of the FCC.
+    /// 27: the evidence that 77.35(c) requires is missing, or the FCC has no part in the case.
     FccEvidence,
-    /// 28: the caller's key stands for another request, the entry of this number.
+    /// 28: the caller's key was used for another request, the entry of this number.
     KeyReused { entry: u64 },
     /// 29: the desk has no day yet.
     NoDay,
-    /// 30: what keeps the desk's tables failed.
+    /// 30: the keeper that stores the desk's tables failed.
     KeeperFault,
-    /// 31: memory was refused.
+    /// 31: memory ran out.
     NoMemory,
-    /// 32: the case is no emergency, or its form came.
+    /// 32: the case is no emergency, or its form was already received.
     NoFormDue,
 }
 

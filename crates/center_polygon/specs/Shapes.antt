@@ -1,4 +1,4 @@
--- For proofs alone: what is kept of a polygon.
+-- For proofs alone: the stored form of a polygon.
 use Rattle.std.specs.Prelude.{List}
 use Rattle.grid_exact.specs.declared.point.Point.{Point}
 use Rattle.center_polygon.specs.Spots.{Spot}

@@ -1,4 +1,4 @@
--- Some, some two, and some three of a list, each with those after it.
+-- Predicates of any one, any two and any three elements of a list, in list order.
 use Rattle.std.specs.Prelude.{List, [], ◌∷◌, ◌⊎◌, Bool, false, ◌||◌}
 use Rattle.std.specs.List.{list_any}
 
@@ -14,7 +14,7 @@ abbrev pub SomeThree : {A : Type 0} → (A → A → A → Type 0) → List A �
 SomeThree P [] = ⊥
 SomeThree P (a ∷ xs) = SomeTwo (P a) xs ⊎ SomeThree P xs
 
--- ---- the same as tests that compute
+-- ---- the same predicates as tests that compute
 
 abbrev pub some_two : {A : Type 0} → (A → A → Bool) → List A → Bool
 some_two p [] = false

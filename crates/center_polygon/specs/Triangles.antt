@@ -5,8 +5,8 @@ use Rattle.grid_exact.specs.Vector.{across_of}
 use Rattle.center_polygon.specs.Spots.{Spot, at}
 use Rattle.center_polygon.specs.Somes.{SomeThree, some_three}
 
--- twice the area of the triangle of three spots: positive where the third lies to the left of the way from the first to the second,
--- and just so the first to the left of the way from the second to the third
+-- twice the signed area of the triangle of three spots: positive where the third lies to the left of the vector from the first to the
+-- second, which is also where the first lies to the left of the vector from the second to the third
 abbrev pub turn : Spot → Spot → Spot → ℤ
 turn a b d = across_of (b.x -ℤ a.x) (b.y -ℤ a.y) (d.x -ℤ a.x) (d.y -ℤ a.y)
 
@@ -25,7 +25,7 @@ InTriangle a b d x = IsInside a b d x ⊎ IsInside a d b x
 unfoldable pub InSomeTriangle : List Spot → Point → Type 0
 InSomeTriangle spots x = SomeThree (λ a b d. InTriangle a b d (at x)) spots
 
--- ---- the same as tests that compute
+-- ---- the same predicates as tests that compute
 
 abbrev pub is_inside : Spot → Spot → Spot → Spot → Bool
 is_inside a b d x = (int_lt (pos 0) (turn a b d) && int_le (pos 0) (turn x a b)) && (int_le (pos 0) (turn x b d) && int_le (pos 0) (turn x d a))

@@ -38,7 +38,7 @@ impl Center {
         }
     }
 
-    /// The start of a line that lies here.
+    /// The same place as the start of a surface's line.
     pub fn start(&self) -> Start
         ensures x { result.x ≡ self.now.x }
         ensures y { result.y ≡ self.now.y }
@@ -49,7 +49,7 @@ impl Center {
         }
     }
 
-    /// The way from here to a point.
+    /// The vector from here to a point.
     pub fn to_point(&self, x: &Point) -> Vector
         ensures x { result.x ≡ x.now.x -ℤ self.now.x }
         ensures y { result.y ≡ x.now.y -ℤ self.now.y }
@@ -57,7 +57,7 @@ impl Center {
         self.start().to_point(x)
     }
 
-    /// The way from here to another center.
+    /// The vector from here to another center.
     pub fn to_center(&self, other: &Center) -> Vector
         ensures x { result.x ≡ other.now.x -ℤ self.now.x }
         ensures y { result.y ≡ other.now.y -ℤ self.now.y }
@@ -65,7 +65,7 @@ impl Center {
         self.start().to_start(&other.start())
     }
 
-    /// The way to here from a point.
+    /// The vector from a point to here.
     pub fn from_point(&self, x: &Point) -> Vector
         ensures x { result.x ≡ self.now.x -ℤ x.now.x }
         ensures y { result.y ≡ self.now.y -ℤ x.now.y }

@@ -1,13 +1,11 @@
-//! The convex polygon of the centers of an airport's arcs, 77.19(a): what the tangents of all of them enclose besides the capsules of each
-//! two. It is what the closed triangles of each three centers have, and is asked by a walk round it. Coordinates are whole tenths of a
-//! foot.
+//! The convex polygon of the centers of an airport's arcs: the area that the tangents of all arcs enclose beside the capsules of each two
+//! (77.19(a)). It is the union of the closed triangles of each three centers, and a walk round it tests whether a point lies in it.
+//! Coordinates are whole tenths of a foot.
 #![tactic(auto)]
 
 mod center;
 mod corners;
 mod polygon;
-#[cfg(test)]
-mod tests;
 mod triangle;
 mod triples;
 mod walk;

@@ -13,19 +13,19 @@ use grid_exact::{NoMemory, Point};
 use std::alloc::Global;
 use std::marker::Model;
 
-/// What is kept of a polygon.
+/// The stored form of a polygon.
 #[derive(Drop)]
 pub(crate) enum Shape {
     /// All centers are on one line: there is no polygon.
     Flat,
     /// The walk round it.
     Round(Walk),
-    /// No walk was found to lead round the centers, so that all triangles are asked. No centers are known that come to this.
+    /// No walk round all centers was found, so every triangle is tested. No centers are known for which this happens.
     Loose,
 }
 
-/// The convex polygon of some centers: the closed triangles of each three of them that are not on one line. It is seen as the list of
-/// the centers.
+/// The convex polygon of some centers: the union of the closed triangles of each three of them that are not on one line. Its view in
+/// contracts is the list of the centers.
 #[derive(Drop)]
 pub struct CenterPolygon {
     centers: Vec<Center>,
@@ -44,7 +44,7 @@ impl Model for CenterPolygon {
     ghost invariant = { λ p. IsShape p.centers.items p.shape };
 }
 
-/// What is to be kept of the polygon of some centers.
+/// The stored form of the polygon of some centers.
 fn kept(alloc: Global, centers: &[Center]) -> Result<Shape, NoMemory>
     ensures { IfOk result (λ s. IsShape centers.now s) }
 {
@@ -74,8 +74,8 @@ impl CenterPolygon {
         Ok(CenterPolygon { centers, shape })
     }
 
-    /// Whether a point lies in the closed triangle of some three of the centers that are not on one line: on the left hand all the way
-    /// round.
+    /// Whether a point lies in the closed triangle of some three of the centers that are not on one line, that is, right of no edge of the
+    /// walk.
     pub fn has(&self, x: &Point) -> bool
         ensures exact { IsTrue result ↔ InSomeTriangle self.now x.now }
         ensures test { result ≡ in_some_triangle self.now x.now }
@@ -84,16 +84,6 @@ impl CenterPolygon {
             Shape::Flat => false,
             Shape::Round(walk) => walk.keeps_left(x),
             Shape::Loose => is_in_some_triangle(self.centers.as_slice(), x),
-        }
-    }
-
-    /// How many corners the walk round it has, none where all centers are on one line; `None` where no walk was found.
-    #[cfg(test)]
-    pub(crate) fn corners(&self) -> Option<usize> {
-        match &self.shape {
-            Shape::Flat => Some(0),
-            Shape::Round(walk) => walk.rest.len().checked_add(1),
-            Shape::Loose => None,
         }
     }
 }

@@ -1,4 +1,4 @@
-//! Some three of the centers.
+//! Tests over all triples of centers.
 
 ghost use Rattle.std.specs.Prelude.{◌≡◌};
 ghost use Rattle.std.specs.List.{list_any};
@@ -10,14 +10,14 @@ use crate::center::Center;
 use crate::triangle::{is_in_triangle, is_turn};
 use grid_exact::Point;
 
-/// Whether a point lies in the triangle of two centers and of one of others.
+/// Whether a point lies in the triangle of two centers and any one of the others.
 fn is_in_triangle_with_two(a: &Center, b: &Center, others: &[Center], x: &Point) -> bool
     ensures { result ≡ list_any (λ d. in_triangle a.now b.now d (at x.now)) others.now }
 {
     others.iter().any(|d| is_in_triangle(a, b, d, x))
 }
 
-/// Whether a point lies in the triangle of a center and of some two of others.
+/// Whether a point lies in the triangle of a center and any two of the others.
 fn is_in_triangle_with(a: &Center, others: &[Center], x: &Point) -> bool
     ensures { result ≡ some_two (λ b d. in_triangle a.now b d (at x.now)) others.now }
 {
@@ -29,7 +29,7 @@ fn is_in_triangle_with(a: &Center, others: &[Center], x: &Point) -> bool
     false
 }
 
-/// Whether a point lies in the triangle of some three centers.
+/// Whether a point lies in the triangle of any three centers.
 #[tactic(auto, unfolding(crate::specs::Triangles::in_some_triangle))]
 pub(crate) fn is_in_some_triangle(centers: &[Center], x: &Point) -> bool
     ensures { result ≡ in_some_triangle centers.now x.now }
@@ -42,14 +42,14 @@ pub(crate) fn is_in_some_triangle(centers: &[Center], x: &Point) -> bool
     false
 }
 
-/// Whether one of others is not on one line with two centers.
+/// Whether any of the others is not on one line with two centers.
 fn is_bent_with_two(a: &Center, b: &Center, others: &[Center]) -> bool
     ensures { result ≡ list_any (is_bent a.now b.now) others.now }
 {
     others.iter().any(|d| is_turn(a, b, d))
 }
 
-/// Whether some two of others are not on one line with a center.
+/// Whether any two of the others are not on one line with a center.
 pub(crate) fn is_bent_with(a: &Center, others: &[Center]) -> bool
     ensures { result ≡ some_two (is_bent a.now) others.now }
 {

@@ -9,29 +9,29 @@ use crate::center::Center;
 use crate::triangle::{is_left_turn, keeps_center, keeps_point};
 use grid_exact::Point;
 
-/// A walk from corner to corner, and from the last one home to the first.
+/// A walk from corner to corner, and from the last one back to the first.
 #[derive(Drop)]
 pub(crate) struct Walk {
     pub(crate) first: Center,
-    /// The further corners.
+    /// The corners after the first two.
     pub(crate) rest: Vec<Center>,
 }
 
-/// Whether a center is one of some.
+/// Whether a center is in the list.
 fn is_among(centers: &[Center], a: &Center) -> bool
     ensures { result ≡ is_among_of centers.now a.now }
 {
     centers.iter().any(|center| a.is_at(center))
 }
 
-/// Whether each of some corners is one of the centers.
+/// Whether all of the corners are among the centers.
 fn are_among(centers: &[Center], corners: &[Center]) -> bool
     ensures { result ≡ list_all (is_among_of centers.now) corners.now }
 {
     corners.iter().all(|corner| is_among(centers, corner))
 }
 
-/// Whether each further corner, seen from the first one, lies to the left of the one before.
+/// Whether each further corner, seen from the first one, lies to the left of the corner before it.
 fn turns_on(first: &Center, second: &Center, rest: &[Center]) -> bool
     ensures { result ≡ turns_on_of first.now second.now rest.now }
 {
@@ -46,7 +46,7 @@ fn turns_on(first: &Center, second: &Center, rest: &[Center]) -> bool
 }
 
 impl Walk {
-    /// Whether a point is outside no edge.
+    /// Whether the point is outside no edge.
     pub(crate) fn keeps_left(&self, x: &Point) -> bool
         ensures { result ≡ keeps_left (at x.now) self.now.first self.now.first self.now.rest.items }
     {
@@ -60,7 +60,7 @@ impl Walk {
         keeps_point(x, &corner, &self.first)
     }
 
-    /// Whether a center is outside no edge.
+    /// Whether the center is outside no edge.
     fn holds(&self, center: &Center) -> bool
         ensures { result ≡ keeps_left center.now self.now.first self.now.first self.now.rest.items }
     {
@@ -74,7 +74,7 @@ impl Walk {
         keeps_center(center, &corner, &self.first)
     }
 
-    /// Whether there are three corners or more, and they turn on.
+    /// Whether there are three corners or more, each further left than the one before.
     fn is_fan(&self) -> bool
         ensures { result ≡ is_fan self.now.first self.now.rest.items }
     {
@@ -86,12 +86,13 @@ impl Walk {
 
     /// Whether none of the centers is outside an edge.
     fn holds_all(&self, centers: &[Center]) -> bool
-        ensures { result ≡ list_all (λ c. keeps_left c self.now.first self.now.first self.now.rest.items) centers.now }
+        ensures { result ≡ list_all (λ c. keeps_left c self.now.first self.now.first
+            self.now.rest.items) centers.now }
     {
         centers.iter().all(|center| self.holds(center))
     }
 
-    /// Whether it leads round the centers: a test of what the walk should have come to, which is proved nowhere else.
+    /// Whether the walk goes round all centers. This run-time test takes the place of a proof about the walk.
     pub(crate) fn is_round(&self, centers: &[Center]) -> bool
         ensures { IsTrue result ↔ IsRound centers.now self.now.first self.now.rest.items }
     {

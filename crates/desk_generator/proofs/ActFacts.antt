@@ -11,9 +11,9 @@ use Rattle.airfields.specs.declared.runway.Runway.{Runway}
 use Rattle.airfields.specs.declared.runway.RunwayEnd.{RunwayEnd}
 use Rattle.airfields.specs.Sites.{Site, IsSite}
 use Rattle.airport_register.specs.declared.amendment.Amendment.TheVariants.{PutAirport, PutRunway}
-use Rattle.case_values.specs.declared.act.Act.{Act}
-use Rattle.case_values.specs.declared.act.Act.TheVariants as acts
-use Rattle.case_values.specs.declared.act.Impact.{Impact}
+use Rattle.case_requests.specs.declared.act.Act.{Act}
+use Rattle.case_requests.specs.declared.act.Act.TheVariants as acts
+use Rattle.case_requests.specs.declared.act.Impact.{Impact}
 use Rattle.whole_number.specs.Whole.{HasNineDigits}
 use Rattle.wire_values.specs.Words.{IsWord, IsAirfieldName, kind_word}
 use Rattle.wire_values.specs.Wanted.{Fits, any_number, mobile_limit}

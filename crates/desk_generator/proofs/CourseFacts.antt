@@ -1,12 +1,14 @@
 -- Steps one after the other.
 use Rattle.std.proofs.Common.{arith, ◌≡◌, ◌≢◌, ◌<◌, ◌+◌, ◌-◌, ℕ, suc, refl, sym, ap, ◌∙◌}
 use Rattle.case_records.specs.declared.refusal.Refusal.TheVariants as refusals
-use Rattle.desk_rules.specs.States.{State}
-use Rattle.desk_rules.specs.Machine.{Answer as Decided, after}
+use Rattle.desk_machine.specs.States.{State}
+use Rattle.desk_machine.specs.Machine.{Answer as Decided, state_after}
 use Rattle.filing_desk.specs.declared.answer.Answer.{Answer}
 use Rattle.filing_desk.specs.declared.answer.Answer.TheVariants as answers
-use Rattle.filing_desk.specs.Clerks.{Clerking, Advances, HasCause}
-use Rattle.filing_desk.proofs.NoFaults.{never_rose}
+use Rattle.filing_desk.specs.Clerks.{Clerking, Advances}
+use Rattle.filing_desk.specs.Handed.{HasCause}
+use Rattle.oe_keeper.specs.contracts.no_keeper.NoKeeperKeeper.TheImpl as unkept
+use Rattle.oe_keeper.specs.declared.no_keeper.NoKeeper.{NoKeeper}
 use Rattle.desk_generator.specs.Desks.{Course, each}
 
 -- ---- a loop of steps
@@ -24,9 +26,10 @@ each_last step n k c = let e : n - n ≡ 0 = omega arith in ap (λ m. each step 
 
 -- ---- one request
 
--- the desk is as the rules of the desk say, unless memory was wanting, where its keeper never fails
-pub went_on : (d : Decided) (k l : Clerking) (a : Answer) → Advances d k l a → HasCause k l a → l.faults ≡ 0 → a ≢ answers.Refused refusals.NoMemory → l.state ≡ after k.state d
-went_on d k l (answers.Accepted number outcome) h cause none n = h.1
-went_on d k l (answers.Refused why) h cause none n =
-    let no = h.0 (λ e. n (ap answers.Refused e)) (λ e. never_rose k.faults l.faults (cause.failed e) none) in
-    h.1 ∙ sym (ap (after k.state) no)
+-- the desk is as the rules of the desk say, unless memory was wanting, since a keeper of nothing never fails
+pub went_on : (d : Decided) (k l : Clerking NoKeeper) (a : Answer) → Advances d k l a → HasCause unkept.ghosts.IsSteady unkept.ghosts.faults d k.keeper l.keeper a
+    → a ≢ answers.Refused refusals.NoMemory → l.state ≡ state_after k.state d
+went_on d k l (answers.Accepted number outcome) h cause n = h.1
+went_on d k l (answers.Refused why) h cause n =
+    let no = h.0 (λ e. n (ap answers.Refused e)) (λ e. (cause.failed e).1.unsteady tt) in
+    h.1 ∙ sym (ap (state_after k.state) no)

@@ -10,7 +10,7 @@ use Rattle.airfields.specs.Sites.{Site, site}
 use Rattle.grid_exact.specs.declared.point.Point.{Point}
 use Rattle.desk_generator.specs.declared.drawing.DrawnAirport.{DrawnAirport}
 use Rattle.desk_generator.specs.declared.drawing.TheConstants.{ELEVATIONS, LEAST_ARM, ARMS, LEAST_HEIGHT, HEIGHTS}
-use Rattle.desk_generator.specs.Draws.{next, advanced, drawn, coordinate, approach}
+use Rattle.desk_generator.specs.Draws.{next, state_of_draw, drawn, coordinate, approach}
 use Rattle.desk_generator.specs.Requests.{IsToldAirport}
 use Rattle.desk_generator.proofs.NameFacts.{field_id, is_runway_name}
 use Rattle.desk_generator.specs.Drawings.{point, airport_name, runway_end, at_least, airport, no_flags, structure}

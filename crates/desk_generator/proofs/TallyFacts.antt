@@ -6,8 +6,8 @@ use Rattle.std.proofs.lemmas.Grind.{common_steps}
 use Rattle.std.proofs.lemmas.Option.{slice_get_cases, slice_get_within}
 use Rattle.airfields.specs.Sites.{Site}
 use Rattle.case_records.specs.declared.case.KeptCase.{KeptCase}
-use Rattle.desk_rules.specs.States.{case_at}
-use Rattle.desk_rules.specs.Evaluations.{site_of}
+use Rattle.desk_machine.specs.States.{case_at}
+use Rattle.desk_machine.specs.Evaluations.{site_of}
 
 -- from a number to a place
 case_next : (cases : List KeptCase) (k : ℕ) → case_at cases (k + 1) ≡ slice_get cases k

@@ -1,4 +1,4 @@
--- Draws by a fixed rule.
+-- A pseudo-random source by a fixed rule.
 use Rattle.std.specs.Prelude.{ℕ, zero, suc, ◌+◌, ◌*◌, ◌/◌, ◌%◌, ◌^◌, ◌==◌, ℤ, pos, ◌-ℤ◌, if◌then◌else◌}
 use Rattle.runway_classes.specs.declared.ApproachKind.{ApproachKind}
 use Rattle.runway_classes.specs.declared.ApproachKind.TheVariants.{Visual, NonprecisionAbove, NonprecisionLow, Precision}
@@ -8,12 +8,12 @@ use Rattle.desk_generator.specs.declared.draws.TheConstants.{MULTIPLIER, INCREME
 unfoldable pub next : ℕ → ℕ
 next s = (s * MULTIPLIER + INCREMENT) % 2 ^ 64
 
--- and after so many
-abbrev pub advanced : ℕ → ℕ → ℕ
-advanced zero s = s
-advanced (suc k) s = advanced k (next s)
+-- and after this many draws
+abbrev pub state_of_draw : ℕ → ℕ → ℕ
+state_of_draw zero s = s
+state_of_draw (suc k) s = state_of_draw k (next s)
 
--- what is drawn of n numbers where the number of the source is s after the draw
+-- a draw below n, where the number of the source is s after the draw
 unfoldable pub drawn : ℕ → ℕ → ℕ
 drawn n s = s / LOW_PART % n
 

@@ -1,4 +1,4 @@
--- The requests of the rule.
+-- The generated requests.
 use Rattle.std.specs.Prelude.{◌≡◌, ℕ, List, codes, pos, refl, Some, None, Option, true, false}
 use Rattle.std.specs.Fmt.{decimal}
 use Rattle.jiff_core.specs.declared.civil.date.Date.{Date}
@@ -10,9 +10,9 @@ use Rattle.airfields.specs.declared.runway.RunwayEnd.{RunwayEnd}
 use Rattle.airfields.specs.Sites.{Site}
 use Rattle.airfields.specs.Names.{IsFieldId, IsRunwayName}
 use Rattle.airport_register.specs.declared.amendment.Amendment.TheVariants.{PutAirport, PutRunway}
-use Rattle.case_values.specs.declared.act.Act.{Act}
-use Rattle.case_values.specs.declared.act.Act.TheVariants as acts
-use Rattle.case_values.specs.declared.act.Impact.{Impact}
+use Rattle.case_requests.specs.declared.act.Act.{Act}
+use Rattle.case_requests.specs.declared.act.Act.TheVariants as acts
+use Rattle.case_requests.specs.declared.act.Impact.{Impact}
 use Rattle.wire_cursor.specs.Shape.{HasShape}
 use Rattle.wire_requests.specs.Changes.{Asked}
 use Rattle.wire_requests.specs.Forms.{act_shape}
@@ -51,7 +51,7 @@ start_day =
       day_in = (civil_parts (pos 2026) 3 1 refl).2;
     }
 
--- ---- what is asked for
+-- ---- the contents
 
 -- an airport, for public use
 abbrev pub put_airport : DrawnAirport → Act
@@ -61,7 +61,7 @@ put_airport a = acts.Amend (PutAirport a.id PublicUse a.at a.elevation)
 abbrev pub put_runway : DrawnAirport → Act
 put_runway a = acts.Amend (PutRunway a.id a.runway)
 
--- and with visual approaches alone
+-- the end with a visual approach
 abbrev pub visual_end : RunwayEnd → RunwayEnd
 visual_end e = record e { kind = Visual }
 
@@ -77,12 +77,12 @@ notice site = acts.File (record { start = start_day; permit = None; fcc = None; 
 
 -- ---- for proofs alone
 
--- an act that a record can tell
+-- an act that a record can spell
 pub record HasRecord (act : Act) : Type 0 where
   pub valid : IsValidAct act
   pub shape : (before : List ℕ) → HasShape (act_shape (act_form act)) before (act_fields act)
 
--- an airport whose numbers a record can tell
+-- an airport whose numbers a record can spell
 pub record IsToldAirport (a : DrawnAirport) : Type 0 where
   pub elevation : HasNineDigits a.elevation
   pub end1 : HasNineDigits a.runway.end1.z

@@ -1,7 +1,7 @@
-//! What the requests ask for.
+//! The contents of the generated requests.
 
 ghost use Rattle.std.specs.Prelude.{◌≡◌, ◌≤◌};
-ghost use Rattle.case_values.specs.declared.act.Act.TheVariants as acts;
+ghost use Rattle.case_requests.specs.declared.act.Act.TheVariants as acts;
 ghost use Rattle.wire_values.specs.Words.{IsAirfieldName};
 ghost use Rattle.wire_values.specs.declared.counts.TheConstants.{CASE_LIMIT};
 ghost use Rattle.desk_generator.specs.Requests.{HasRecord, IsToldAirport, opening_day, visual_end};
@@ -11,7 +11,7 @@ use crate::drawing::DrawnAirport;
 use crate::names::{opening_date, start_date};
 use airfields::{Category, Filing, Runway, RunwayEnd};
 use airport_register::Amendment;
-use case_values::{Act, Impact, Submission};
+use case_requests::{Act, Impact, Submission};
 use runway_classes::ApproachKind;
 
 /// The desk's day.
@@ -37,7 +37,7 @@ pub(crate) fn put_airport(airport: &DrawnAirport) -> Act
     })
 }
 
-/// Its runway.
+/// The airport's runway.
 #[tactic(auto, using(crate::proofs::ActFacts::runway_told))]
 pub(crate) fn put_runway(airport: &DrawnAirport) -> Act
     requires { IsToldAirport airport.now }
@@ -50,7 +50,7 @@ pub(crate) fn put_runway(airport: &DrawnAirport) -> Act
     })
 }
 
-/// This end of a runway with visual approaches alone.
+/// The runway end with a visual approach.
 fn visual_end(end: &RunwayEnd) -> RunwayEnd
     ensures { result ≡ visual_end end.now }
 {
@@ -60,7 +60,7 @@ fn visual_end(end: &RunwayEnd) -> RunwayEnd
     }
 }
 
-/// Its runway again, with visual approaches alone.
+/// The airport's runway with visual approaches at both ends.
 #[tactic(auto, using(crate::proofs::ActFacts::visual_told))]
 pub(crate) fn put_visual(airport: &DrawnAirport) -> Act
     requires { IsToldAirport airport.now }

@@ -1,10 +1,10 @@
-//! Requests to the clerk.
+//! Makes the generated requests to the clerk.
 
 ghost use Rattle.std.specs.Prelude.{◌≡◌, ◌≢◌, ◌<◌, OnOk, false};
-ghost use Rattle.airfield_findings.specs.Verdicts.{is_obstruction};
+ghost use Rattle.finding_lists.specs.Verdicts.{is_obstruction};
 ghost use Rattle.oe_findings.specs.List.{findings_of};
 ghost use Rattle.case_records.specs.declared.refusal.Refusal.TheVariants as refusals;
-ghost use Rattle.desk_rules.specs.Machine.{after};
+ghost use Rattle.desk_machine.specs.Machine.{state_after};
 ghost use Rattle.filing_desk.specs.Answers.{decision};
 ghost use Rattle.filing_desk.specs.declared.answer.Answer.TheVariants as answers;
 ghost use Rattle.desk_generator.specs.Requests.{HasRecord, request};
@@ -14,17 +14,17 @@ use crate::draws::Draws;
 use crate::names::{caller, key};
 use airfields::Filing;
 use case_records::Refusal;
-use case_values::{Act, Impact};
+use case_requests::{Act, Impact};
 use filing_desk::{Answer, Clerk};
 use grid_exact::{NoMemory, Steps};
 use oe_findings::Sky;
-use placed_keeper::NoKeeper;
+use oe_keeper::NoKeeper;
 use std::alloc::Global;
 use std::marker::{Brand, Model};
 use std::sync::ledger::{Blank, Ledger};
 use wire_requests::Change;
 
-/// Who makes requests by draws, seen as how far the rule has come.
+/// The generator: its source of draws, its clerk, and its number of requests so far.
 #[derive(Drop)]
 pub(crate) struct Generator {
     pub(crate) alloc: Global,
@@ -71,7 +71,7 @@ fn request(number: u32, act: Act) -> Change
     }
 }
 
-/// Whether an answer is want of memory.
+/// Whether a request was refused for lack of memory.
 fn is_wanting(answer: &Answer) -> bool
     ensures { result ≡ false → answer.now ≢ answers.Refused refusals.NoMemory }
 {
@@ -81,11 +81,10 @@ fn is_wanting(answer: &Answer) -> bool
 /// Makes a request to the clerk.
 #[tactic(auto, using(crate::proofs::CourseFacts::went_on))]
 fn make(alloc: Global, clerk: &mut Clerk<NoKeeper>, c: &Change) -> Result<(), NoMemory>
-    ensures { OnOk result (clerk.new.state ≡ after clerk.old.state (decision clerk.old.state c.now)) }
+    ensures { OnOk result (clerk.new.state ≡ state_after clerk.old.state
+        (decision clerk.old.state c.now)) }
 {
     let answer = clerk.apply(alloc, c);
-    // a keeper of nothing never fails
-    clerk.keeper();
     if is_wanting(&answer) {
         return Err(NoMemory);
     }
@@ -110,7 +109,7 @@ impl Generator {
         make(self.alloc, &mut self.clerk, &request(number, act))
     }
 
-    /// The finding that a determination on this structure is to have.
+    /// The finding for a determination on this structure.
     #[tactic(auto, unfolding(crate::specs::Desks::finding))]
     pub(crate) fn finding(&self, filing: &Filing) -> Option<Impact>
         ensures { result ≡ finding self.now.state filing.now }

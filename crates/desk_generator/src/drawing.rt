@@ -1,8 +1,8 @@
-//! What is drawn: airports, each with a runway, and structures.
+//! Draws airports, each with a runway, and structures.
 
 ghost use Rattle.std.specs.Prelude.{◌≡◌, ◌≤ℤ◌, ◌<ℤ◌, neg_ℤ, pos};
 ghost use Rattle.wire_values.specs.Words.{IsAirfieldName};
-ghost use Rattle.desk_generator.specs.Draws.{next, advanced};
+ghost use Rattle.desk_generator.specs.Draws.{next, state_of_draw};
 ghost use Rattle.desk_generator.specs.Drawings.{point, runway_end, at_least, airport, structure};
 ghost use Rattle.desk_generator.specs.Requests.{IsToldAirport};
 
@@ -12,22 +12,22 @@ use airfields::{FieldId, Filing, Flags, Runway, RunwayEnd, StructureKind};
 use grid_exact::Point;
 use runway_classes::ApproachKind;
 
-/// An elevation is drawn below this, in tenths of a foot.
+/// Elevations are drawn from 0 to below this, in tenths of a foot.
 pub const ELEVATIONS: u64 = 5_000;
 
-/// An end of a runway is at least so far from the reference point, in tenths of a foot.
+/// The least distance of a runway end from the reference point, in tenths of a foot.
 pub const LEAST_ARM: i64 = 20_000;
 
-/// It is less than so much farther, in tenths of a foot.
+/// The range above `LEAST_ARM` from which that distance is drawn, in tenths of a foot.
 pub const ARMS: u64 = 20_000;
 
-/// A structure is at least so high, in tenths of a foot.
+/// The least height of a structure, in tenths of a foot.
 pub const LEAST_HEIGHT: i64 = 1;
 
-/// It is less than so much higher, in tenths of a foot.
+/// The range above `LEAST_HEIGHT` from which heights are drawn, in tenths of a foot.
 pub const HEIGHTS: u64 = 6_000;
 
-/// An airport that is drawn, with its one runway, which runs from west to east through the reference point, at the airport's elevation.
+/// A drawn airport with its one runway, which runs from west to east through the reference point, at the airport's elevation.
 #[derive(Clone, Copy, Debug, PartialEq, Eq)]
 pub struct DrawnAirport {
     /// Its name.
@@ -84,7 +84,7 @@ impl Draws {
     pub(crate) fn airport(&mut self, number: u32) -> DrawnAirport
         ensures value { result ≡ airport number self.old }
         ensures told { IsToldAirport result }
-        ensures source { self.new ≡ advanced 7 self.old }
+        ensures source { self.new ≡ state_of_draw 7 self.old }
     {
         let x = self.coordinate();
         let y = self.coordinate();
@@ -111,7 +111,7 @@ impl Draws {
     pub(crate) fn structure(&mut self) -> Filing
         ensures value { result ≡ structure self.old }
         ensures named { IsAirfieldName result.on }
-        ensures source { self.new ≡ advanced 4 self.old }
+        ensures source { self.new ≡ state_of_draw 4 self.old }
     {
         let x = self.coordinate();
         let y = self.coordinate();

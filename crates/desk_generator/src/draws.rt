@@ -1,4 +1,4 @@
-//! Draws by a fixed rule.
+//! A pseudo-random source by a fixed rule.
 
 ghost use Rattle.std.specs.Prelude.{◌≡◌, ◌<◌, ◌^◌, ◌<ℤ◌, ◌≤ℤ◌, neg_ℤ, pos};
 ghost use Rattle.desk_generator.specs.Draws.{next, drawn, coordinate, approach};
@@ -6,25 +6,25 @@ ghost use Rattle.desk_generator.specs.Draws.{next, drawn, coordinate, approach};
 use runway_classes::ApproachKind;
 use std::marker::Model;
 
-/// What the source is multiplied by before a draw, modulo 2^64.
+/// Each draw multiplies the source's number by this, modulo 2^64.
 pub const MULTIPLIER: u64 = 6_364_136_223_846_793_005;
 
-/// What is added then.
+/// Each draw then adds this.
 pub const INCREMENT: u64 = 1_442_695_040_888_963_407;
 
-/// A draw goes by the high bits of the source: it is divided by this.
+/// The source's number is divided by this, so that a draw uses its high bits.
 pub const LOW_PART: u64 = 0x2_0000_0000;
 
-/// A coordinate is one of so many, in tenths of a foot, about 0.
+/// The number of coordinates that can be drawn, in tenths of a foot, symmetric about 0.
 pub const COORDINATES: u64 = 1_000_001;
 
 /// The greatest coordinate that is drawn, in tenths of a foot; the least is its opposite.
 pub const FARTHEST: i64 = 500_000;
 
-/// How many kinds of approaches are drawn.
+/// The number of kinds of approaches.
 const APPROACHES: u64 = 4;
 
-/// A source of draws, seen as its number.
+/// A pseudo-random source, seen as its number.
 #[derive(Drop)]
 pub struct Draws {
     source: u64,

@@ -1,4 +1,4 @@
-//! The steps of the rule, and the whole.
+//! The steps of the generator, and the whole run.
 
 ghost use Rattle.std.specs.Prelude.{◌≡◌, ◌≤◌, IfOk, OnOk};
 ghost use Rattle.wire_values.specs.declared.counts.TheConstants.{CASE_LIMIT};
@@ -9,13 +9,13 @@ use crate::asking::Generator;
 use crate::draws::Draws;
 use filing_desk::Clerk;
 use grid_exact::NoMemory;
-use placed_keeper::NoKeeper;
+use oe_keeper::NoKeeper;
 use std::alloc::Global;
 
-/// There are as many airports as cases, but at most so many.
+/// The greatest number of airports; there are as many as cases, up to this.
 pub const MOST_AIRPORTS: u32 = 200;
 
-/// The greatest number of cases that are made.
+/// The greatest number of cases.
 pub const COUNT_LIMIT: u32 = 20_000;
 
 impl Generator {
@@ -42,7 +42,7 @@ impl Generator {
         self.ask(determine(number, finding))
     }
 
-    /// Draws an airport again, and changes its runway where its number is odd.
+    /// Draws an airport again, and makes its runway visual where the airport's number is odd.
     #[tactic(auto, unfolding(crate::specs::Desks::revise))]
     fn revise(&mut self, number: u32) -> Result<(), NoMemory>
         ensures { OnOk result (self.new ≡ revise number self.old) }
@@ -54,7 +54,7 @@ impl Generator {
         Ok(())
     }
 
-    /// Registers so many airports.
+    /// Draws and registers `count` airports.
     #[tactic(auto, using(crate::proofs::CourseFacts::each_first, crate::proofs::CourseFacts::each_next, crate::proofs::CourseFacts::each_last))]
     fn register_all(&mut self, count: u32) -> Result<(), NoMemory>
         ensures { OnOk result (self.new ≡ each register count 1 self.old) }
@@ -65,7 +65,7 @@ impl Generator {
         Ok(())
     }
 
-    /// Files so many notices.
+    /// Draws `count` structures, files their notices and has their cases determined.
     #[tactic(auto, using(crate::proofs::CourseFacts::each_first, crate::proofs::CourseFacts::each_next, crate::proofs::CourseFacts::each_last))]
     fn file_all(&mut self, count: u32) -> Result<(), NoMemory>
         requires { count ≤ CASE_LIMIT }
@@ -77,7 +77,7 @@ impl Generator {
         Ok(())
     }
 
-    /// Draws so many airports again, and changes the runway of every other one.
+    /// Draws `count` airports again, and makes the runway of every other one visual.
     #[tactic(auto, using(crate::proofs::CourseFacts::each_first, crate::proofs::CourseFacts::each_next, crate::proofs::CourseFacts::each_last))]
     fn revise_all(&mut self, count: u32) -> Result<(), NoMemory>
         ensures { OnOk result (self.new ≡ each revise count 1 self.old) }
@@ -89,7 +89,7 @@ impl Generator {
     }
 }
 
-/// The clerk to whom the requests of the rule were made, by the draws from `seed`, for `count` cases.
+/// Generates a desk of `count` cases with the draws from `seed`, and returns its clerk.
 ///
 /// # Errors
 ///

@@ -1,4 +1,4 @@
-//! A desk that is made by requests of a fixed pseudo-random rule, to try the program on.
+//! Generates a desk by requests of a fixed pseudo-random rule, to try the program on.
 //!
 //! The requests come from the caller `g`, under keys that count from 1: the day 2026-01-15, airports with one runway each, notices that
 //! are determined at once, and the runways of every other airport again, with visual approaches alone. Lengths, coordinates and

@@ -42,7 +42,7 @@ pub(crate) fn runway_name() -> RunwayName
     }
 }
 
-/// Who asks.
+/// The caller's name, `g`.
 #[tactic(auto, using(crate::proofs::NameFacts::is_caller))]
 pub(crate) fn caller() -> Word
     ensures { result ≡ codes "g" }

@@ -1,25 +1,25 @@
-//! What a desk holds, counted.
+//! The counts of a desk.
 
 ghost use Rattle.std.specs.Prelude.{◌≡◌, ◌-◌, ◌^◌, length, min};
 ghost use Rattle.desk_generator.specs.Tallies.{tally_of};
 
 use filing_desk::Clerk;
-use placed_keeper::NoKeeper;
+use oe_keeper::NoKeeper;
 
-/// How much a desk holds.
+/// The counts of a desk.
 #[derive(Clone, Copy, Debug, PartialEq, Eq)]
 pub struct Tally {
-    /// How many airfields there are.
+    /// The number of airfields.
     pub airfields: usize,
-    /// How many cases there are.
+    /// The number of cases.
     pub cases: u32,
-    /// How many requests were accepted.
+    /// The number of accepted requests.
     pub entries: u64,
-    /// How many cases are marked for review.
+    /// The number of cases marked for review.
     pub marked: u32,
 }
 
-/// How many cases there are; no desk has as many as the type tells.
+/// The number of cases; no desk has as many as a `u32` can count.
 fn count_cases(clerk: &Clerk<NoKeeper>) -> u32
     ensures { result ≡ min (length clerk.now.state.cases) (2 ^ 32 - 1) }
 {
@@ -34,7 +34,7 @@ fn count_cases(clerk: &Clerk<NoKeeper>) -> u32
 }
 
 impl Tally {
-    /// How much the desk of this clerk holds.
+    /// Counts the desk of this clerk.
     pub fn of(clerk: &Clerk<NoKeeper>) -> Tally
         ensures { result ≡ tally_of clerk.now.state }
     {

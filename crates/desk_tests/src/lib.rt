@@ -1,19 +1,23 @@
-//! Worked values of dates, of the rows that a desk keeps, and of the generator.
+//! Tests of records, replies, dates, rows, reports and desks.
+//!
+//! They call what no worked session reaches: each generic call at a concrete type, limits, and values that no session has.
 #![tactic(auto)]
 
 #[cfg(test)]
+mod change_tests;
+#[cfg(test)]
+mod clerk_tests;
+#[cfg(test)]
+mod command_tests;
+#[cfg(test)]
 mod date_tests;
-#[cfg(test)]
-mod desk_row_tests;
-#[cfg(test)]
-mod filing_row_tests;
 #[cfg(test)]
 mod generator_tests;
 #[cfg(test)]
-mod kept_row_tests;
+mod record_tests;
 #[cfg(test)]
-mod outcome_tests;
+mod reply_tests;
 #[cfg(test)]
-mod receipt_row_tests;
+mod row_tests;
 #[cfg(test)]
-mod written_change_tests;
+mod value_tests;

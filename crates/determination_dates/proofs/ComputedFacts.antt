@@ -15,7 +15,7 @@ use Rattle.determination_dates.specs.Notices.{by_days, days_late}
 use Rattle.determination_dates.specs.Days.{IsDay, IsLimited, IsExpiryDay}
 use Rattle.determination_dates.specs.Deadlines.{IsDeadline}
 use Rattle.determination_dates.specs.Effects.{expiry_day, last_day, IsKept, IsInRange, IsWithinRange}
-use Rattle.determination_dates.specs.Determinations.{fresh, ordinary_day, HasDeadline, IsIssued, affirmed_on, extended_to}
+use Rattle.determination_dates.specs.Determinations.{fresh_record, ordinary_day, HasDeadline, IsIssued, record_affirmed_on, record_extended_to}
 use Rattle.determination_dates.specs.Dates.{is_day, date_on, limited_date}
 use Rattle.determination_dates.specs.Computed.{Computes, affirmed_record, extended_record, expiry_date, last_date, timeliness_of, with_some, deadline_date, within_range, in_range, reviewable_record, issued_record}
 use Rattle.determination_dates.proofs.DateFacts.{date_again, day_true, true_day, limited_by, limited_none, limited_sound}
@@ -49,7 +49,7 @@ some_by : (b : Bool) (z : ℤ) (r s : Record) → is_day z ≡ b → (if b then 
 some_by true z r s t e = (same_Some r s e, true_day z t)
 some_by false z r s t e = absurd (none-some s e)
 
-within_some : (x : Option ℤ) (r s : Record) → within_range x r ≡ Some s → (r ≡ s) × IfSome x IsDay
+pub within_some : (x : Option ℤ) (r s : Record) → within_range x r ≡ Some s → (r ≡ s) × IfSome x IsDay
 within_some None r s e = (same_Some r s e, tt)
 within_some (Some z) r s e = some_by (is_day z) z r s refl e
 
@@ -59,10 +59,10 @@ whole r f e h = ap in_range e ∙ in_range_is (expiry_day r) r h.computed.expiry
 -- ---- issuance: what is made is what is computed
 
 made_of : (issued : Date) (decision : Decision) (closed : List Date) (d o : Date) → IsDeadline closed (epoch_day issued) (epoch_day d) → epoch_day o ≡ ordinary_day (epoch_day issued) (Some (epoch_day d))
-    → IsIssued issued decision true closed (fresh issued decision (Some d) o)
+    → IsIssued issued decision true closed (fresh_record issued decision (Some d) o)
 made_of issued decision closed d o h e = record { on = refl; as_decided = refl; deadline = h; ordinary = e; pending = refl; affirmed = refl; set_expiry = refl; extensions = refl }
 
-final_of : (issued : Date) (decision : Decision) (closed : List Date) → IsIssued issued decision false closed (fresh issued decision None issued)
+final_of : (issued : Date) (decision : Decision) (closed : List Date) → IsIssued issued decision false closed (fresh_record issued decision None issued)
 final_of issued decision closed = record { on = refl; as_decided = refl; deadline = tt; ordinary = refl; pending = refl; affirmed = refl; set_expiry = refl; extensions = refl }
 
 reviewable_made : (issued : Date) (decision : Decision) (closed : List Date) (r : Record) (o : Option Date) → r.deadline ≡ o → IsIssued issued decision true closed r → IsWithinRange r
@@ -72,10 +72,10 @@ reviewable_made issued decision closed r (Some d) is h w has =
     let l : IsLimited d = subst (λ o. IfSome o IsLimited) is w.kept.deadline in
     let day : ordinary_day (epoch_day issued) (Some (epoch_day d)) ≡ epoch_day r.ordinary = ap (λ o. ordinary_day (epoch_day issued) (option_map epoch_day o)) (sym is) ∙ sym h.ordinary in
     ap (λ o. with_some o (reviewable_record issued decision)) (deadline_made closed issued d has l)
-    ∙ ap (λ o. with_some o (λ o. in_range (fresh issued decision (Some d) o))) (limited_by _ r.ordinary w.kept.ordinary day)
+    ∙ ap (λ o. with_some o (λ o. in_range (fresh_record issued decision (Some d) o))) (limited_by _ r.ordinary w.kept.ordinary day)
     ∙ whole r _ (one_record issued decision true closed _ r (made_of issued decision closed d r.ordinary has (sym day)) h) w
 
-issued_made : (issued : Date) (decision : Decision) (t : Bool) (closed : List Date) (r : Record) → IsIssued issued decision t closed r → IsWithinRange r → issued_record issued decision t closed ≡ Some r
+pub issued_made : (issued : Date) (decision : Decision) (t : Bool) (closed : List Date) (r : Record) → IsIssued issued decision t closed r → IsWithinRange r → issued_record issued decision t closed ≡ Some r
 issued_made issued decision true closed r h w = reviewable_made issued decision closed r r.deadline refl h w h.deadline
 issued_made issued decision false closed r h w = whole r _ (one_record issued decision false closed _ r (final_of issued decision closed) h) w
 
@@ -84,18 +84,18 @@ issued_made issued decision false closed r h w = whole r _ (one_record issued de
 abbrev IsMade : Date → Decision → Bool → List Date → Record → Type 0
 IsMade issued decision t closed r = IsIssued issued decision t closed r × IsWithinRange r
 
-fresh_range : (issued : Date) (decision : Decision) (d : Option Date) (o : Date) → IsLimited issued → IfSome d IsLimited → IsLimited o → IfSome (expiry_day (fresh issued decision d o)) IsDay
-    → IsWithinRange (fresh issued decision d o)
+fresh_range : (issued : Date) (decision : Decision) (d : Option Date) (o : Date) → IsLimited issued → IfSome d IsLimited → IsLimited o → IfSome (expiry_day (fresh_record issued decision d o)) IsDay
+    → IsWithinRange (fresh_record issued decision d o)
 fresh_range issued decision d o i h k x =
-    let kept : IsKept (fresh issued decision d o) = record { issued = i; deadline = h; ordinary = k; affirmed = tt; set_expiry = tt } in
-    record { kept = kept; computed = record { effective = effective_limited (fresh issued decision d o) kept; expiry = x } }
+    let kept : IsKept (fresh_record issued decision d o) = record { issued = i; deadline = h; ordinary = k; affirmed = tt; set_expiry = tt } in
+    record { kept = kept; computed = record { effective = effective_limited (fresh_record issued decision d o) kept; expiry = x } }
 
 from_ordinary : (issued : Date) (decision : Decision) (closed : List Date) (d : Date) (r : Record) → IsLimited issued → IsLimited d → IsDeadline closed (epoch_day issued) (epoch_day d)
-    → (o : Option Date) → limited_date (ordinary_day (epoch_day issued) (Some (epoch_day d))) ≡ o → with_some o (λ o. in_range (fresh issued decision (Some d) o)) ≡ Some r → IsMade issued decision true closed r
+    → (o : Option Date) → limited_date (ordinary_day (epoch_day issued) (Some (epoch_day d))) ≡ o → with_some o (λ o. in_range (fresh_record issued decision (Some d) o)) ≡ Some r → IsMade issued decision true closed r
 from_ordinary issued decision closed d r i l h None t e = absurd (none-some r e)
 from_ordinary issued decision closed d r i l h (Some o) t e =
     let k = limited_sound _ o t in
-    let w = within_some _ (fresh issued decision (Some d) o) r e in
+    let w = within_some _ (fresh_record issued decision (Some d) o) r e in
     subst (IsMade issued decision true closed) w.0 (made_of issued decision closed d o h k.1, fresh_range issued decision (Some d) o i l k.0 w.1)
 
 from_deadline : (issued : Date) (decision : Decision) (closed : List Date) (r : Record) → IsLimited issued → (d : Option Date) → deadline_date closed issued ≡ d
@@ -105,10 +105,10 @@ from_deadline issued decision closed r i (Some d) t e =
     let k = limited_sound _ d t in
     from_ordinary issued decision closed d r i k.0 (subst (IsDeadline closed (epoch_day issued)) (sym k.1) (deadline_is closed (epoch_day issued))) _ refl e
 
-issued_sound : (issued : Date) (decision : Decision) (t : Bool) (closed : List Date) (r : Record) → IsLimited issued → issued_record issued decision t closed ≡ Some r → IsMade issued decision t closed r
+pub issued_sound : (issued : Date) (decision : Decision) (t : Bool) (closed : List Date) (r : Record) → IsLimited issued → issued_record issued decision t closed ≡ Some r → IsMade issued decision t closed r
 issued_sound issued decision true closed r i e = from_deadline issued decision closed r i _ refl e
 issued_sound issued decision false closed r i e =
-    let w = within_some _ (fresh issued decision None issued) r e in
+    let w = within_some _ (fresh_record issued decision None issued) r e in
     subst (IsMade issued decision false closed) w.0 (final_of issued decision closed, fresh_range issued decision None issued i tt i w.1)
 
 none_unless : (o : Option Record) → ((r : Record) → o ≡ Some r → ⊥) → o ≡ None
@@ -123,26 +123,26 @@ issue_computes issued decision t closed (Err x) i h w b = none_unless _ (λ r e.
 
 -- ---- an affirmation and an extension
 
-affirmed_kept : (day : Date) (r : Record) → IsLimited day → IsKept r → IsKept (affirmed_on day r)
+pub affirmed_kept : (day : Date) (r : Record) → IsLimited day → IsKept r → IsKept (record_affirmed_on day r)
 affirmed_kept day r l k = record { issued = k.issued; deadline = k.deadline; ordinary = k.ordinary; affirmed = l; set_expiry = k.set_expiry }
 
-pub affirmed_made : (day : Date) (r : Record) → IsInRange (affirmed_on day r) → affirmed_record day r ≡ Some (affirmed_on day r)
-affirmed_made day r h = in_range_is (expiry_day (affirmed_on day r)) (affirmed_on day r) h.expiry
+pub affirmed_made : (day : Date) (r : Record) → IsInRange (record_affirmed_on day r) → affirmed_record day r ≡ Some (record_affirmed_on day r)
+affirmed_made day r h = in_range_is (expiry_day (record_affirmed_on day r)) (record_affirmed_on day r) h.expiry
 
-pub affirmed_none : (day : Date) (r : Record) → IsLimited day → IsKept r → ¬ IsInRange (affirmed_on day r) → affirmed_record day r ≡ None
+pub affirmed_none : (day : Date) (r : Record) → IsLimited day → IsKept r → ¬ IsInRange (record_affirmed_on day r) → affirmed_record day r ≡ None
 affirmed_none day r l k n =
-    within_none (expiry_day (affirmed_on day r)) (affirmed_on day r)
-    (λ x. n (record { effective = effective_limited (affirmed_on day r) (affirmed_kept day r l k); expiry = x }))
+    within_none (expiry_day (record_affirmed_on day r)) (record_affirmed_on day r)
+    (λ x. n (record { effective = effective_limited (record_affirmed_on day r) (affirmed_kept day r l k); expiry = x }))
 
-pub extended_made : (months : ℕ) (r : Record) (e x : Date) → Some e ≡ expiry_date r → epoch_day x ≡ add_months e (pos months) → IsLimited x → extended_record months r ≡ Some (extended_to x r)
+pub extended_made : (months : ℕ) (r : Record) (e x : Date) → Some e ≡ expiry_date r → epoch_day x ≡ add_months e (pos months) → IsLimited x → extended_record months r ≡ Some (record_extended_to x r)
 extended_made months r e x h g l =
-    ap (λ o. with_some o (λ e. option_map (λ x. extended_to x r) (limited_date (add_months e (pos months))))) (sym h)
-    ∙ ap (option_map (λ x. extended_to x r)) (limited_by _ x l (sym g))
+    ap (λ o. with_some o (λ e. option_map (λ x. record_extended_to x r) (limited_date (add_months e (pos months))))) (sym h)
+    ∙ ap (option_map (λ x. record_extended_to x r)) (limited_by _ x l (sym g))
 
 pub extended_none : (months : ℕ) (r : Record) (e : Date) → Some e ≡ expiry_date r → ¬ IsDay (add_months e (pos months)) → extended_record months r ≡ None
 extended_none months r e h n =
-    ap (λ o. with_some o (λ e. option_map (λ x. extended_to x r) (limited_date (add_months e (pos months))))) (sym h)
-    ∙ ap (option_map (λ x. extended_to x r)) (limited_none _ n)
+    ap (λ o. with_some o (λ e. option_map (λ x. record_extended_to x r) (limited_date (add_months e (pos months))))) (sym h)
+    ∙ ap (option_map (λ x. record_extended_to x r)) (limited_none _ n)
 
 -- ---- the expiry and the last day for an extension
 

@@ -5,16 +5,16 @@ use Rattle.jiff_core.specs.Date.{epoch_day}
 use Rattle.jiff_core.proofs.SignedLemmas.{signed_arith}
 use Rattle.determination_dates.specs.declared.determination.Record.{Record}
 use Rattle.determination_dates.specs.Days.{IsDay, IsLimited, IsNear}
-use Rattle.determination_dates.specs.Effects.{later_of, settled, effective_date, expiry_day, IsKept, IsInRange}
+use Rattle.determination_dates.specs.Effects.{later_of, settlement_date, effective_date, expiry_day, IsKept, IsInRange}
 
 later_limited : (a b : Date) → IsLimited a → IsLimited b → IsLimited (later_of a b)
 later_limited a b h k = elim (int_lt (epoch_day a) (epoch_day b)) as (λ t. IsLimited (if t then b else a)) [ true ↦ k | false ↦ h ]
 
-settled_limited : (a : Option Date) (b : Date) → IfSome a IsLimited → IsLimited b → IsLimited (settled a b)
+settled_limited : (a : Option Date) (b : Date) → IfSome a IsLimited → IsLimited b → IsLimited (settlement_date a b)
 settled_limited None b h k = k
 settled_limited (Some a) b h k = later_limited a b h k
 
-effective_limited_at : (p : Bool) (a : Option Date) (b : Date) → IfSome a IsLimited → IsLimited b → IfSome (if p then None else Some (settled a b)) IsLimited
+effective_limited_at : (p : Bool) (a : Option Date) (b : Date) → IfSome a IsLimited → IsLimited b → IfSome (if p then None else Some (settlement_date a b)) IsLimited
 effective_limited_at true a b h k = tt
 effective_limited_at false a b h k = settled_limited a b h k
 

@@ -10,3 +10,4 @@ pub mod Making
 pub mod DateFacts
 pub mod OpenDays
 pub mod ComputedFacts
+pub mod ComputedLaws

@@ -16,7 +16,7 @@ use Rattle.determination_dates.specs.declared.determination.Record.{Record}
 use Rattle.determination_dates.specs.Days.{IsDay, IsLimited}
 use Rattle.determination_dates.specs.Closed.{is_closed}
 use Rattle.determination_dates.specs.Deadlines.{IsDeadline}
-use Rattle.determination_dates.specs.Determinations.{fresh, ordinary_day, IsIssued}
+use Rattle.determination_dates.specs.Determinations.{fresh_record, ordinary_day, IsIssued}
 use Rattle.determination_dates.specs.Computed.{deadline_day}
 use Rattle.determination_dates.proofs.OpenDays.{deadline_is}
 
@@ -90,7 +90,7 @@ ordinary_bounds issued z low high i = grind (arith, ints, signed_arith)
 
 pub record_made : (issued : Date) (d : Decision) (t : Bool) (closed : List Date) → IsLimited issued → All IsLimited closed → (r : Record) × IsIssued issued d t closed r
 record_made issued d false closed i h =
-    (fresh issued d None issued, record { on = refl; as_decided = refl; deadline = tt; ordinary = refl; pending = refl; affirmed = refl; set_expiry = refl; extensions = refl })
+    (fresh_record issued d None issued, record { on = refl; as_decided = refl; deadline = tt; ordinary = refl; pending = refl; affirmed = refl; set_expiry = refl; extensions = refl })
 record_made issued d true closed i h =
     let last = deadline_day closed (epoch_day issued) in
     let l = deadline_is closed (epoch_day issued) in
@@ -98,7 +98,7 @@ record_made issued d true closed i h =
     let a = date_at issued last (omega (arith, signed_arith, l.later)) (omega (arith, signed_arith, s)) in
     let b = ordinary_bounds (epoch_day issued) last l.later s i in
     let o = date_at issued (ordinary_day (epoch_day issued) (Some last)) b.0 (omega (arith, signed_arith, b.1)) in (
-      fresh issued d (Some a.0) o.0,
+      fresh_record issued d (Some a.0) o.0,
       record {
         on = refl;
         as_decided = refl;

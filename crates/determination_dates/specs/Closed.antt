@@ -23,19 +23,19 @@ is_closed closed z = list_any (λ c. int_eq z (epoch_day c)) closed
 abbrev pub IsOpen : List Date → ℤ → Type 0
 IsOpen closed z = (weekday_number z < 5) × (is_closed closed z ≡ false)
 
--- the order of dates is that of their days
+-- dates are ordered by their day numbers
 abbrev pub date_cmp : Date → Date → Ordering
 date_cmp = on epoch_day int_cmp
 
--- the closed days with one more, in its place
+-- the closed days with this day added in its place
 abbrev pub with_day : Date → List Date → List Date
 with_day d closed = insert_key date_cmp closed d
 
--- the closed days without that one
+-- the closed days without this day
 abbrev pub without_day : Date → List Date → List Date
 without_day d closed = remove_key (λ c. is_eq (date_cmp d c)) closed
 
--- a set of closed days, as a list
+-- a list that is a set of closed days
 pub record AreClosedDays (closed : List Date) : Type 0 where
   pub rising : IsStrictlySortedBy date_cmp closed
   pub limited : All IsLimited closed

@@ -1,4 +1,4 @@
--- The dates of Deadlines, Notices, Effects and Determinations once more, as functions that compute. None is a date outside the limit.
+-- The dates of Deadlines, Notices, Effects and Determinations as functions that compute; a date outside the limit gives None.
 use Rattle.std.specs.Prelude.{◌≡◌, Result, MatchResult, ◌+◌, ◌*◌, ℕ, zero, suc, ℤ, pos, ◌+ℤ◌, ◌&&◌, not, nat_lt, Bool, true, false, Option, Some, None, if◌then◌else◌, List, length}
 use Rattle.std.specs.Option.{option_map}
 use Rattle.jiff_core.specs.declared.civil.date.Date.{Date}
@@ -14,14 +14,14 @@ use Rattle.determination_dates.specs.declared.notice.TheConstants.{FORM_DAYS}
 use Rattle.determination_dates.specs.Closed.{is_closed}
 use Rattle.determination_dates.specs.Notices.{days_late, by_days}
 use Rattle.determination_dates.specs.Effects.{expiry_day, last_day}
-use Rattle.determination_dates.specs.Determinations.{fresh, ordinary_day, affirmed_on, extended_to}
+use Rattle.determination_dates.specs.Determinations.{fresh_record, ordinary_day, record_affirmed_on, record_extended_to}
 use Rattle.determination_dates.specs.Dates.{date_on, is_day, limited_date}
 
--- a call answers what was computed: the value, or an error exactly where there is none
+-- a call returns the computed value, or an error exactly where there is none
 abbrev pub Computes : {T E : Type 0} → Result T E → Option T → Type 0
 Computes result o = MatchResult result (λ x. o ≡ Some x) (λ _. o ≡ None)
 
--- what follows from a value, where there is one
+-- a function of a value, where there is one
 abbrev pub with_some : {T U : Type 0} → Option T → (T → Option U) → Option U
 with_some None f = None
 with_some (Some x) f = f x
@@ -32,12 +32,12 @@ with_some (Some x) f = f x
 abbrev pub is_open : List Date → ℤ → Bool
 is_open closed z = nat_lt (weekday_number z) 5 && not (is_closed closed z)
 
--- the first open day from z on, among so many
+-- the first open day at or after z, among this number of days
 abbrev pub first_open : ℕ → List Date → ℤ → ℤ
 first_open zero closed z = z
 first_open (suc n) closed z = if is_open closed z then z else first_open n closed (z +ℤ pos 1)
 
--- of three days running one is no Saturday and no Sunday, so three days more for each closed day have an open one
+-- of three consecutive days one is no Saturday and no Sunday, so searching three more days for each closed day finds an open one
 abbrev pub search_days : List Date → ℕ
 search_days closed = 3 * (length closed + 1)
 
@@ -56,7 +56,7 @@ timeliness_of received start permit false = Some (by_days (days_late received st
 
 -- ---- a determination
 
--- the record, where its expiry is within the limit or there is none
+-- the record, where its expiry is within the limit or absent
 abbrev pub within_range : Option ℤ → Record → Option Record
 within_range None r = Some r
 within_range (Some z) r = if is_day z then Some r else None
@@ -67,12 +67,12 @@ in_range r = within_range (expiry_day r) r
 -- the record of a determination that may be petitioned up to a deadline
 abbrev pub reviewable_record : Date → Decision → Date → Option Record
 reviewable_record issued decision deadline =
-    with_some (limited_date (ordinary_day (epoch_day issued) (Some (epoch_day deadline)))) (λ ordinary. in_range (fresh issued decision (Some deadline) ordinary))
+    with_some (limited_date (ordinary_day (epoch_day issued) (Some (epoch_day deadline)))) (λ ordinary. in_range (fresh_record issued decision (Some deadline) ordinary))
 
--- the record that is made at issuance
+-- the record made at issuance
 abbrev pub issued_record : Date → Decision → Bool → List Date → Option Record
 issued_record issued decision true closed = with_some (deadline_date closed issued) (reviewable_record issued decision)
-issued_record issued decision false closed = in_range (fresh issued decision None issued)
+issued_record issued decision false closed = in_range (fresh_record issued decision None issued)
 
 -- the expiry, and the last day for an extension, as dates
 abbrev pub expiry_date : Record → Option Date
@@ -81,10 +81,10 @@ expiry_date r = with_some (expiry_day r) date_on
 abbrev pub last_date : Record → Option Date
 last_date r = with_some (last_day r) date_on
 
--- the record after an affirmation on that day
+-- the record after an affirmation on a day
 abbrev pub affirmed_record : Date → Record → Option Record
-affirmed_record day r = in_range (affirmed_on day r)
+affirmed_record day r = in_range (record_affirmed_on day r)
 
--- the record after an extension by so many months
+-- the record after an extension by a number of months
 abbrev pub extended_record : ℕ → Record → Option Record
-extended_record months r = with_some (expiry_date r) (λ e. option_map (λ x. extended_to x r) (limited_date (add_months e (pos months))))
+extended_record months r = with_some (expiry_date r) (λ e. option_map (λ x. record_extended_to x r) (limited_date (add_months e (pos months))))

@@ -8,12 +8,12 @@ use Rattle.grid_exact.proofs.TestFacts.{le_in}
 use Rattle.determination_dates.specs.declared.limit.TheConstants.{FIRST_DAY, LAST_DAY}
 use Rattle.determination_dates.specs.Notices.{days_over}
 
--- the year of the day that lies n days after 1 January of the year y, and its place in that year, from 0; so many years are tried
+-- the year of the day n days after 1 January of year y, and its place in that year, from 0; the first number bounds the years tried
 abbrev pub year_from : ℕ → ℤ → ℕ → ℤ × ℕ
 year_from zero y n = (y, n)
 year_from (suc k) y n = if nat_lt n (days_in_year y) then (y, n) else year_from k (y +ℤ pos 1) (n - days_in_year y)
 
--- the month of the day that lies n days after the first of the month m, and its place in that month, from 0
+-- the month of the day n days after the first of month m, and its place in that month, from 0
 abbrev pub month_from : ℕ → ℤ → ℕ → ℕ → ℕ × ℕ
 month_from zero y m n = (m, n)
 month_from (suc k) y m n = if nat_lt n (days_in_month y m) then (m, n) else month_from k y (m + 1) (n - days_in_month y m)
@@ -28,7 +28,7 @@ is_between low high n = nat_le low n && nat_le n high
 abbrev pub is_civil : ℤ → ℕ → ℕ → Bool
 is_civil y m d = is_year y && (is_between 1 12 m && is_between 1 (days_in_month y m) d)
 
--- what the test tells, as a date wants it
+-- the bounds on a year that follow from the test
 year_of_test : (y : ℤ) → is_year y ≡ true → (neg_ℤ (pos 9999) ≤ℤ y) × (y ≤ℤ pos 9999)
 year_of_test y h =
     let p = and_parts (int_le (neg_ℤ (pos 9999)) y) (int_le y (pos 9999)) h in
@@ -61,15 +61,15 @@ civil y m d =
       day_in = (civil_parts y m d h).2;
     })
 
--- the date of a year, a month and a place in it
+-- the date of a year, a month and a place in the month
 abbrev pub date_in : ℤ → ℕ × ℕ → Option Date
 date_in y mn = civil y mn.0 (mn.1 + 1)
 
--- the date of a year and a place in it
+-- the date of a year and a place in the year
 abbrev pub date_by : ℤ × ℕ → Option Date
 date_by yn = date_in yn.0 (month_from 11 yn.0 1 yn.1)
 
--- how far a day lies after 1899-01-01; each date within the limit and the 15 days before it do
+-- the number of days from 1899-01-01 to a day; it is positive for dates within the limit and the 15 days before them
 abbrev pub days_after_1899 : ℤ → ℕ
 days_after_1899 z = days_over (z +ℤ pos 25_932)
 

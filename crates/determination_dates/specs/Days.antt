@@ -1,4 +1,4 @@
--- The dates that are allowed. A date is spoken of by its day number, where 1970-01-01 is 0.
+-- The allowed dates. A date is given by its day number, where 1970-01-01 is 0.
 use Rattle.std.specs.Prelude.{ℤ, pos, neg_ℤ, ◌≤ℤ◌}
 use Rattle.jiff_core.specs.declared.civil.date.Date.{Date}
 use Rattle.jiff_core.specs.Date.{epoch_day}
@@ -14,10 +14,10 @@ IsLimited d = IsDay (epoch_day d)
 
 -- ---- for proofs alone
 
--- the day is within a thousand years of the limit, where some days or months can be added
+-- the day is within a thousand years of the limit, where adding some days or months is safe
 abbrev pub IsNear : ℤ → Type 0
 IsNear z = (neg_ℤ (pos 400_000) ≤ℤ z) × (z ≤ℤ pos 800_000)
 
--- the day of an expiry before it is compared with the limit: at most some years past it
+-- the day of an expiry before it is checked against the limit: at most some years past it
 abbrev pub IsExpiryDay : ℤ → Type 0
 IsExpiryDay z = (FIRST_DAY ≤ℤ z) × (z ≤ℤ pos 450_000)

@@ -1,4 +1,4 @@
--- What issues, affirms and extends a determination: 77.31, 77.33(a), 77.37 and 77.35.
+-- Issuing, affirming and extending a determination: 77.31, 77.33(a), 77.37 and 77.35.
 use Rattle.std.specs.Prelude.{◌≡◌, ℕ, ◌+◌, Bool, true, false, Option, Some, None, ℤ, pos, ◌+ℤ◌, int_lt, nat_lt, if◌then◌else◌, List}
 use Rattle.std.specs.Option.{option_map}
 use Rattle.jiff_core.specs.declared.civil.date.Date.{Date}
@@ -10,7 +10,7 @@ use Rattle.determination_dates.specs.declared.determination.TheConstants.{EFFECT
 use Rattle.determination_dates.specs.Deadlines.{IsDeadline}
 use Rattle.determination_dates.specs.Effects.{expiry_day}
 
--- the deadline is there exactly where the determination may be petitioned
+-- there is a deadline exactly where the determination may be petitioned
 abbrev pub HasDeadline : List Date → Date → Bool → Option Date → Type 0
 HasDeadline closed issued true (Some d) = IsDeadline closed (epoch_day issued) (epoch_day d)
 HasDeadline closed issued true None = ⊥
@@ -23,11 +23,11 @@ abbrev pub ordinary_day : ℤ → Option ℤ → ℤ
 ordinary_day issued None = issued
 ordinary_day issued (Some deadline) = if int_lt deadline (issued +ℤ EFFECTIVE_DAYS) then issued +ℤ EFFECTIVE_DAYS else deadline +ℤ pos 1
 
--- a record to which nothing has happened yet
-abbrev pub fresh : Date → Decision → Option Date → Date → Record
-fresh issued decision deadline ordinary = record { issued = issued; decision = decision; deadline = deadline; ordinary = ordinary; pending = false; affirmed = None; set_expiry = None; extensions = 0 }
+-- the record of a new determination
+abbrev pub fresh_record : Date → Decision → Option Date → Date → Record
+fresh_record issued decision deadline ordinary = record { issued = issued; decision = decision; deadline = deadline; ordinary = ordinary; pending = false; affirmed = None; set_expiry = None; extensions = 0 }
 
--- the record that is made at issuance
+-- the record made at issuance
 pub record IsIssued (issued : Date) (decision : Decision) (reviewable : Bool) (closed : List Date) (r : Record) : Type 0 where
   pub on : r.issued ≡ issued
   pub as_decided : r.decision ≡ decision
@@ -38,17 +38,17 @@ pub record IsIssued (issued : Date) (decision : Decision) (reviewable : Bool) (c
   pub set_expiry : r.set_expiry ≡ None
   pub extensions : r.extensions ≡ 0
 
--- the record after a petition was disposed of by an affirmation on that day
-abbrev pub affirmed_on : Date → Record → Record
-affirmed_on day r = record r { pending = false; affirmed = Some day }
+-- the record after an affirmation on a day ended the petition
+abbrev pub record_affirmed_on : Date → Record → Record
+record_affirmed_on day r = record r { pending = false; affirmed = Some day }
 
--- one more, up to the greatest number that is counted
+-- the count plus one, up to the greatest count
 abbrev pub counted : ℕ → ℕ
 counted n = if nat_lt n MOST_EXTENSIONS then n + 1 else n
 
 -- the record after an extension up to the day x
-abbrev pub extended_to : Date → Record → Record
-extended_to x r = record r { set_expiry = Some x; extensions = counted r.extensions }
+abbrev pub record_extended_to : Date → Record → Record
+record_extended_to x r = record r { set_expiry = Some x; extensions = counted r.extensions }
 
 -- x is that many months after the expiry
 abbrev pub IsExtension : Record → ℕ → Date → Type 0

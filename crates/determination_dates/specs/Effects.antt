@@ -1,4 +1,4 @@
--- The days that follow from the record of a determination: 77.33 and 77.35(a)(2).
+-- The dates that follow from the record of a determination: 77.33 and 77.35(a)(2).
 use Rattle.std.specs.Prelude.{Option, Some, None, IfSome, ℤ, pos, ◌-ℤ◌, int_lt, if◌then◌else◌}
 use Rattle.std.specs.Option.{option_map}
 use Rattle.jiff_core.specs.declared.civil.date.Date.{Date}
@@ -15,21 +15,21 @@ abbrev pub later_of : Date → Date → Date
 later_of a b = if int_lt (epoch_day a) (epoch_day b) then b else a
 
 -- the effective day while nothing is pending: the ordinary day, or after an affirmation the later of the two
-abbrev pub settled : Option Date → Date → Date
-settled None ordinary = ordinary
-settled (Some affirmed) ordinary = later_of affirmed ordinary
+abbrev pub settlement_date : Option Date → Date → Date
+settlement_date None ordinary = ordinary
+settlement_date (Some affirmed) ordinary = later_of affirmed ordinary
 
 -- the effective day, none while a petition is pending: 77.33(a)
 abbrev pub effective_date : Record → Option Date
-effective_date r = if r.pending then None else Some (settled r.affirmed r.ordinary)
+effective_date r = if r.pending then None else Some (settlement_date r.affirmed r.ordinary)
 
--- the day number of the expiry, by the decision, the day that was set and the effective day
+-- the day number of the expiry, from the decision, the day that was set and the effective day
 abbrev pub expiry_by : Decision → Option Date → Option Date → Option ℤ
 expiry_by Hazard set effective = None
 expiry_by NoHazard (Some day) effective = Some (epoch_day day)
 expiry_by NoHazard None effective = option_map (λ d. add_months d (pos PERIOD_MONTHS)) effective
 
--- the expiry: none of a hazard; the day that was set, else 18 months after the effective day: 77.33(b) and (c)
+-- the expiry: none for a hazard; else the day that was set, else 18 months after the effective day: 77.33(b) and (c)
 abbrev pub expiry_day : Record → Option ℤ
 expiry_day r = expiry_by r.decision r.set_expiry (effective_date r)
 
@@ -37,7 +37,7 @@ expiry_day r = expiry_by r.decision r.set_expiry (effective_date r)
 abbrev pub last_day : Record → Option ℤ
 last_day r = option_map (λ z. z -ℤ EXTENSION_DAYS) (expiry_day r)
 
--- each date that the record holds is within the limit
+-- each date stored in the record is within the limit
 pub record IsKept (r : Record) : Type 0 where
   pub issued : IsLimited r.issued
   pub deadline : IfSome r.deadline IsLimited
@@ -50,7 +50,7 @@ pub record IsInRange (r : Record) : Type 0 where
   pub effective : IfSome (effective_date r) IsLimited
   pub expiry : IfSome (expiry_day r) IsDay
 
--- both
+-- both of these
 pub record IsWithinRange (r : Record) : Type 0 where
   pub kept : IsKept r
   pub computed : IsInRange r

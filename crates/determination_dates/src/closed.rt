@@ -14,8 +14,8 @@ use std::alloc::Global;
 use std::collections::BTreeSet;
 use std::marker::Model;
 
-/// The days, beside Saturdays and Sundays, on which the government is closed (77.39(c)): a set of dates, seen as their list in
-/// rising order.
+/// The days besides Saturdays and Sundays on which the government is closed (77.39(c)): a set of dates, which contracts see as their list
+/// in rising order.
 #[derive(Drop)]
 pub struct ClosedDays {
     days: BTreeSet<Date>,
@@ -50,18 +50,18 @@ impl ClosedDays {
         self.days.is_empty()
     }
 
-    /// Whether the date is one of these.
+    /// Whether the date is in the set.
     pub fn has(&self, d: Date) -> bool
         ensures { result ≡ is_closed self.now (epoch_day d) }
     {
         self.days.contains(&d)
     }
 
-    /// Adds the date; where it is there, nothing changes.
+    /// Adds the date; where it is in the set already, nothing changes.
     ///
     /// # Errors
     ///
-    /// `NoMemory` where memory was refused; the set is as it was.
+    /// `NoMemory` where memory was refused; the set is then unchanged.
     pub fn with(&mut self, d: Date) -> Result<(), NoMemory>
         requires { IsLimited d }
         ensures added { OnOk result (self.new ≡ with_day d self.old) }
@@ -73,15 +73,17 @@ impl ClosedDays {
         }
     }
 
-    /// Takes the date out; where it is not there, nothing changes. It takes no memory, and undoes `with` of a date that was not there.
+    /// Removes the date; where it is not in the set, nothing changes. It takes no memory, and undoes `with` of a date that was not in the
+    /// set.
     pub fn without(&mut self, d: Date)
         ensures taken { self.new ≡ without_day d self.old }
-        ensures undone { (before : List Plain) → self.old ≡ with_day d before → is_closed before (epoch_day d) ≡ false → self.new ≡ before }
+        ensures undone { (before : List Plain) → self.old ≡ with_day d before →
+            is_closed before (epoch_day d) ≡ false → self.new ≡ before }
     {
         let _ = self.days.remove(&d);
     }
 
-    /// Shows to a proof that the dates stand in rising order and are within the limit.
+    /// For proofs: the dates stand in rising order and are within the limit.
     pub fn order(&self)
         ensures rising { IsStrictlySortedBy date_cmp self.now }
         ensures limited { All IsLimited self.now }
@@ -89,7 +91,7 @@ impl ClosedDays {
         let _ = &self.days;
     }
 
-    /// Whether the government is open on that day: it is no Saturday, no Sunday and none of these.
+    /// Whether the government is open on that day: it is no Saturday, no Sunday and not in the set.
     pub(crate) fn is_open(&self, d: Date) -> bool
         ensures { IsTrue result ↔ IsOpen self.now (epoch_day d) }
     {

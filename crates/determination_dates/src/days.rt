@@ -1,4 +1,4 @@
-//! Dates as day numbers, and dates some days or months away.
+//! Day numbers of dates, and adding days or months to a date.
 
 ghost use Rattle.std.specs.Prelude.{◌≡◌, ◌≤◌, pos, ◌+ℤ◌, ◌≤ℤ◌, ◌<ℤ◌};
 ghost use Rattle.jiff_core.specs.Calendar.{IsEpochDay, IsWithin};
@@ -9,7 +9,7 @@ ghost use Rattle.determination_dates.specs.Days.{IsNear};
 use jiff::civil::Date;
 use jiff_span::date;
 
-/// The day number of a date, where 1970-01-01 is 0.
+/// The day number of a date: the number of days from 1970-01-01.
 pub(crate) fn number(date: Date) -> i32
     ensures value { result ≡ epoch_day date }
     ensures bound { IsEpochDay result }
@@ -17,7 +17,7 @@ pub(crate) fn number(date: Date) -> i32
     date.to_plain().to_unix_epoch_day()
 }
 
-/// The date that many days later, or earlier where `days` is negative.
+/// The date `days` days later, or earlier where `days` is negative.
 pub(crate) fn days_later(date: Date, days: i32) -> Date
     requires near { IsNear (epoch_day date) }
     requires few { IsWithin 100 days }
@@ -26,7 +26,7 @@ pub(crate) fn days_later(date: Date, days: i32) -> Date
     Date::from_plain(date.to_plain().checked_add(i64::from(days)).unwrap())
 }
 
-/// The same day of the month that many months later, or the last day of a month that has no such day.
+/// The date a number of months later: the same day of the month, or the month's last day where it has no such day.
 #[tactic(auto, using(crate::proofs::Years::can_shift, crate::proofs::Years::shifted_near, crate::proofs::Years::shifted_later))]
 pub fn months_later(date: Date, months: u8) -> Date
     requires near { IsNear (epoch_day date) }

@@ -11,7 +11,7 @@ use crate::days::days_later;
 use crate::limit::{DateRange, is_limited};
 use jiff::civil::Date;
 
-/// A petition for discretionary review is received within 30 days after the issuance of the determination (77.39(a)).
+/// Days after issuance within which a petition for discretionary review is received (77.39(a)).
 pub const PETITION_DAYS: i32 = 30;
 
 /// The last day on which a petition is received: 30 days after issuance (77.39(a)), and where the government is closed on that day,
@@ -24,7 +24,8 @@ pub fn petition_deadline(issued: Date, closed: &ClosedDays) -> Result<Date, Date
     requires { IsLimited issued }
     ensures found { IfOk result (λ d. IsDeadline closed.now (epoch_day issued) (epoch_day d)) }
     ensures within { IfOk result IsLimited }
-    ensures beyond { OnErr result ((z : ℤ) → IsDeadline closed.now (epoch_day issued) z → ¬ IsDay z) }
+    ensures beyond { OnErr result ((z : ℤ) → IsDeadline closed.now (epoch_day issued) z →
+        ¬ IsDay z) }
     ensures computed { Computes result (deadline_date closed.now issued) }
 {
     let mut day = days_later(issued, PETITION_DAYS);

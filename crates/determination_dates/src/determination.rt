@@ -1,4 +1,4 @@
-//! Determinations: how one is issued (77.31), affirmed after a petition (77.37) and extended (77.35).
+//! Determinations: issuing one (77.31), affirming it after a petition (77.37) and extending it (77.35).
 
 ghost use Rattle.std.specs.Prelude.{◌≡◌, ◌≤◌, IsSome, IfOk, OnOk, OnErr, List, true, false, Some, None, MatchResult};
 ghost use Rattle.jiff_core.specs.Date.{epoch_day};
@@ -7,7 +7,7 @@ ghost use Rattle.determination_dates.specs.declared.determination.Record.{Record
 ghost use Rattle.determination_dates.specs.Days.{IsLimited};
 ghost use Rattle.determination_dates.specs.Effects.{expiry_day, IsKept, IsInRange, IsWithinRange};
 ghost use Rattle.determination_dates.specs.Computed.{Computes, issued_record, affirmed_record, extended_record};
-ghost use Rattle.determination_dates.specs.Determinations.{ordinary_day, fresh, IsIssued, affirmed_on, extended_to, IsExtension};
+ghost use Rattle.determination_dates.specs.Determinations.{ordinary_day, fresh_record, IsIssued, record_affirmed_on, record_extended_to, IsExtension};
 
 use crate::closed::ClosedDays;
 use crate::days::{days_later, months_later, number};
@@ -16,13 +16,13 @@ use crate::effects::{expiry, is_in_range};
 use crate::limit::{DateRange, within};
 use jiff::civil::Date;
 
-/// A determination that may be petitioned is effective 40 days after issuance, where no petition came (77.33(a)).
+/// Days after issuance on which a determination that may be petitioned becomes effective, where no petition was made (77.33(a)).
 pub const EFFECTIVE_DAYS: i32 = 40;
 
-/// An extension is for at most 18 months (77.35(b), (c)).
+/// Most months of one extension (77.35(b), (c)).
 pub const EXTENSION_MONTHS: u8 = 18;
 
-/// Extensions are counted up to this number.
+/// Greatest count of extensions that is stored; the count stays there.
 pub const MOST_EXTENSIONS: u32 = 255;
 
 /// Whether a structure would be a hazard to air navigation (77.31).
@@ -32,28 +32,28 @@ pub enum Decision {
     Hazard,
 }
 
-/// A determination and what became of it.
+/// A determination and the later acts on it.
 #[derive(Clone, Copy, Debug, PartialEq, Eq)]
 pub struct Record {
     /// The day on which it was issued.
     pub issued: Date,
     pub decision: Decision,
-    /// The last day for a petition; none exactly where the determination cannot be petitioned (77.37(b)).
+    /// The last day for a petition; `None` exactly where the determination cannot be petitioned (77.37(b)).
     pub deadline: Option<Date>,
-    /// The day from which it is effective where no petition comes.
+    /// The day on which it becomes effective where no petition is made.
     pub ordinary: Date,
     /// Whether a petition is pending.
     pub pending: bool,
-    /// The day on which it was affirmed after a petition.
+    /// The day on which it was affirmed after a petition, if it was.
     pub affirmed: Option<Date>,
-    /// The expiry that was set by an extension or by what the FCC did.
+    /// The expiry set by an extension or by an FCC act, if any.
     pub set_expiry: Option<Date>,
-    /// How many extensions were granted, counted up to `MOST_EXTENSIONS`.
+    /// The number of extensions granted, counted up to `MOST_EXTENSIONS`.
     pub extensions: u32,
 }
 
-/// The ordinary effective day of a determination that may be petitioned up to a deadline: 40 days after issuance (77.33(a)), or the
-/// day after the deadline where closed days have moved that to the fortieth day or past it.
+/// The ordinary effective day of a determination that may be petitioned up to a deadline: 40 days after issuance (77.33(a)), or
+/// the day after the deadline where closed days have moved the deadline to the fortieth day or past it.
 fn ordinary_day(issued: Date, deadline: Date) -> Date
     requires issued { IsLimited issued }
     requires deadline { IsLimited deadline }
@@ -67,9 +67,9 @@ fn ordinary_day(issued: Date, deadline: Date) -> Date
 }
 
 impl Record {
-    /// A record to which nothing has happened yet.
+    /// The record of a new determination.
     fn fresh(issued: Date, decision: Decision, deadline: Option<Date>, ordinary: Date) -> Record
-        ensures { result ≡ fresh issued decision deadline ordinary }
+        ensures { result ≡ fresh_record issued decision deadline ordinary }
     {
         Record {
             issued,
@@ -83,7 +83,7 @@ impl Record {
         }
     }
 
-    /// The record of a determination that may be petitioned.
+    /// The record of a new determination that may be petitioned.
     fn issue_reviewable(
         issued: Date,
         decision: Decision,
@@ -92,7 +92,8 @@ impl Record {
         requires { IsLimited issued }
         ensures made { IfOk result (IsIssued issued decision true closed.now) }
         ensures range { IfOk result IsWithinRange }
-        ensures beyond { OnErr result ((r : Seen) → IsIssued issued decision true closed.now r → ¬ IsWithinRange r) }
+        ensures beyond { OnErr result ((r : Seen) → IsIssued issued decision true closed.now r →
+            ¬ IsWithinRange r) }
     {
         let Ok(deadline) = petition_deadline(issued, closed) else {
             return Err(DateRange);
@@ -108,12 +109,14 @@ impl Record {
         }
     }
 
-    /// The record of a determination that cannot be petitioned (77.37(b)): it is effective on the day of issuance (77.33(a)).
+    /// The record of a new determination that cannot be petitioned (77.37(b)): it is effective on the day of issuance (77.33(a)).
     fn issue_final(issued: Date, decision: Decision) -> Result<Record, DateRange>
         requires { IsLimited issued }
-        ensures made { IfOk result (λ r. (closed : List Plain) → IsIssued issued decision false closed r) }
+        ensures made { IfOk result (λ r. (closed : List Plain) →
+            IsIssued issued decision false closed r) }
         ensures range { IfOk result IsWithinRange }
-        ensures beyond { OnErr result ((closed : List Plain) (r : Seen) → IsIssued issued decision false closed r → ¬ IsWithinRange r) }
+        ensures beyond { OnErr result ((closed : List Plain) (r : Seen) →
+            IsIssued issued decision false closed r → ¬ IsWithinRange r) }
     {
         let record = Record::fresh(issued, decision, None, issued);
         if is_in_range(&record) {
@@ -123,8 +126,8 @@ impl Record {
         }
     }
 
-    /// The record of a determination issued on a day, which may be petitioned exactly where `reviewable`. The closed days count as they
-    /// stand at issuance.
+    /// The record of a determination issued on a day; it may be petitioned exactly where `reviewable`. The closed days are those known at
+    /// issuance.
     ///
     /// # Errors
     ///
@@ -138,7 +141,8 @@ impl Record {
         requires { IsLimited issued }
         ensures made { IfOk result (IsIssued issued decision reviewable closed.now) }
         ensures range { IfOk result IsWithinRange }
-        ensures beyond { OnErr result ((r : Seen) → IsIssued issued decision reviewable closed.now r → ¬ IsWithinRange r) }
+        ensures beyond { OnErr result ((r : Seen) →
+            IsIssued issued decision reviewable closed.now r → ¬ IsWithinRange r) }
         ensures computed { Computes result (issued_record issued decision reviewable closed.now) }
     {
         if reviewable {
@@ -152,16 +156,17 @@ impl Record {
     ///
     /// # Errors
     ///
-    /// `DateRange` exactly where the effective day or the expiry that follows is outside the limit; the record is as it was.
+    /// `DateRange` exactly where the resulting effective day or expiry is outside the limit; the record is then unchanged.
     #[tactic(auto, using(crate::proofs::ComputedFacts::affirmed_made, crate::proofs::ComputedFacts::affirmed_none))]
     pub fn affirm(&mut self, day: Date) -> Result<(), DateRange>
         requires kept { IsKept self.old }
         requires day { IsLimited day }
-        ensures affirmed { OnOk result (self.new ≡ affirmed_on day self.old) }
+        ensures affirmed { OnOk result (self.new ≡ record_affirmed_on day self.old) }
         ensures range { OnOk result (IsWithinRange self.new) }
         ensures same { OnErr result (self.new ≡ self.old) }
-        ensures beyond { OnErr result (¬ IsInRange (affirmed_on day self.old)) }
-        ensures computed { MatchResult result (λ _. affirmed_record day self.old ≡ Some self.new) (λ _. affirmed_record day self.old ≡ None) }
+        ensures beyond { OnErr result (¬ IsInRange (record_affirmed_on day self.old)) }
+        ensures computed { MatchResult result (λ _. affirmed_record day self.old ≡ Some self.new)
+            (λ _. affirmed_record day self.old ≡ None) }
     {
         let affirmed = Record {
             pending: false,
@@ -175,20 +180,23 @@ impl Record {
         Ok(())
     }
 
-    /// Moves the expiry on by 1 to `EXTENSION_MONTHS` months (77.35(b), (c)), counted from the expiry that stands.
+    /// Extends the current expiry by 1 to `EXTENSION_MONTHS` months (77.35(b), (c)).
     ///
     /// # Errors
     ///
-    /// `DateRange` exactly where the new expiry is outside the limit; the record is as it was.
+    /// `DateRange` exactly where the new expiry is outside the limit; the record is then unchanged.
     pub fn extend(&mut self, months: u8) -> Result<(), DateRange>
         requires kept { IsKept self.old }
         requires stands { IsSome (expiry_day self.old) }
         requires months { (1 ≤ months) × (months ≤ EXTENSION_MONTHS) }
-        ensures extended { OnOk result ((x : Plain) × IsExtension self.old months x × (self.new ≡ extended_to x self.old)) }
+        ensures extended { OnOk result ((x : Plain) × IsExtension self.old months x
+            × (self.new ≡ record_extended_to x self.old)) }
         ensures range { OnOk result (IsKept self.new) }
         ensures same { OnErr result (self.new ≡ self.old) }
-        ensures beyond { OnErr result ((x : Plain) → IsExtension self.old months x → ¬ IsLimited x) }
-        ensures computed { MatchResult result (λ _. extended_record months self.old ≡ Some self.new) (λ _. extended_record months self.old ≡ None) }
+        ensures beyond { OnErr result ((x : Plain) → IsExtension self.old months x →
+            ¬ IsLimited x) }
+        ensures computed { MatchResult result (λ _. extended_record months self.old
+            ≡ Some self.new) (λ _. extended_record months self.old ≡ None) }
     {
         let Some(end) = expiry(self) else {
             unreachable!()

@@ -11,10 +11,10 @@ use crate::determination::{Decision, Record};
 use crate::limit::is_limited;
 use jiff::civil::Date;
 
-/// A determination of no hazard expires 18 months after its effective day (77.33(b)).
+/// Months from the effective day to the expiry of a determination of no hazard (77.33(b)).
 pub const PERIOD_MONTHS: u8 = 18;
 
-/// A petition for an extension is submitted at least 15 days before the expiry (77.35(a)(2)).
+/// Days before the expiry by which a petition for an extension is submitted (77.35(a)(2)).
 pub const EXTENSION_DAYS: i32 = 15;
 
 /// The later of two dates.
@@ -24,8 +24,8 @@ fn later(a: Date, b: Date) -> Date
     if a < b { b } else { a }
 }
 
-/// The effective day (77.33(a)): none while a petition is pending; after an affirmation the later of its day and the ordinary day;
-/// else the ordinary day.
+/// The effective day (77.33(a)): none while a petition is pending; after an affirmation the later of the day of affirmation and the
+/// ordinary day; else the ordinary day.
 pub fn effective(r: &Record) -> Option<Date>
     ensures { result ≡ effective_date r.now }
 {
@@ -38,8 +38,8 @@ pub fn effective(r: &Record) -> Option<Date>
     }
 }
 
-/// The expiry: none of a determination of hazard (77.33(c)); the day that was set by an extension or by what the FCC did (77.35(b),
-/// (c)), else 18 months after the effective day (77.33(b)), and none while there is none.
+/// The expiry: none for a determination of hazard (77.33(c)); else the day set by an extension or an FCC act (77.35(b), (c)); else 18
+/// months after the effective day (77.33(b)), and none while there is no effective day.
 #[tactic(auto, using(crate::proofs::EffectFacts::effective_near, crate::proofs::ComputedFacts::expiry_is))]
 pub fn expiry(r: &Record) -> Option<Date>
     requires { IsKept r.now }
@@ -74,7 +74,7 @@ pub fn last_extension_day(r: &Record) -> Option<Date>
     }
 }
 
-/// Whether the effective day and the expiry are within the limit. The effective day of a kept record always is.
+/// Whether the effective day and the expiry are within the limit. The effective day of a stored record always is.
 #[tactic(auto, using(crate::proofs::EffectFacts::range_some, crate::proofs::EffectFacts::range_none))]
 pub(crate) fn is_in_range(r: &Record) -> bool
     requires { IsKept r.now }

@@ -1,4 +1,4 @@
-//! The evidence for an extension where the structure wants a construction permit of the FCC (77.35(c)).
+//! The evidence for an extension of a structure that needs a construction permit of the FCC (77.35(c)).
 
 ghost use Rattle.std.specs.Prelude.{◌↔◌, IsTrue, pos, ◌≤ℤ◌};
 ghost use Rattle.jiff_core.specs.Date.{epoch_day};
@@ -8,7 +8,7 @@ ghost use Rattle.determination_dates.specs.Days.{IsLimited};
 use crate::days::months_later;
 use jiff::civil::Date;
 
-/// An application to the FCC is filed within 6 months of the issuance of the determination (77.35(c)(1)).
+/// Months after issuance within which the application to the FCC is filed (77.35(c)(1)).
 pub const EVIDENCE_MONTHS: u8 = 6;
 
 /// Whether an application to the FCC was filed at most 6 months after a determination was issued (77.35(c)(1)).

@@ -1,24 +1,24 @@
-//! What became of a case.
+//! The state of a case: its end, its determination and its status.
 
 use crate::determination::Record;
 
 /// How a case ended.
 #[derive(Clone, Copy, Debug, PartialEq, Eq)]
 pub enum End {
-    /// The proposed structure was given up (77.33(b)).
+    /// The proposed structure was abandoned (77.33(b)).
     Abandoned,
     /// The determination was reversed after a petition (77.37).
     Reversed,
 }
 
-/// What became of a case: its end and its determination.
+/// The state of a case: its end and its determination.
 #[derive(Clone, Copy, Debug, PartialEq, Eq)]
 pub struct Life {
     pub end: Option<End>,
     pub determination: Option<Record>,
 }
 
-/// How a case stands on a day.
+/// The status of a case on a day.
 #[derive(Clone, Copy, Debug, PartialEq, Eq)]
 pub enum Status {
     /// No determination was made.

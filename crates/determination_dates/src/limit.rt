@@ -6,13 +6,13 @@ ghost use Rattle.determination_dates.specs.Days.{IsLimited};
 use crate::days::number;
 use jiff::civil::Date;
 
-/// The day number of the first date that is allowed, 1900-01-01.
+/// The day number of the first allowed date, 1900-01-01.
 pub const FIRST_DAY: i32 = -25_567;
 
-/// The day number of the last date that is allowed, 2999-12-31.
+/// The day number of the last allowed date, 2999-12-31.
 pub const LAST_DAY: i32 = 376_199;
 
-/// A date that a call computes is outside the limit.
+/// A computed date is outside the limit.
 #[derive(Clone, Copy, Debug, PartialEq, Eq)]
 pub struct DateRange;
 
@@ -24,7 +24,7 @@ pub fn is_limited(date: Date) -> bool
     FIRST_DAY <= day && day <= LAST_DAY
 }
 
-/// The date itself, where it is within the limit.
+/// The date itself where it is within the limit, else `DateRange`.
 pub(crate) fn within(date: Date) -> Result<Date, DateRange>
     ensures { MatchResult result (λ d. (d ≡ date) × IsLimited date) (λ _. ¬ IsLimited date) }
 {

@@ -11,20 +11,20 @@ use crate::limit::{DateRange, within};
 use crate::timely::Timeliness;
 use jiff::civil::Date;
 
-/// Notice is submitted at least 45 days before the earlier of the start of the work and the application for a permit (77.7(b)).
+/// Days by which notice precedes the earlier of the start of the work and the application for a permit (77.7(b)).
 pub const NOTICE_DAYS: i32 = 45;
 
-/// In an emergency the completed form is filed within 5 days of the notice (77.7(e)).
+/// Days after an emergency notice within which the completed form is filed (77.7(e)).
 pub const FORM_DAYS: i32 = 5;
 
-/// So many days where they are above 0, else 0.
+/// `days` where it is above 0, else 0.
 fn days_over(days: i32) -> u32
     ensures { result ≡ days_over days }
 {
     if days > 0 { days as u32 } else { 0 }
 }
 
-/// Timely, or late by so many days.
+/// Timely where `days` is 0, else late by `days` days.
 fn by_days(days: u32) -> Timeliness
     ensures { result ≡ by_days days }
 {
@@ -34,7 +34,7 @@ fn by_days(days: u32) -> Timeliness
     }
 }
 
-/// The day number of the earlier of two dates, the second of which may be wanting.
+/// The day number of the earlier of two dates, the second of which may be absent.
 fn earlier(start: Date, permit: Option<Date>) -> i32
     requires start { IsLimited start }
     requires permit { IfSome permit IsLimited }
@@ -49,7 +49,7 @@ fn earlier(start: Date, permit: Option<Date>) -> i32
     if permit < start { permit } else { start }
 }
 
-/// How many days late a notice is.
+/// The number of days by which a notice is late.
 fn days_late(received: Date, start: Date, permit: Option<Date>) -> u32
     requires received { IsLimited received }
     requires start { IsLimited start }
@@ -59,8 +59,8 @@ fn days_late(received: Date, start: Date, permit: Option<Date>) -> u32
     days_over(number(received) + NOTICE_DAYS - earlier(start, permit))
 }
 
-/// Whether a notice that was received on a day is in time, for work that starts on `start` and, where a construction permit is
-/// wanted, an application for it on `permit` (77.7(b)). In an emergency the form is due 5 days after the notice (77.7(e)).
+/// Whether a notice received on a day is in time, for work that starts on `start` and, where a construction permit is needed, an
+/// application for it on `permit` (77.7(b)). In an emergency the form is due 5 days after the notice (77.7(e)).
 ///
 /// # Errors
 ///
@@ -77,7 +77,8 @@ pub fn timeliness(
     requires permit { IfSome permit IsLimited }
     ensures value { IfOk result (IsTimeliness received start permit emergency) }
     ensures within { IfOk result HasLimitedDue }
-    ensures beyond { OnErr result ((emergency ≡ true) × (¬ IsDay (epoch_day received +ℤ FORM_DAYS))) }
+    ensures beyond { OnErr result ((emergency ≡ true)
+        × (¬ IsDay (epoch_day received +ℤ FORM_DAYS))) }
     ensures computed { Computes result (timeliness_of received start permit emergency) }
 {
     if emergency {
@@ -89,8 +90,8 @@ pub fn timeliness(
     Ok(by_days(days_late(received, start, permit)))
 }
 
-/// How many days after the application to the FCC a notice was received, or 0: it is submitted on or before that day (77.7(c)). So
-/// too, how many days after the day on which it was due an emergency's form came.
+/// The number of days from the application to the FCC to the receipt of a notice, or 0: notice is due on or before the day of the
+/// application (77.7(c)). It also gives the number of days by which an emergency's form came after its due day.
 pub fn fcc_late(received: Date, application: Date) -> u32
     requires received { IsLimited received }
     requires application { IsLimited application }

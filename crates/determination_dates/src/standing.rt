@@ -20,7 +20,7 @@ fn is_past(expiry: Option<Date>, day: Date) -> bool
     }
 }
 
-/// The status from the effective day on.
+/// The status on a day at or after the effective day.
 fn in_effect(r: &Record, day: Date) -> Status
     requires { IsKept r.now }
     ensures { result ≡ in_effect r.now.decision (expiry_day r.now) (epoch_day day) }
@@ -37,7 +37,7 @@ fn in_effect(r: &Record, day: Date) -> Status
     }
 }
 
-/// The status by the determination alone.
+/// The status of a case without an end, from its determination.
 fn by_record(made: Option<&Record>, day: Date) -> Status
     requires { IfSome made (λ r. IsKept r.now) }
     ensures { result ≡ by_record (option_copied made.entry) (epoch_day day) }
@@ -57,7 +57,7 @@ fn by_record(made: Option<&Record>, day: Date) -> Status
 }
 
 /// The status of a case on a day: the first that holds of abandoned, reversed, awaiting (no determination), pending (no effective day
-/// yet, or the day is before it), hazard, expired, in force. A determination stands through the day of its expiry (77.33(b)).
+/// yet, or the day is before it), hazard, expired, in force. A determination is valid through its expiry day (77.33(b)).
 pub fn status(l: &Life, day: Date) -> Status
     requires { IfSome l.now.determination IsKept }
     ensures { result ≡ status_of l.now (epoch_day day) }

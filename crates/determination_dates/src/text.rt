@@ -15,7 +15,7 @@ fn last_digit(number: u16) -> u8
     b'0' + (number % 10) as u8
 }
 
-/// The year, where a negative one stands as 0.
+/// The year, or 0 where it is negative.
 fn year_of(date: Date) -> u16
     ensures { result ≡ year_of date.year }
 {
@@ -44,12 +44,13 @@ pub fn date_bytes(date: Date) -> [u8; 10]
     ]
 }
 
-/// The number below 100 whose two digits these are.
+/// The number below 100 that two digits spell.
 #[tactic(auto, using(crate::proofs::Texts::pair_value, crate::proofs::Texts::no_pair))]
 fn pair(tens: u8, ones: u8) -> Option<u8>
     ensures some { IfSome result (λ n. (tens ≡ last_digit (n / 10)) × (ones ≡ last_digit n)) }
     ensures small { IfSome result (λ n. n < 100) }
-    ensures none { IfNone result ((n : ℕ) → n < 100 → tens ≡ last_digit (n / 10) → ones ≢ last_digit n) }
+    ensures none { IfNone result ((n : ℕ) → n < 100 → tens ≡ last_digit (n / 10) →
+        ones ≢ last_digit n) }
 {
     if tens < b'0' {
         return None;
@@ -66,11 +67,12 @@ fn pair(tens: u8, ones: u8) -> Option<u8>
     Some((tens - b'0') * 10 + (ones - b'0'))
 }
 
-/// The year, the month and the day that the bytes spell as `YYYY-MM-DD`.
+/// The year, month and day that the bytes spell as `YYYY-MM-DD`.
 fn parts(bytes: &[u8]) -> Option<(u16, u8, u8)>
     ensures some { IfSome result (λ p. bytes.now ≡ ymd_text p.0 p.1 p.2) }
     ensures small { IfSome result (λ p. (p.0 < 10000) × (p.1 < 100) × (p.2 < 100)) }
-    ensures none { IfNone result ((y m d : ℕ) → y < 10000 → m < 100 → d < 100 → bytes.now ≢ ymd_text y m d) }
+    ensures none { IfNone result ((y m d : ℕ) → y < 10000 → m < 100 → d < 100 →
+        bytes.now ≢ ymd_text y m d) }
 {
     if bytes.len() != 10 {
         return None;
@@ -96,12 +98,13 @@ fn parts(bytes: &[u8]) -> Option<(u16, u8, u8)>
     Some((u16::from(century) * 100 + u16::from(rest), month, day))
 }
 
-/// The date with these parts, where it is within the limit.
+/// The date with this year, month and day, where it exists and is within the limit.
 fn date_of(year: u16, month: u8, day: u8) -> Option<Date>
     requires { (year < 10000) × (month < 100) × (day < 100) }
     ensures some { IfSome result (λ d. (d.year ≡ pos year) × (d.month ≡ month) × (d.day ≡ day)) }
     ensures limited { IfSome result IsLimited }
-    ensures none { IfNone result ((d : Plain) → IsLimited d → d.year ≡ pos year → d.month ≡ month → d.day ≢ day) }
+    ensures none { IfNone result ((d : Plain) → IsLimited d → d.year ≡ pos year →
+        d.month ≡ month → d.day ≢ day) }
 {
     let Ok(date) = Date::new(year as i16, month as i8, day as i8) else {
         return None;
@@ -109,7 +112,7 @@ fn date_of(year: u16, month: u8, day: u8) -> Option<Date>
     if is_limited(date) { Some(date) } else { None }
 }
 
-/// The date that the bytes spell as `YYYY-MM-DD`, and `None` where they spell none from 1900-01-01 to 2999-12-31.
+/// The date that the bytes spell as `YYYY-MM-DD`, or `None` where they spell no date from 1900-01-01 to 2999-12-31.
 pub fn read_date(bytes: &[u8]) -> Option<Date>
     ensures some { IfSome result (λ d. IsLimited d × (bytes.now ≡ date_text d)) }
     ensures none { IfNone result ((d : Plain) → IsLimited d → bytes.now ≢ date_text d) }

@@ -2,16 +2,16 @@
 use Rattle.std.proofs.Common.{◌≡◌, ◌≢◌, ap, ◌∙◌, ◌+◌, ℕ, Bool, true, false, not, is_none, is_some, ◌&&◌, nat_lt, nat_le, int_lt, List, [], ◌∷◌, ◌++◌, length, Option, Some, None, Result, Err}
 use Rattle.jiff_core.specs.declared.civil.date.Date.{Date}
 use Rattle.jiff_core.specs.Date.{epoch_day}
-use Rattle.airfield_findings.specs.Verdicts.{is_obstruction}
+use Rattle.finding_lists.specs.Verdicts.{is_obstruction}
 use Rattle.determination_dates.specs.Computed.{last_date}
 use Rattle.determination_dates.specs.Statuses.{status_of}
 use Rattle.determination_dates.specs.declared.determination.Record.{Record}
 use Rattle.determination_dates.specs.declared.life.Status.{Status}
 use Rattle.airport_register.specs.declared.amendment.AmendRefusal.{AmendRefusal}
 use Rattle.airport_register.specs.declared.amendment.AmendRefusal.TheVariants as amends
-use Rattle.case_values.specs.declared.act.Act.{Act}
-use Rattle.case_values.specs.declared.act.Act.TheVariants as acts
-use Rattle.case_values.specs.declared.act.Impact.{Impact}
+use Rattle.case_requests.specs.declared.act.Act.{Act}
+use Rattle.case_requests.specs.declared.act.Act.TheVariants as acts
+use Rattle.case_requests.specs.declared.act.Impact.{Impact}
 use Rattle.case_records.specs.Refusals.{refused_amendment}
 use Rattle.case_records.specs.declared.case.KeptCase.{KeptCase}
 use Rattle.case_records.specs.declared.case.KeptList.{KeptList}
@@ -20,12 +20,12 @@ use Rattle.case_records.specs.declared.refusal.Refusal.TheVariants as refusals
 use Rattle.case_acts.specs.declared.effect.Effect.{Effect}
 use Rattle.case_acts.specs.declared.extension.Extension.{Extension}
 use Rattle.case_acts.specs.Standing.{is_awaiting, is_standing, is_in_force, is_planned}
-use Rattle.case_acts.specs.Rules.{when, of_record, in_status, on_determination, form_rules, finding_rules, determination_rules, deadline_rules, review_rules, pending_rules, last_day_rules, has_evidence, evidence_rules, moving_rules, license_rules}
+use Rattle.case_acts.specs.Rules.{refusal_if, of_record, in_status, on_determination, form_rules, finding_rules, determination_rules, deadline_rules, review_rules, pending_rules, last_day_rules, has_evidence, evidence_rules, moving_rules, license_rules}
 use Rattle.case_acts.specs.Rulings.{ruling}
-use Rattle.case_acts.specs.Effects.{petitioned, disposed, extended, licensed, abandoned, determined, filed, form_came}
-use Rattle.desk_rules.specs.declared.entry.TheConstants.{MOST_CASES}
-use Rattle.desk_rules.specs.States.{State, case_at}
-use Rattle.desk_rules.specs.Machine.{acted, on_day, on_kept, on_list, day_rules, file_rules}
+use Rattle.case_acts.specs.Effects.{petition_effect, disposal_effect, extension_effect, license_effect, abandonment_effect, determination_effect, filing_effect, form_came}
+use Rattle.desk_machine.specs.declared.entry.TheConstants.{MOST_CASES}
+use Rattle.desk_machine.specs.States.{State, case_at}
+use Rattle.desk_machine.specs.Machine.{ruling_of_act, on_day, on_kept, on_list, day_rules, file_rules}
 
 pub no_fault_of_register : (why : AmendRefusal) → refused_amendment why ≢ refusals.KeeperFault
 no_fault_of_register amends.PrecisionOnUtility e = cc (e)
@@ -46,7 +46,7 @@ abbrev Others : List Refusal → Type 0
 Others [] = Unit {0}
 Others (why ∷ rest) = (why ≢ refusals.KeeperFault) × Others rest
 
-others_when : (b : Bool) (why : Refusal) → why ≢ refusals.KeeperFault → Others (when b why)
+others_when : (b : Bool) (why : Refusal) → why ≢ refusals.KeeperFault → Others (refusal_if b why)
 others_when true why h = (h, tt)
 others_when false why h = tt
 
@@ -121,35 +121,35 @@ never_on_case : (s : State) (number : ℕ) (act : Date → KeptCase → Result E
     → IsFault (on_day s.day (λ today. on_kept (case_at s.cases number) (act today))) → ⊥
 never_on_case s number act h e = never_on_day s.day _ (λ today k. never_on_kept (case_at s.cases number) (act today) (h today) k) e
 
-acted_never : (s : State) (basis : Option KeptList) (act : Act) → IsFault (acted s basis act) → ⊥
+acted_never : (s : State) (basis : Option KeptList) (act : Act) → IsFault (ruling_of_act s basis act) → ⊥
 acted_never s basis (acts.Amend a) e = cc (e)
 acted_never s basis (acts.Day d) e = never_ruled (day_rules s.day d) _ (others_day s.day d) e
 acted_never s basis (acts.Closed d) e = cc (e)
 acted_never s basis (acts.File n) e =
-    never_on_day s.day _ (λ today k. never_ruled (file_rules s.cases) (filed (length s.cases + 1) today n) (others_when (nat_le MOST_CASES (length s.cases)) refusals.CasesFull (λ x. cc (x))) k) e
+    never_on_day s.day _ (λ today k. never_ruled (file_rules s.cases) (filing_effect (length s.cases + 1) today n) (others_when (nat_le MOST_CASES (length s.cases)) refusals.CasesFull (λ x. cc (x))) k) e
 acted_never s basis (acts.Form number) e =
     never_on_case s number _ (λ today c k. never_ruled (form_rules c) (Some (form_came number today c)) (others_when _ refusals.NoFormDue (λ x. cc (x))) k) e
 acted_never s basis (acts.Determine number finding) e =
     never_on_case s number _ (λ today c k. never_on_list basis _
-    (λ kept m. never_ruled (determination_rules finding kept today c) (determined number finding s.closed kept today c)
+    (λ kept m. never_ruled (determination_rules finding kept today c) (determination_effect number finding s.closed kept today c)
     (others_more _ _ (others_status is_awaiting today c) (others_finding finding kept)) m) k) e
 acted_never s basis (acts.Petition number party) e =
-    never_on_case s number _ (λ today c k. never_ruled _ (petitioned number c) (others_act is_standing (review_rules today) today c (others_review today)) k) e
+    never_on_case s number _ (λ today c k. never_ruled _ (petition_effect number c) (others_act is_standing (review_rules today) today c (others_review today)) k) e
 acted_never s basis (acts.Dispose number affirm) e =
-    never_on_case s number _ (λ today c k. never_ruled _ (disposed number affirm today c)
+    never_on_case s number _ (λ today c k. never_ruled _ (disposal_effect number affirm today c)
     (others_act is_standing pending_rules today c (λ r. others_when (not r.pending) refusals.NothingPending (λ x. cc (x)))) k) e
 acted_never s basis (acts.Extend number months started filing warranted) e =
     let x : Extension = record { months = months; started = started; filed = filing; warranted = warranted } in
-    never_on_case s number _ (λ today c k. never_ruled _ (extended number x c)
+    never_on_case s number _ (λ today c k. never_ruled _ (extension_effect number x c)
     (others_act is_in_force (moving_rules x today c.submission.fcc) today c (others_moving x today c.submission.fcc)) k) e
 acted_never s basis (acts.Fcc number completion) e =
-    never_on_case s number _ (λ today c k. never_ruled _ (licensed number completion today c)
+    never_on_case s number _ (λ today c k. never_ruled _ (license_effect number completion today c)
     (others_act is_in_force (λ r. license_rules c) today c (λ r. others_when (is_none c.submission.fcc) refusals.FccEvidence (λ x. cc (x)))) k) e
 acted_never s basis (acts.Abandon number) e =
-    never_on_case s number _ (λ today c k. never_ruled _ (Some (abandoned number c)) (others_status is_planned today c) k) e
+    never_on_case s number _ (λ today c k. never_ruled _ (Some (abandonment_effect number c)) (others_status is_planned today c) k) e
 
 -- what is refused as the act is, or for want of memory
-pub no_fault_of_act : (s : State) (basis : Option KeptList) (act : Act) (why : Refusal) → (why ≢ refusals.NoMemory → acted s basis act ≡ Err why) → why ≢ refusals.KeeperFault
+pub no_fault_of_act : (s : State) (basis : Option KeptList) (act : Act) (why : Refusal) → (why ≢ refusals.NoMemory → ruling_of_act s basis act ≡ Err why) → why ≢ refusals.KeeperFault
 no_fault_of_act s basis act why h fault =
     let other : why ≢ refusals.NoMemory = λ e. cc (e, fault) in
     acted_never s basis act (h other ∙ ap (λ (w : Refusal). Err w) fault)

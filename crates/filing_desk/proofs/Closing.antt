@@ -1,10 +1,10 @@
 -- The cases are closed one by one, from the last to the first.
 use Rattle.std.proofs.Common.{◌≡◌, refl, sym, ap, ◌∙◌, subst, arith, ℕ, ◌-◌, ◌≤◌, nat_eq, nat_lt, Bool, true, false, not, ◌&&◌, ◌||◌, cond, List, length, Option, None}
 use Rattle.std.proofs.lemmas.Grind.{common_steps}
-use Rattle.review_marks.specs.Books.{row_at, closed}
+use Rattle.review_marks.specs.Books.{row_at, rows_after_close}
 use Rattle.review_marks.specs.declared.row.Row.{Row}
-use Rattle.desk_rules.specs.States.{State}
-use Rattle.desk_rules.specs.Marks.{stands_in}
+use Rattle.desk_machine.specs.States.{State}
+use Rattle.desk_machine.specs.Marks.{stands_in}
 use Rattle.filing_desk.proofs.MarksAfter.{closed_row, row_past}
 use Rattle.review_marks.proofs.Turning.{same_number}
 
@@ -28,7 +28,7 @@ split k n h = by_cases (nat_lt k n) (nat_eq k n) refl refl
     by_cases false true p q = grind (arith, common_steps, q, h)
     by_cases false false p q = grind (arith, common_steps, p, q, h)
 
-pub closed_on : (s : State) (old rows : List (Option Row)) (k : ℕ) (b : Bool) → 1 ≤ k → stands_in s k ≡ b → IsClosedTo s old k rows → IsClosedTo s old (k - 1) (cond b rows (closed k rows))
+pub closed_on : (s : State) (old rows : List (Option Row)) (k : ℕ) (b : Bool) → 1 ≤ k → stands_in s k ≡ b → IsClosedTo s old k rows → IsClosedTo s old (k - 1) (cond b rows (rows_after_close k rows))
 closed_on s old rows k true low is h n =
     h n ∙ stood (nat_lt k n) (nat_eq k n) (stands_in s n) (row_at old n) (λ e. ap (stands_in s) (sym (same_number k n e)) ∙ is) ∙ ap (λ (x : Bool). cond (x && not (stands_in s n)) None (row_at old n)) (sym (split k n low))
   where

@@ -8,8 +8,8 @@ use Rattle.std.specs.Cmp.Lexicographic.{pointwise}
 use Rattle.std.specs.BTreeMap.{BTreeMap, get, is_at, Updates}
 use Rattle.std.specs.Map.{lookup}
 use Rattle.determination_dates.specs.Computed.{with_some}
-use Rattle.desk_rules.specs.declared.entry.Entry.{Entry}
-use Rattle.desk_rules.specs.States.{entry_of}
+use Rattle.desk_machine.specs.declared.entry.Entry.{Entry}
+use Rattle.desk_machine.specs.States.{entry_of}
 use Rattle.filing_desk.specs.Receipts.{IsIndex}
 use Rattle.filing_desk.specs.declared.receipt_key.ReceiptKey.{ReceiptKey}
 use Rattle.filing_desk.specs.contracts.receipt_key.ReceiptKeyOrd.TheImpl as keys

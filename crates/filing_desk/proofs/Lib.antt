@@ -11,4 +11,3 @@ pub mod RowFacts
 pub mod Unasked
 pub mod Opened
 pub mod Causes
-pub mod NoFaults

@@ -4,7 +4,7 @@ use Rattle.jiff_core.specs.declared.civil.date.Date.{Date}
 use Rattle.determination_dates.specs.Days.{IsLimited}
 use Rattle.wire_values.specs.Words.{IsAnyLimited}
 use Rattle.wire_requests.specs.Limits.{IsValidSubmission}
-use Rattle.case_values.specs.declared.submission.Submission.{Submission}
+use Rattle.case_requests.specs.declared.submission.Submission.{Submission}
 use Rattle.case_acts.specs.Cases.{HasLimitedDates}
 
 pub any_limited : (d : Option Date) → IsAnyLimited d → IfSome d IsLimited

@@ -21,52 +21,52 @@ use Rattle.case_records.specs.declared.case.KeptCase.{KeptCase}
 use Rattle.case_records.specs.declared.case.KeptList.{KeptList}
 use Rattle.case_acts.specs.Standing.{is_standing}
 use Rattle.case_acts.specs.declared.effect.Step.TheVariants as steps
-use Rattle.review_marks.specs.Books.{row_at, joined, marked_as, marked_cases, is_marked_in, is_marked_row, numbers_up_to, differs, closed}
+use Rattle.review_marks.specs.Books.{row_at, joined, row_marked_as, marked_cases, is_marked_in, is_marked_row, numbers_up_to, differs, rows_after_close}
 use Rattle.review_marks.specs.Shares.{AirfieldChange, concerns}
-use Rattle.review_marks.specs.Turns.{Leads, turned}
+use Rattle.review_marks.specs.Turns.{Leads, row_after_change}
 use Rattle.review_marks.specs.declared.row.Row.{Row}
 use Rattle.review_marks.proofs.Unconcerned.{same_lists, unconcerned}
 use Rattle.review_marks.proofs.Turning.{apart, by_places, eq_suc, same_number, suc_zero, zero_suc}
-use Rattle.desk_rules.specs.States.{State, case_at, changed_at, with_case, stepped}
-use Rattle.desk_rules.proofs.CaseFacts.{case_changed, case_past}
-use Rattle.desk_rules.specs.Marks.{Goes, is_marked, marks, stands_on, stands_in, compared, watched}
+use Rattle.desk_machine.specs.States.{State, case_at, cases_changed_at, with_case, state_after_step}
+use Rattle.desk_machine.proofs.CaseFacts.{case_changed, case_past}
+use Rattle.desk_machine.specs.Marks.{Goes, is_marked, marks, stands_on, stands_in, comparison_row, watched_row}
 use Rattle.filing_desk.specs.Desks.{with_register}
 use Rattle.filing_desk.specs.Marked.{AreMarks, HasDay}
 
 -- ---- the airfields are others
 
 compared_as : (s : State) (airfields : List Airfield) (change : AirfieldChange) (c : KeptCase) (kept : KeptList) (b : Bool) → Leads s.register airfields change → concerns change c.submission.filing ≡ b
-    → (if b then marked_as (differs kept.list (findings_of airfields c.submission.filing)) (compared s c kept) else compared s c kept) ≡ compared (with_register airfields s) c kept
+    → (if b then row_marked_as (differs kept.list (findings_of airfields c.submission.filing)) (comparison_row s c kept) else comparison_row s c kept) ≡ comparison_row (with_register airfields s) c kept
 compared_as s airfields change c kept true l h = refl
 compared_as s airfields change c kept false l h =
     ap (λ list. record { filing = c.submission.filing; stored = kept.list; marked = differs kept.list list }) (unconcerned s.register airfields change c.submission.filing l h)
 
 watched_as : (s : State) (airfields : List Airfield) (change : AirfieldChange) (c : KeptCase) (b : Bool) (list : Option KeptList) → Leads s.register airfields change
-    → option_map (turned airfields change) (cond b (option_map (compared s c) list) None) ≡ cond b (option_map (compared (with_register airfields s) c) list) None
+    → option_map (row_after_change airfields change) (cond b (option_map (comparison_row s c) list) None) ≡ cond b (option_map (comparison_row (with_register airfields s) c) list) None
 watched_as s airfields change c false list l = refl
 watched_as s airfields change c true None l = refl
 watched_as s airfields change c true (Some kept) l = ap Some (compared_as s airfields change c kept (concerns change c.submission.filing) l refl)
 
-row_as : (s : State) (airfields : List Airfield) (change : AirfieldChange) (o : Option KeptCase) → Leads s.register airfields change → option_map (turned airfields change) (with_some o (watched s)) ≡ with_some o (watched (with_register airfields s))
+row_as : (s : State) (airfields : List Airfield) (change : AirfieldChange) (o : Option KeptCase) → Leads s.register airfields change → option_map (row_after_change airfields change) (with_some o (watched_row s)) ≡ with_some o (watched_row (with_register airfields s))
 row_as s airfields change None l = refl
 row_as s airfields change (Some c) l = watched_as s airfields change c (stands_on s.day c) c.list l
 
 pub marks_amended : (s : State) (airfields : List Airfield) (change : AirfieldChange) (rows new : List (Option Row)) → Leads s.register airfields change → AreMarks s rows
-    → ((n : ℕ) → row_at new n ≡ option_map (turned airfields change) (row_at rows n)) → AreMarks (with_register airfields s) new
+    → ((n : ℕ) → row_at new n ≡ option_map (row_after_change airfields change) (row_at rows n)) → AreMarks (with_register airfields s) new
 marks_amended s airfields change rows new l are turns n =
-    turns n ∙ ap (option_map (turned airfields change)) (are n) ∙ row_as s airfields change (case_at s.cases n) l
+    turns n ∙ ap (option_map (row_after_change airfields change)) (are n) ∙ row_as s airfields change (case_at s.cases n) l
 
 -- ---- a case is changed
 
 -- where no case is watched otherwise than before
-kept_by : (s : State) (f : KeptCase → KeptCase) (b : Bool) (o : Option KeptCase) → ((c : KeptCase) → watched s (f c) ≡ watched s c) → with_some (option_map (λ c. cond b (f c) c) o) (watched s) ≡ with_some o (watched s)
+kept_by : (s : State) (f : KeptCase → KeptCase) (b : Bool) (o : Option KeptCase) → ((c : KeptCase) → watched_row s (f c) ≡ watched_row s c) → with_some (option_map (λ c. cond b (f c) c) o) (watched_row s) ≡ with_some o (watched_row s)
 kept_by s f b None h = refl
 kept_by s f true (Some c) h = h c
 kept_by s f false (Some c) h = refl
 
-pub marks_formed : (s : State) (k : ℕ) (f : KeptCase → KeptCase) (rows : List (Option Row)) → ((c : KeptCase) → watched s (f c) ≡ watched s c) → AreMarks s rows → AreMarks (record s { cases = with_case k f s.cases }) rows
+pub marks_formed : (s : State) (k : ℕ) (f : KeptCase → KeptCase) (rows : List (Option Row)) → ((c : KeptCase) → watched_row s (f c) ≡ watched_row s c) → AreMarks s rows → AreMarks (record s { cases = with_case k f s.cases }) rows
 marks_formed s k f rows same are n =
-    are n ∙ sym (kept_by s f (nat_eq k n) (case_at s.cases n) same) ∙ ap (λ o. with_some o (watched s)) (sym (case_changed k f s.cases n))
+    are n ∙ sym (kept_by s f (nat_eq k n) (case_at s.cases n) same) ∙ ap (λ o. with_some o (watched_row s)) (sym (case_changed k f s.cases n))
 
 -- ---- a case is opened
 
@@ -76,17 +76,17 @@ more_at [] c (suc i) P here last = here
 more_at (d ∷ cases) c zero P here last = here
 more_at (d ∷ cases) c (suc i) P here last = more_at cases c i P here last
 
-pub unlisted : (s : State) (c : KeptCase) (list : Option KeptList) (b : Bool) → list ≡ None → cond b (option_map (compared s c) list) None ≡ None
+pub unlisted : (s : State) (c : KeptCase) (list : Option KeptList) (b : Bool) → list ≡ None → cond b (option_map (comparison_row s c) list) None ≡ None
 unlisted s c None true h = refl
 unlisted s c (Some kept) true h = absurd (cc (h))
 unlisted s c list false h = refl
 
-opened_at : (s : State) (c : KeptCase) (n : ℕ) (x : Option Row) (d : Bool) → c.list ≡ None → x ≡ with_some (cond d None (slice_get s.cases (n - 1))) (watched s)
-    → x ≡ with_some (cond d None (slice_get (s.cases ++ c ∷ []) (n - 1))) (watched s)
+opened_at : (s : State) (c : KeptCase) (n : ℕ) (x : Option Row) (d : Bool) → c.list ≡ None → x ≡ with_some (cond d None (slice_get s.cases (n - 1))) (watched_row s)
+    → x ≡ with_some (cond d None (slice_get (s.cases ++ c ∷ []) (n - 1))) (watched_row s)
 opened_at s c n x true h are = are
 opened_at s c n x false h are =
-    more_at s.cases c (n - 1) (λ o. x ≡ with_some o (watched s)) are
-    (λ none. are ∙ ap (λ o. with_some o (watched s)) none ∙ sym (unlisted s c c.list (stands_on s.day c) h))
+    more_at s.cases c (n - 1) (λ o. x ≡ with_some o (watched_row s)) are
+    (λ none. are ∙ ap (λ o. with_some o (watched_row s)) none ∙ sym (unlisted s c c.list (stands_on s.day c) h))
 
 pub marks_opened : (s : State) (c : KeptCase) (rows : List (Option Row)) → c.list ≡ None → AreMarks s rows → AreMarks (record s { cases = s.cases ++ c ∷ [] }) rows
 marks_opened s c rows h are n = opened_at s c n (row_at rows n) (n == 0) h (are n)
@@ -147,7 +147,7 @@ closed_by rows k n false false h e =
     closed_place rows (k - 1) (n - 1) (nat_lt (k - 1) (length rows)) refl ∙ ap (λ (x : Bool). cond x None (joined (slice_get rows (n - 1)))) (by_places k n h e)
 
 -- the row of a case after one was closed
-pub closed_row : (rows : List (Option Row)) (k n : ℕ) → row_at (closed k rows) n ≡ cond (nat_eq k n) None (row_at rows n)
+pub closed_row : (rows : List (Option Row)) (k n : ℕ) → row_at (rows_after_close k rows) n ≡ cond (nat_eq k n) None (row_at rows n)
 closed_row rows k n = closed_by rows k n (k == 0) (n == 0) refl refl
 
 apart_zero : (k n : ℕ) → (k == 0) ≡ false → (n == 0) ≡ true → nat_eq k n ≡ false
@@ -166,12 +166,12 @@ put_row rows r k n low high = put_by rows r k n (n == 0) (grind (arith, common_s
 
 -- what is watched of the case that has another life
 same_watch : (s : State) (life : Life) (c : KeptCase) (b : Bool) → stands_on s.day c ≡ b → (b ≡ false → stands_on s.day (record c { life = life }) ≡ false) → stands_on s.day (record c { life = life }) ≡ true
-    → watched s c ≡ watched s (record c { life = life })
-same_watch s life c true is goes stands = ap (λ (x : Bool). cond x (option_map (compared s c) c.list) None) (is ∙ sym stands)
+    → watched_row s c ≡ watched_row s (record c { life = life })
+same_watch s life c true is goes stands = ap (λ (x : Bool). cond x (option_map (comparison_row s c) c.list) None) (is ∙ sym stands)
 same_watch s life c false is goes stands = absurd (cc (goes refl, stands))
 
 life_kept : (s : State) (life : Life) (b : Bool) (o : Option KeptCase) → ((c : KeptCase) → b ≡ true → o ≡ Some c → (stands_on s.day c ≡ false → stands_on s.day (record c { life = life }) ≡ false) × (stands_on s.day (record c { life = life }) ≡ true))
-    → with_some o (watched s) ≡ with_some (option_map (λ c. cond b (record c { life = life }) c) o) (watched s)
+    → with_some o (watched_row s) ≡ with_some (option_map (λ c. cond b (record c { life = life }) c) o) (watched_row s)
 life_kept s life b None h = refl
 life_kept s life true (Some c) h = let p = h c refl refl in same_watch s life c (stands_on s.day c) refl p.0 p.1
 life_kept s life false (Some c) h = refl
@@ -193,14 +193,14 @@ marks_alive s k life rows goes are stands n =
     are n
     ∙ life_kept s life (nat_eq k n) (case_at s.cases n)
     (λ c e at. (let there = at_same s.cases k n c e at in (goes c there, stands_then s k (λ d. record d { life = life }) c true there stands)))
-    ∙ ap (λ o. with_some o (watched s)) (sym (case_changed k (λ c. record c { life = life }) s.cases n))
+    ∙ ap (λ o. with_some o (watched_row s)) (sym (case_changed k (λ c. record c { life = life }) s.cases n))
 
-pub not_watched : (s : State) (c : KeptCase) (b : Bool) → stands_on s.day c ≡ b → b ≡ false → watched s c ≡ None
+pub not_watched : (s : State) (c : KeptCase) (b : Bool) → stands_on s.day c ≡ b → b ≡ false → watched_row s c ≡ None
 not_watched s c true is h = absurd (cc (h))
-not_watched s c false is h = ap (λ (x : Bool). cond x (option_map (compared s c) c.list) None) is
+not_watched s c false is h = ap (λ (x : Bool). cond x (option_map (comparison_row s c) c.list) None) is
 
 fallen_at : (s : State) (f : KeptCase → KeptCase) (b : Bool) (o : Option KeptCase) → ((c : KeptCase) → b ≡ true → o ≡ Some c → stands_on s.day (f c) ≡ false)
-    → cond b None (with_some o (watched s)) ≡ with_some (option_map (λ c. cond b (f c) c) o) (watched s)
+    → cond b None (with_some o (watched_row s)) ≡ with_some (option_map (λ c. cond b (f c) c) o) (watched_row s)
 fallen_at s f true None h = refl
 fallen_at s f false None h = refl
 fallen_at s f true (Some c) h = sym (not_watched s (f c) (stands_on s.day (f c)) refl (h c refl refl))
@@ -208,11 +208,11 @@ fallen_at s f false (Some c) h = refl
 
 -- of any change of a case after which its determination does not stand
 pub marks_fallen : (s : State) (k : ℕ) (f : KeptCase → KeptCase) (rows : List (Option Row)) → AreMarks s rows → stands_in (record s { cases = with_case k f s.cases }) k ≡ false
-    → AreMarks (record s { cases = with_case k f s.cases }) (closed k rows)
+    → AreMarks (record s { cases = with_case k f s.cases }) (rows_after_close k rows)
 marks_fallen s k f rows are fallen n =
     closed_row rows k n ∙ ap (cond (nat_eq k n) None) (are n)
     ∙ fallen_at s f (nat_eq k n) (case_at s.cases n) (λ c e at. stands_then s k f c false (at_same s.cases k n c e at) fallen)
-    ∙ ap (λ o. with_some o (watched s)) (sym (case_changed k f s.cases n))
+    ∙ ap (λ o. with_some o (watched_row s)) (sym (case_changed k f s.cases n))
 
 -- ---- a determination is issued
 
@@ -224,14 +224,14 @@ unmarked c kept = record { filing = c.submission.filing; stored = kept.list; mar
 
 issued_at : (s : State) (life : Life) (kept : KeptList) (there : KeptCase) (b : Bool) (o : Option KeptCase) → differs kept.list (findings_of s.register there.submission.filing) ≡ false
     → (b ≡ true → (o ≡ Some there) × (stands_on s.day (issued_case life kept there) ≡ true))
-    → cond b (Some (unmarked there kept)) (with_some o (watched s)) ≡ with_some (option_map (λ c. cond b (issued_case life kept c) c) o) (watched s)
+    → cond b (Some (unmarked there kept)) (with_some o (watched_row s)) ≡ with_some (option_map (λ c. cond b (issued_case life kept c) c) o) (watched_row s)
 issued_at s life kept there false None same h = refl
 issued_at s life kept there false (Some c) same h = refl
 issued_at s life kept there true o same h =
     let p = h refl in
     ap (λ (m : Bool). Some (record { filing = there.submission.filing; stored = kept.list; marked = m })) (sym same)
-    ∙ ap (λ (x : Bool). cond x (Some (compared s (issued_case life kept there) kept)) None) (sym p.1)
-    ∙ ap (λ o. with_some (option_map (λ c. issued_case life kept c) o) (watched s)) (sym p.0)
+    ∙ ap (λ (x : Bool). cond x (Some (comparison_row s (issued_case life kept there) kept)) None) (sym p.1)
+    ∙ ap (λ o. with_some (option_map (λ c. issued_case life kept c) o) (watched_row s)) (sym p.0)
 
 pub marks_issued : (s : State) (k : ℕ) (life : Life) (kept : KeptList) (there : KeptCase) (rows : List (Option Row)) → AreMarks s rows → 1 ≤ k → k ≤ length rows → case_at s.cases k ≡ Some there
     → differs kept.list (findings_of s.register there.submission.filing) ≡ false → stands_in (record s { cases = with_case k (issued_case life kept) s.cases }) k ≡ true
@@ -239,14 +239,14 @@ pub marks_issued : (s : State) (k : ℕ) (life : Life) (kept : KeptList) (there 
 marks_issued s k life kept there rows are low high at same stands n =
     put_row rows (unmarked there kept) k n low high ∙ ap (cond (nat_eq k n) (Some (unmarked there kept))) (are n)
     ∙ issued_at s life kept there (nat_eq k n) (case_at s.cases n) same (λ e. (ap (case_at s.cases) (sym (same_number k n e)) ∙ at, stands_then s k (issued_case life kept) there true at stands))
-    ∙ ap (λ o. with_some o (watched s)) (sym (case_changed k (issued_case life kept) s.cases n))
+    ∙ ap (λ o. with_some o (watched_row s)) (sym (case_changed k (issued_case life kept) s.cases n))
 
 -- where it does not stand, the row that was put is closed again
 closed_over : (rows : List (Option Row)) (r : Row) (k n : ℕ) (b : Bool) (o : Option Row) → cond b None (cond b (Some r) o) ≡ cond b None o
 closed_over rows r k n true o = refl
 closed_over rows r k n false o = refl
 
-pub closed_put : (rows : List (Option Row)) (r : Row) (k : ℕ) → 1 ≤ k → k ≤ length rows → (n : ℕ) → row_at (closed k (slice_set rows (k - 1) (Some r))) n ≡ row_at (closed k rows) n
+pub closed_put : (rows : List (Option Row)) (r : Row) (k : ℕ) → 1 ≤ k → k ≤ length rows → (n : ℕ) → row_at (rows_after_close k (slice_set rows (k - 1) (Some r))) n ≡ row_at (rows_after_close k rows) n
 closed_put rows r k low high n =
     closed_row (slice_set rows (k - 1) (Some r)) k n ∙ ap (cond (nat_eq k n) None) (put_row rows r k n low high) ∙ closed_over rows r k n (nat_eq k n) (row_at rows n) ∙ sym (closed_row rows k n)
 
@@ -295,19 +295,19 @@ falls l x y le h = fall_end l.end (by_record l.determination x) (by_record l.det
 
 -- what is watched on the new day
 day_watch : (s : State) (d : Date) (c : KeptCase) (kept : Option Date) (b : Bool) → s.day ≡ kept → (kept ≡ None → ⊥) → IfSome kept (λ k. epoch_day k ≤ℤ epoch_day d) → stands_on (Some d) c ≡ b
-    → cond (not b) None (watched s c) ≡ watched (record s { day = Some d }) c
+    → cond (not b) None (watched_row s c) ≡ watched_row (record s { day = Some d }) c
 day_watch s d c None b is has goes stands = absurd (has refl)
-day_watch s d c (Some kept) false is has goes stands = ap (λ (x : Bool). cond x (option_map (compared s c) c.list) None) (sym stands)
+day_watch s d c (Some kept) false is has goes stands = ap (λ (x : Bool). cond x (option_map (comparison_row s c) c.list) None) (sym stands)
 day_watch s d c (Some kept) true is has goes stands =
     let stood : stands_on (Some kept) c ≡ true = not_false (stands_on (Some kept) c) (λ f. (let g : stands_on (Some d) c ≡ false = falls c.life (epoch_day kept) (epoch_day d) goes f in cc (g, stands))) in
-    ap (λ day. cond (stands_on day c) (option_map (compared s c) c.list) None) is ∙ ap (λ (x : Bool). cond x (option_map (compared s c) c.list) None) (stood ∙ sym stands)
+    ap (λ day. cond (stands_on day c) (option_map (comparison_row s c) c.list) None) is ∙ ap (λ (x : Bool). cond x (option_map (comparison_row s c) c.list) None) (stood ∙ sym stands)
   where
     not_false : (b : Bool) → (b ≡ false → ⊥) → b ≡ true
     not_false true h = refl
     not_false false h = absurd (h refl)
 
 day_at : (s : State) (d : Date) (o : Option KeptCase) → ((c : KeptCase) → o ≡ Some c → s.day ≡ None → ⊥) → IfSome s.day (λ k. epoch_day k ≤ℤ epoch_day d)
-    → cond (not (option_map_or (stands_on (Some d)) o false)) None (with_some o (watched s)) ≡ with_some o (watched (record s { day = Some d }))
+    → cond (not (option_map_or (stands_on (Some d)) o false)) None (with_some o (watched_row s)) ≡ with_some o (watched_row (record s { day = Some d }))
 day_at s d None has goes = refl
 day_at s d (Some c) has goes = day_watch s d c s.day (stands_on (Some d) c) refl (has c refl) goes refl
 
@@ -358,7 +358,7 @@ pub marks_are : (s : State) (rows : List (Option Row)) → AreMarks s rows → m
 marks_are s rows are =
     let top = length rows + length s.cases in
     let beyond_rows = numbers_beyond (is_marked_in rows) (length rows) top (omega arith) (λ k h. ap is_marked_row (row_past rows k (grind (arith, common_steps, h)))) in
-    let beyond_cases = numbers_beyond (is_marked s) (length s.cases) top (omega arith) (λ k h. ap (λ o. is_marked_row (with_some o (watched s))) (case_past s.cases k h)) in
+    let beyond_cases = numbers_beyond (is_marked s) (length s.cases) top (omega arith) (λ k h. ap (λ o. is_marked_row (with_some o (watched_row s))) (case_past s.cases k h)) in
     sym beyond_rows ∙ numbers_same (is_marked_in rows) (is_marked s) top (λ k. is_marked_as s rows k are) ∙ beyond_cases
 
 -- ---- whole steps
@@ -367,7 +367,7 @@ marks_are s rows are =
 abbrev pub AreKept : State → List (Option Row) → Type 0
 AreKept s rows = AreMarks s rows × HasDay s
 
-nothing_changed : (k : ℕ) (f : KeptCase → KeptCase) (v : Option KeptCase) → changed_at k f [] v ≡ []
+nothing_changed : (k : ℕ) (f : KeptCase → KeptCase) (v : Option KeptCase) → cases_changed_at k f [] v ≡ []
 nothing_changed k f None = refl
 nothing_changed k f (Some c) = refl
 
@@ -375,21 +375,21 @@ day_formed : (s : State) (k : ℕ) (f : KeptCase → KeptCase) → HasDay s → 
 day_formed s k f h = λ none. ap (with_case k f) (h none) ∙ nothing_changed k f (case_at [] k)
 
 -- a case is changed in what no list hangs on
-pub kept_formed : (s : State) (k : ℕ) (f : KeptCase → KeptCase) (rows : List (Option Row)) → ((c : KeptCase) → watched s (f c) ≡ watched s c) → AreKept s rows → AreKept (record s { cases = with_case k f s.cases }) rows
+pub kept_formed : (s : State) (k : ℕ) (f : KeptCase → KeptCase) (rows : List (Option Row)) → ((c : KeptCase) → watched_row s (f c) ≡ watched_row s c) → AreKept s rows → AreKept (record s { cases = with_case k f s.cases }) rows
 kept_formed s k f rows same h = (marks_formed s k f rows same h.0, day_formed s k f h.1)
 
 lived : (s : State) (k : ℕ) (life : Life) (rows : List (Option Row)) (b : Bool) → stands_in (record s { cases = with_case k (λ c. record c { life = life }) s.cases }) k ≡ b → Goes s (steps.LifePut k life) → AreMarks s rows
-    → AreMarks (record s { cases = with_case k (λ c. record c { life = life }) s.cases }) (cond b rows (closed k rows))
+    → AreMarks (record s { cases = with_case k (λ c. record c { life = life }) s.cases }) (cond b rows (rows_after_close k rows))
 lived s k life rows true is goes are = marks_alive s k life rows goes are is
 lived s k life rows false is goes are = marks_fallen s k (λ c. record c { life = life }) rows are is
 
 pub kept_alive : (s : State) (k : ℕ) (life : Life) (rows : List (Option Row)) → Goes s (steps.LifePut k life) → AreKept s rows
-    → AreKept (stepped (steps.LifePut k life) s) (cond (stands_in (stepped (steps.LifePut k life) s) k) rows (closed k rows))
-kept_alive s k life rows goes h = (lived s k life rows (stands_in (stepped (steps.LifePut k life) s) k) refl goes h.0, day_formed s k (λ c. record c { life = life }) h.1)
+    → AreKept (state_after_step (steps.LifePut k life) s) (cond (stands_in (state_after_step (steps.LifePut k life) s) k) rows (rows_after_close k rows))
+kept_alive s k life rows goes h = (lived s k life rows (stands_in (state_after_step (steps.LifePut k life) s) k) refl goes h.0, day_formed s k (λ c. record c { life = life }) h.1)
 
 issued_rows : (s : State) (k : ℕ) (life : Life) (kept : KeptList) (there : KeptCase) (rows : List (Option Row)) (b : Bool) → stands_in (record s { cases = with_case k (issued_case life kept) s.cases }) k ≡ b
     → Goes s (steps.Issued k life kept) → 1 ≤ k → k ≤ length rows → case_at s.cases k ≡ Some there → AreMarks s rows
-    → AreMarks (record s { cases = with_case k (issued_case life kept) s.cases }) (cond b (slice_set rows (k - 1) (Some (unmarked there kept))) (closed k (slice_set rows (k - 1) (Some (unmarked there kept)))))
+    → AreMarks (record s { cases = with_case k (issued_case life kept) s.cases }) (cond b (slice_set rows (k - 1) (Some (unmarked there kept))) (rows_after_close k (slice_set rows (k - 1) (Some (unmarked there kept)))))
 issued_rows s k life kept there rows true is goes low high at are =
     marks_issued s k life kept there rows are low high at (same_lists kept.list (findings_of s.register there.submission.filing) (goes there at)) is
 issued_rows s k life kept there rows false is goes low high at are =
@@ -397,23 +397,23 @@ issued_rows s k life kept there rows false is goes low high at are =
 
 pub kept_issued : (s : State) (k : ℕ) (life : Life) (kept : KeptList) (there : KeptCase) (old rows : List (Option Row)) → Goes s (steps.Issued k life kept) → case_at s.cases k ≡ Some there → ((n : ℕ) → row_at rows n ≡ row_at old n)
     → k ≤ length rows → AreKept s old
-    → AreKept (stepped (steps.Issued k life kept) s)
-    (cond (stands_in (stepped (steps.Issued k life kept) s) k) (slice_set rows (k - 1) (Some (unmarked there kept))) (closed k (slice_set rows (k - 1) (Some (unmarked there kept)))))
+    → AreKept (state_after_step (steps.Issued k life kept) s)
+    (cond (stands_in (state_after_step (steps.Issued k life kept) s) k) (slice_set rows (k - 1) (Some (unmarked there kept))) (rows_after_close k (slice_set rows (k - 1) (Some (unmarked there kept)))))
 kept_issued s k life kept there old rows goes at same high h =
-    (issued_rows s k life kept there rows (stands_in (stepped (steps.Issued k life kept) s) k) refl goes (not_zero k at) high at (λ n. same n ∙ h.0 n), day_formed s k (issued_case life kept) h.1)
+    (issued_rows s k life kept there rows (stands_in (state_after_step (steps.Issued k life kept) s) k) refl goes (not_zero k at) high at (λ n. same n ∙ h.0 n), day_formed s k (issued_case life kept) h.1)
   where
     not_zero : (k : ℕ) → case_at s.cases k ≡ Some there → 1 ≤ k
     not_zero zero e = absurd (cc (e))
     not_zero (suc k) e = omega arith
 
-pub kept_opened : (s : State) (c : KeptCase) (rows : List (Option Row)) → Goes s (steps.CaseFiled c) → AreKept s rows → AreKept (stepped (steps.CaseFiled c) s) rows
+pub kept_opened : (s : State) (c : KeptCase) (rows : List (Option Row)) → Goes s (steps.CaseFiled c) → AreKept s rows → AreKept (state_after_step (steps.CaseFiled c) s) rows
 kept_opened s c rows goes h = (marks_opened s c rows goes.0 h.0, λ none. absurd (goes.1 none))
 
-pub kept_on_day : (s : State) (d : Date) (rows new : List (Option Row)) → Goes s (steps.DaySet d) → AreKept s rows → ((n : ℕ) → row_at new n ≡ cond (not (stands_in (stepped (steps.DaySet d) s) n)) None (row_at rows n))
-    → AreKept (stepped (steps.DaySet d) s) new
+pub kept_on_day : (s : State) (d : Date) (rows new : List (Option Row)) → Goes s (steps.DaySet d) → AreKept s rows → ((n : ℕ) → row_at new n ≡ cond (not (stands_in (state_after_step (steps.DaySet d) s) n)) None (row_at rows n))
+    → AreKept (state_after_step (steps.DaySet d) s) new
 kept_on_day s d rows new goes h closes = (marks_on_day s d rows new h.1 goes h.0 closes, λ none. absurd (cc (none)))
 
-pub kept_amended : (s : State) (airfields : List Airfield) (change : AirfieldChange) (rows new : List (Option Row)) → Leads s.register airfields change → AreKept s rows → ((n : ℕ) → row_at new n ≡ option_map (turned airfields change) (row_at rows n))
+pub kept_amended : (s : State) (airfields : List Airfield) (change : AirfieldChange) (rows new : List (Option Row)) → Leads s.register airfields change → AreKept s rows → ((n : ℕ) → row_at new n ≡ option_map (row_after_change airfields change) (row_at rows n))
     → AreKept (with_register airfields s) new
 kept_amended s airfields change rows new l h turns = (marks_amended s airfields change rows new l h.0 turns, h.1)
 
@@ -421,5 +421,5 @@ form_stands : (day : Option Date) (c : KeptCase) (form : Option Date) → stands
 form_stands None c form = refl
 form_stands (Some today) c form = refl
 
-pub form_watched : (s : State) (c : KeptCase) (form : Option Date) → watched s (record c { form = form }) ≡ watched s c
-form_watched s c form = ap (λ (b : Bool). cond b (option_map (compared s c) c.list) None) (form_stands s.day c form)
+pub form_watched : (s : State) (c : KeptCase) (form : Option Date) → watched_row s (record c { form = form }) ≡ watched_row s c
+form_watched s c form = ap (λ (b : Bool). cond b (option_map (comparison_row s c) c.list) None) (form_stands s.day c form)

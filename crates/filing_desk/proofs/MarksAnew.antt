@@ -8,15 +8,15 @@ use Rattle.case_records.specs.declared.case.KeptList.{KeptList}
 use Rattle.review_marks.specs.Books.{row_at}
 use Rattle.review_marks.specs.declared.row.Row.{Row}
 use Rattle.review_marks.proofs.Turning.{same_number}
-use Rattle.desk_rules.specs.States.{State, case_at}
-use Rattle.desk_rules.specs.Marks.{compared, row_of, stands_on, stands_in, watched}
-use Rattle.desk_rules.proofs.CaseFacts.{case_past}
+use Rattle.desk_machine.specs.States.{State, case_at}
+use Rattle.desk_machine.specs.Marks.{comparison_row, row_of, stands_on, stands_in, watched_row}
+use Rattle.desk_machine.proofs.CaseFacts.{case_past}
 use Rattle.filing_desk.specs.Marked.{AreMarks, AreMarksTo}
 use Rattle.filing_desk.proofs.MarksAfter.{put_row, unlisted, not_watched}
 
 -- ---- the row of one case
 
-fallen_by : (s : State) (o : Option KeptCase) → option_map_or (stands_on s.day) o false ≡ false → with_some o (watched s) ≡ None
+fallen_by : (s : State) (o : Option KeptCase) → option_map_or (stands_on s.day) o false ≡ false → with_some o (watched_row s) ≡ None
 fallen_by s None h = refl
 fallen_by s (Some c) h = not_watched s c (stands_on s.day c) refl h
 
@@ -26,17 +26,17 @@ fallen_row s n h = fallen_by s (case_at s.cases n) h
 
 -- no case
 pub no_row : (s : State) (n : ℕ) → None ≡ case_at s.cases n → row_of s n ≡ None
-no_row s n h = ap (λ (o : Option KeptCase). with_some o (watched s)) (sym h)
+no_row s n h = ap (λ (o : Option KeptCase). with_some o (watched_row s)) (sym h)
 
 -- a case without a list
 pub listless_row : (s : State) (n : ℕ) (c : KeptCase) → Some c ≡ case_at s.cases n → c.list ≡ None → row_of s n ≡ None
-listless_row s n c at h = ap (λ (o : Option KeptCase). with_some o (watched s)) (sym at) ∙ unlisted s c c.list (stands_on s.day c) h
+listless_row s n c at h = ap (λ (o : Option KeptCase). with_some o (watched_row s)) (sym at) ∙ unlisted s c c.list (stands_on s.day c) h
 
 -- a determination that stands
-pub standing_row : (s : State) (n : ℕ) (c : KeptCase) (kept : KeptList) → stands_in s n ≡ true → Some c ≡ case_at s.cases n → c.list ≡ Some kept → row_of s n ≡ Some (compared s c kept)
+pub standing_row : (s : State) (n : ℕ) (c : KeptCase) (kept : KeptList) → stands_in s n ≡ true → Some c ≡ case_at s.cases n → c.list ≡ Some kept → row_of s n ≡ Some (comparison_row s c kept)
 standing_row s n c kept stands at has =
     let stood : stands_on s.day c ≡ true = ap (λ (o : Option KeptCase). option_map_or (stands_on s.day) o false) at ∙ stands in
-    ap (λ (o : Option KeptCase). with_some o (watched s)) (sym at) ∙ ap (λ (b : Bool). cond b (option_map (compared s c) c.list) None) stood ∙ ap (option_map (compared s c)) has
+    ap (λ (o : Option KeptCase). with_some o (watched_row s)) (sym at) ∙ ap (λ (b : Bool). cond b (option_map (comparison_row s c) c.list) None) stood ∙ ap (option_map (comparison_row s c)) has
 
 -- ---- the rows up to a number
 
@@ -84,7 +84,7 @@ marks_put s k old rows r is room same are n =
 
 all_by : (s : State) (n : ℕ) (b : Bool) → nat_le n (length s.cases) ≡ b → cond b (row_of s n) None ≡ row_of s n
 all_by s n true h = refl
-all_by s n false h = (let beyond : length s.cases < n = grind (arith, common_steps, h) in sym (ap (λ (o : Option KeptCase). with_some o (watched s)) (case_past s.cases n beyond)))
+all_by s n false h = (let beyond : length s.cases < n = grind (arith, common_steps, h) in sym (ap (λ (o : Option KeptCase). with_some o (watched_row s)) (case_past s.cases n beyond)))
 
 pub marks_all : (s : State) (rows : List (Option Row)) → AreMarksTo s (length s.cases) rows → AreMarks s rows
 marks_all s rows are n = are n ∙ all_by s n (nat_le n (length s.cases)) refl

@@ -7,8 +7,8 @@ use Rattle.std.proofs.lemmas.Option.{slice_get-get_or}
 use Rattle.determination_dates.specs.Days.{IsLimited}
 use Rattle.determination_dates.specs.Effects.{IsKept}
 use Rattle.case_acts.specs.Cases.{IsSound}
-use Rattle.desk_rules.specs.declared.entry.TheConstants.{MOST_CASES}
-use Rattle.desk_rules.specs.States.{case_at, changed_at, with_case}
+use Rattle.desk_machine.specs.declared.entry.TheConstants.{MOST_CASES}
+use Rattle.desk_machine.specs.States.{case_at, cases_changed_at, with_case}
 use Rattle.filing_desk.specs.Desks.{AreSound}
 
 pub sound_of : (cases : List KeptCase) (i : ℕ) (r : Option (Bor KeptCase)) → AreSound cases → option_copied r ≡ slice_get cases i → IfSome r (λ c. IsSound c.now)
@@ -58,7 +58,7 @@ sound_more (x ∷ xs) c h s (suc j) = sound_more xs c (λ k. h (suc k)) s j
 -- what is put in the place of a case is put in its number's
 pub changed_case : (cases : List KeptCase) (n : ℕ) (c : KeptCase) (f : KeptCase → KeptCase) → (n ≡ 0 → ⊥) → n - 1 < length cases → c ≡ slice_index_or cases (n - 1) c
     → slice_set cases (n - 1) (f c) ≡ with_case n f cases
-changed_case cases n c f h short e = ap (changed_at n f cases) (numbered cases n (Some c) h (sym (there cases (n - 1) c short e)))
+changed_case cases n c f h short e = ap (cases_changed_at n f cases) (numbered cases n (Some c) h (sym (there cases (n - 1) c short e)))
 
 -- where there is no such case, nothing is changed
 pub unchanged_zero : (cases : List KeptCase) (n : ℕ) (f : KeptCase → KeptCase) → n ≡ 0 → cases ≡ with_case n f cases
@@ -70,7 +70,7 @@ past (x ∷ xs) zero h = absurd (omega (arith, h))
 past (x ∷ xs) (suc i) h = past xs i (omega (arith, h))
 
 pub unchanged_past : (cases : List KeptCase) (n : ℕ) (f : KeptCase → KeptCase) → (n ≡ 0 → ⊥) → length cases ≤ n - 1 → cases ≡ with_case n f cases
-unchanged_past cases n f h beyond = ap (changed_at n f cases) (numbered cases n None h (sym (past cases (n - 1) beyond)))
+unchanged_past cases n f h beyond = ap (cases_changed_at n f cases) (numbered cases n None h (sym (past cases (n - 1) beyond)))
 
 -- ---- a change leaves the number of cases
 

@@ -1,20 +1,20 @@
-//! What acts come to on the desk as it stands.
+//! The rulings on acts, on the present state of the desk.
 
 ghost use Rattle.std.specs.Prelude.{◌≡◌, ◌≢◌, ◌<◌, ◌≤◌, None, Ok, Err, IfOk, IfSome, MatchResult};
 ghost use Rattle.wire_requests.specs.Limits.{IsValidAct};
-ghost use Rattle.case_values.specs.declared.act.Act.TheVariants as acts;
+ghost use Rattle.case_requests.specs.declared.act.Act.TheVariants as acts;
 ghost use Rattle.case_acts.specs.Cases.{HasLimitedDates, IsSoundStep};
 ghost use Rattle.determination_dates.specs.Days.{IsLimited};
 ghost use Rattle.determination_dates.specs.declared.determination.TheConstants.{EXTENSION_MONTHS};
-ghost use Rattle.desk_rules.specs.States.{last_number};
-ghost use Rattle.desk_rules.specs.Evaluations.{basis_of};
-ghost use Rattle.desk_rules.specs.Machine.{acted};
+ghost use Rattle.desk_machine.specs.States.{last_number};
+ghost use Rattle.desk_machine.specs.Evaluations.{basis_of};
+ghost use Rattle.desk_machine.specs.Machine.{ruling_of_act};
 
 use crate::desk::Desk;
 use case_acts::{Effect, Extension, Step, is_before};
 use case_records::{KeptList, Outcome, Refusal};
-use case_values::{Act, Impact, Party, Submission};
-use desk_rules::MOST_CASES;
+use case_requests::{Act, Impact, Party, Submission};
+use desk_machine::MOST_CASES;
 use jiff::civil::Date;
 use review_marks::findings;
 use std::alloc::Global;
@@ -22,10 +22,10 @@ use wire_requests::plain_of;
 use wire_values::Plain;
 
 impl Desk {
-    /// What a new day comes to.
+    /// Outcome of a new day.
     fn on_day(&self, day: Date) -> Result<Effect, Refusal>
         requires { IsLimited day }
-        ensures value { result ≡ acted self.now None (acts.Day day) }
+        ensures value { result ≡ ruling_of_act self.now None (acts.Day day) }
         ensures sound { IfOk result (λ e. IsSoundStep e.step) }
     {
         if let Some(kept) = self.today {
@@ -39,10 +39,10 @@ impl Desk {
         })
     }
 
-    /// What a notice comes to.
+    /// Outcome of a notice.
     fn on_file(&self, notice: &Submission) -> Result<Effect, Refusal>
         requires { HasLimitedDates notice.now }
-        ensures value { result ≡ acted self.now None (acts.File notice.now) }
+        ensures value { result ≡ ruling_of_act self.now None (acts.File notice.now) }
         ensures sound { IfOk result (λ e. IsSoundStep e.step) }
     {
         let Some(today) = self.day() else {
@@ -54,9 +54,9 @@ impl Desk {
         case_acts::file(self.cases.len() as u32 + 1, today, notice)
     }
 
-    /// What the form of an emergency comes to.
+    /// Outcome of the form of an emergency.
     fn on_form(&self, number: u32) -> Result<Effect, Refusal>
-        ensures value { result ≡ acted self.now None (acts.Form number) }
+        ensures value { result ≡ ruling_of_act self.now None (acts.Form number) }
         ensures sound { IfOk result (λ e. IsSoundStep e.step) }
     {
         let Some(today) = self.day() else {
@@ -68,7 +68,7 @@ impl Desk {
         case_acts::form(number, today, case)
     }
 
-    /// What a determination comes to that is made on the findings over the airfields as they stand.
+    /// Outcome of a determination made on the findings over the present airfields.
     fn on_determine(
         &self,
         alloc: Global,
@@ -76,8 +76,11 @@ impl Desk {
         finding: Option<Impact>,
     ) -> Result<Effect, Refusal>
         ensures value { MatchResult result
-            (λ e. acted self.now (basis_of self.now (last_number self.now) None (acts.Determine number finding)) (acts.Determine number finding) ≡ Ok e)
-            (λ why. why ≢ Refusal.NoMemory → acted self.now (basis_of self.now (last_number self.now) None (acts.Determine number finding)) (acts.Determine number finding) ≡ Err why) }
+            (λ e. ruling_of_act self.now (basis_of self.now (last_number self.now) None
+            (acts.Determine number finding)) (acts.Determine number finding) ≡ Ok e)
+            (λ why. why ≢ Refusal.NoMemory → ruling_of_act self.now (basis_of self.now
+            (last_number self.now) None (acts.Determine number finding))
+            (acts.Determine number finding) ≡ Err why) }
         ensures sound { IfOk result (λ e. IsSoundStep e.step) }
     {
         let Some(today) = self.day() else {
@@ -89,7 +92,7 @@ impl Desk {
         let Ok(found) = findings(alloc, &self.sky, &case.submission.filing) else {
             return Err(Refusal::NoMemory);
         };
-        // a copy has room for its findings and no more, and it is kept for good
+        // the copy has no spare capacity; it is stored as long as the case
         let Ok(list) = found.copy(alloc) else {
             return Err(Refusal::NoMemory);
         };
@@ -100,9 +103,9 @@ impl Desk {
         case_acts::determine(alloc, number, finding, &self.closed, kept, today, case)
     }
 
-    /// What a petition comes to.
+    /// Outcome of a petition.
     fn on_petition(&self, number: u32, party: Party) -> Result<Effect, Refusal>
-        ensures value { result ≡ acted self.now None (acts.Petition number party) }
+        ensures value { result ≡ ruling_of_act self.now None (acts.Petition number party) }
         ensures sound { IfOk result (λ e. IsSoundStep e.step) }
     {
         let Some(today) = self.day() else {
@@ -114,9 +117,9 @@ impl Desk {
         case_acts::petition(number, today, case)
     }
 
-    /// What it comes to that the pending petition is disposed of.
+    /// Outcome of disposing of the pending petition.
     fn on_dispose(&self, number: u32, affirmed: bool) -> Result<Effect, Refusal>
-        ensures value { result ≡ acted self.now None (acts.Dispose number affirmed) }
+        ensures value { result ≡ ruling_of_act self.now None (acts.Dispose number affirmed) }
         ensures sound { IfOk result (λ e. IsSoundStep e.step) }
     {
         let Some(today) = self.day() else {
@@ -128,10 +131,11 @@ impl Desk {
         case_acts::dispose(number, affirmed, today, case)
     }
 
-    /// What an extension comes to.
+    /// Outcome of an extension.
     fn on_extend(&self, number: u32, asked: &Extension) -> Result<Effect, Refusal>
         requires months { (1 ≤ asked.now.months) × (asked.now.months ≤ EXTENSION_MONTHS) }
-        ensures value { result ≡ acted self.now None (acts.Extend number asked.now.months asked.now.started asked.now.filed asked.now.warranted) }
+        ensures value { result ≡ ruling_of_act self.now None
+            (acts.Extend number asked.now.months asked.now.started asked.now.filed asked.now.warranted) }
         ensures sound { IfOk result (λ e. IsSoundStep e.step) }
     {
         let Some(today) = self.day() else {
@@ -143,10 +147,10 @@ impl Desk {
         case_acts::extend(number, asked, today, case)
     }
 
-    /// What an act of the FCC comes to.
+    /// Outcome of an act of the FCC.
     fn on_fcc(&self, number: u32, completion: Option<Date>) -> Result<Effect, Refusal>
         requires { IfSome completion IsLimited }
-        ensures value { result ≡ acted self.now None (acts.Fcc number completion) }
+        ensures value { result ≡ ruling_of_act self.now None (acts.Fcc number completion) }
         ensures sound { IfOk result (λ e. IsSoundStep e.step) }
     {
         let Some(today) = self.day() else {
@@ -158,9 +162,9 @@ impl Desk {
         case_acts::fcc(number, completion, today, case)
     }
 
-    /// What giving a case up comes to.
+    /// Outcome of abandoning a case.
     fn on_abandon(&self, number: u32) -> Result<Effect, Refusal>
-        ensures value { result ≡ acted self.now None (acts.Abandon number) }
+        ensures value { result ≡ ruling_of_act self.now None (acts.Abandon number) }
         ensures sound { IfOk result (λ e. IsSoundStep e.step) }
     {
         let Some(today) = self.day() else {
@@ -172,7 +176,7 @@ impl Desk {
         case_acts::abandon(number, today, case)
     }
 
-    /// What an act comes to, but for the rules of the register, which are tested as it is done.
+    /// The ruling on an act, without the rules of the register, which are tested when the act is done.
     ///
     /// # Errors
     ///
@@ -181,8 +185,10 @@ impl Desk {
     pub(crate) fn acted(&self, alloc: Global, act: &Act) -> Result<Effect, Refusal>
         requires { IsValidAct act.now }
         ensures value { MatchResult result
-            (λ e. acted self.now (basis_of self.now (last_number self.now) None act.now) act.now ≡ Ok e)
-            (λ why. why ≢ Refusal.NoMemory → acted self.now (basis_of self.now (last_number self.now) None act.now) act.now ≡ Err why) }
+            (λ e. ruling_of_act self.now (basis_of self.now
+            (last_number self.now) None act.now) act.now ≡ Ok e)
+            (λ why. why ≢ Refusal.NoMemory → ruling_of_act self.now (basis_of self.now
+            (last_number self.now) None act.now) act.now ≡ Err why) }
         ensures sound { IfOk result (λ e. IsSoundStep e.step) }
     {
         match act {

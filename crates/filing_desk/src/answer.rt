@@ -2,11 +2,11 @@
 
 use case_records::{Outcome, Refusal};
 
-/// What a changing request is answered.
+/// The answer to a changing request.
 #[derive(Drop)]
 pub enum Answer {
-    /// It was accepted, now or before, as the entry of this number, and led to this.
+    /// The request was accepted, now or before, as the entry of this number, with this outcome.
     Accepted { entry: u64, outcome: Outcome },
-    /// It was refused, and nothing changed.
+    /// The request was refused, and nothing changed.
     Refused(Refusal),
 }

@@ -1,12 +1,12 @@
-//! How the desk decides a changing request.
+//! Deciding changing requests.
 
 ghost use Rattle.std.specs.Prelude.{◌≡◌, ◌≢◌, None, Ok};
-ghost use Rattle.case_values.specs.contracts.act.ActPartialEq.TheImpl as act;
+ghost use Rattle.case_requests.specs.contracts.act.ActPartialEq.TheImpl as act;
 ghost use Rattle.case_acts.specs.Cases.{IsSoundStep};
-ghost use Rattle.desk_rules.specs.States.{State, entry_of};
-ghost use Rattle.desk_rules.specs.Machine.{decide_new, registered, repeated as repeat};
-ghost use Rattle.desk_rules.specs.Marks.{Goes};
-ghost use Rattle.desk_rows.specs.Changes.{HasRoom, IsNamed};
+ghost use Rattle.desk_machine.specs.States.{State, entry_of};
+ghost use Rattle.desk_machine.specs.Machine.{decide_new, register_effect, answer_of_repeat as repeat};
+ghost use Rattle.desk_machine.specs.Marks.{Goes};
+ghost use Rattle.desk_tables.specs.Changes.{HasRoom, IsNamed};
 ghost use Rattle.wire_values.specs.Words.{IsWord};
 ghost use Rattle.filing_desk.specs.Answers.{Answers, IfRefused, decision};
 ghost use Rattle.filing_desk.specs.Handed.{Serves};
@@ -17,8 +17,8 @@ use crate::office::Office;
 use airport_register::Amendment;
 use case_acts::{Effect, Step};
 use case_records::Refusal;
-use case_values::Act;
-use desk_rules::Entry;
+use case_requests::Act;
+use desk_machine::Entry;
 use oe_keeper::Keeper;
 use std::alloc::Global;
 use wire_requests::Change;
@@ -30,7 +30,7 @@ fn is_same(a: &Act, b: &Act) -> bool
     a == b
 }
 
-/// Shows to a proof that an airfield that is amended has a name.
+/// Shows to a proof that an amended airfield has a valid name.
 fn name_of(step: &Step)
     ensures { IsNamed step.now }
 {
@@ -56,14 +56,14 @@ fn name_of(step: &Step)
     }
 }
 
-/// Shows to a proof that a caller has a name.
+/// Shows to a proof that a caller has a valid name.
 fn caller_of(c: &Change)
     ensures { IsWord c.now.caller }
 {
     c.caller.as_bytes();
 }
 
-/// What a request is answered whose caller's key stands for an entry.
+/// The answer to a request whose caller's key belongs to an entry.
 #[tactic(auto, using(crate::proofs::Deciding::reused, crate::proofs::Deciding::told_again))]
 fn repeated(alloc: Global, entry: &Entry, c: &Change) -> Answer
     ensures answer { (s : State) → Answers (repeat entry.now c.now) s s result }
@@ -84,7 +84,7 @@ fn repeated(alloc: Global, entry: &Entry, c: &Change) -> Answer
 }
 
 impl Office {
-    /// Accepts a request with this effect, where the rules of the register allow that.
+    /// Accepts a request with this effect, where the rules of the register allow it.
     fn accept<K: Keeper>(
         &mut self,
         alloc: Global,
@@ -97,8 +97,12 @@ impl Office {
         requires room { HasRoom self.old.cases effect.step }
         requires goes { Goes self.old effect.step }
         requires loaded { ∥ K.IsLoaded keeper.old ∥₁ }
-        ensures answer { Answers (decide_new self.old c.now (registered self.old.register (Ok effect))) self.old self.new result }
-        ensures serves { Serves K.Tells K.IsLoaded K.faults keeper.old keeper.new self.old self.new result }
+        ensures answer { Answers
+            (decide_new self.old c.now (register_effect self.old.register (Ok effect)))
+            self.old self.new result }
+        ensures serves { Serves K.Tells K.IsLoaded K.IsSteady K.faults
+            (decide_new self.old c.now (register_effect self.old.register (Ok effect)))
+            keeper.old keeper.new self.old self.new result }
     {
         let Some(number) = (self.desk.receipts.len() as u64).checked_add(1) else {
             return Answer::Refused(Refusal::NoMemory);
@@ -132,7 +136,8 @@ impl Office {
     pub(crate) fn apply<K: Keeper>(&mut self, alloc: Global, keeper: &mut K, c: &Change) -> Answer
         requires { ∥ K.IsLoaded keeper.old ∥₁ }
         ensures answer { Answers (decision self.old c.now) self.old self.new result }
-        ensures serves { Serves K.Tells K.IsLoaded K.faults keeper.old keeper.new self.old self.new result }
+        ensures serves { Serves K.Tells K.IsLoaded K.IsSteady K.faults (decision self.old c.now)
+            keeper.old keeper.new self.old self.new result }
     {
         match self.desk.entry(c.caller, c.key) {
             Some(entry) => return repeated(alloc, entry, c),

@@ -1,15 +1,16 @@
 //! The clerk of the desk.
 
 ghost use Rattle.std.specs.Prelude.{◌≡◌, ◌≤◌, List, IfOk, drop, length, option_map};
-ghost use Rattle.desk_rules.specs.Reports.{IsExpiryOrder, expiring, review_rows};
+ghost use Rattle.desk_machine.specs.Reports.{IsExpiryOrder, expiry_rows, review_rows};
 ghost use Rattle.oe_reports.specs.Tables.{expiry_table, review_table};
 ghost use Rattle.oe_reports.specs.declared.rows.ExpiryRow.{ExpiryRow};
-ghost use Rattle.desk_rules.specs.States.{case_at, last_number};
-ghost use Rattle.desk_rules.specs.Evaluations.{site_of};
-ghost use Rattle.desk_rules.specs.Marks.{case_view, marks};
+ghost use Rattle.desk_machine.specs.States.{case_at, last_number};
+ghost use Rattle.desk_machine.specs.Evaluations.{site_of};
+ghost use Rattle.desk_machine.specs.Marks.{case_view, marks};
+ghost use Rattle.reachable_desks.specs.Desks.{IsDesk};
 ghost use Rattle.filing_desk.specs.Answers.{decision};
-ghost use Rattle.filing_desk.specs.Clerks.{Advances, HasCause, HasOpening};
-ghost use Rattle.filing_desk.specs.Handed.{Told};
+ghost use Rattle.filing_desk.specs.Clerks.{Advances, HasOpening};
+ghost use Rattle.filing_desk.specs.Handed.{HasCause, Told};
 
 use crate::answer::Answer;
 use crate::office::Office;
@@ -18,13 +19,14 @@ use case_records::{CaseList, CaseView};
 use grid_exact::{NoMemory, Text};
 use oe_findings::Sky;
 use oe_keeper::Keeper;
+use reachable_desks::desk_goes_on;
 use std::alloc::Global;
 use std::marker::Model;
 use wire_requests::Change;
 
-/// The clerk decides changing requests one after the other, and has a keeper keep what it accepted. It is seen as its state, the requests that
-/// it accepted since the opening and the number of the keeper's faults; the state is always the replay of these requests from the state at the
-/// opening.
+/// Decides changing requests one after the other, and stores each accepted one in its keeper. Seen as its state, the requests accepted
+/// since the opening, and the keeper. The state is always the replay of these requests from the state at the opening, and the keeper's
+/// rows, where known, are those of the state.
 #[derive(Drop)]
 pub struct Clerk<K: Keeper> {
     pub(crate) office: Office,
@@ -34,59 +36,67 @@ pub struct Clerk<K: Keeper> {
 }
 
 impl<K: Keeper> Model for Clerk<K> {
-    ghost use Rattle.std.specs.Prelude.{◌≤◌, drop};
-    ghost use Rattle.desk_rules.specs.States.{last_number};
-    ghost use Rattle.filing_desk.specs.Clerks.{Clerking, HasOpening};
-    ghost use Rattle.filing_desk.specs.Handed.{Told};
+    ghost use Rattle.std.specs.Prelude.{drop};
+    ghost use Rattle.filing_desk.specs.Clerks.{Clerking, IsClerk};
 
-    ghost Value = { Clerking };
+    ghost Value = { Clerking K };
 
-    ghost view = { λ c. record { state = c.office; accepted = drop c.base c.office.entries; faults = K.faults c.keeper } };
+    ghost view = { λ c. record { state = c.office; accepted = drop c.base c.office.entries; keeper = c.keeper } };
 
-    ghost invariant = { λ c. (c.base ≤ last_number c.office) × HasOpening c.base (record { state = c.office; accepted = drop c.base c.office.entries; faults = K.faults c.keeper }) × Told K.Tells c.keeper c.office × ∥ K.IsLoaded c.keeper ∥₁ };
+    ghost invariant = { λ c. IsClerk K.Tells K.IsLoaded c.base
+        (record { state = c.office; accepted = drop c.base c.office.entries; keeper = c.keeper }) };
 }
 
 impl<K: Keeper> Clerk<K> {
-    /// Decides a changing request on the desk's day. What is accepted is kept before it is answered. One that was accepted before, of the same
-    /// caller under the same key, is answered as it was then, and changes nothing.
+    /// Decides a changing request on the desk's day. An accepted request is stored before it is answered. A request that was accepted
+    /// before, from the same caller under the same key, gets the same answer again and changes nothing.
     ///
     /// # Errors
     ///
-    /// The first rule that the request breaks, in the order of the rules, or `KeeperFault` where the keeper failed, or `NoMemory` where memory
-    /// was refused; nothing is changed then, in the desk or in what is kept.
+    /// The first rule that the request breaks, in the order of the rules; or `KeeperFault`, only where no rule is broken, an entry was to be
+    /// made and the keeper failed; or `NoMemory` where memory ran out. Neither the desk nor, where they are known, its stored rows are then
+    /// changed. The keeper is not asked where no entry is made.
     #[tactic(auto, using(crate::proofs::Deciding::advances))]
     pub fn apply(&mut self, alloc: Global, c: &Change) -> Answer
         ensures answer { Advances (decision self.old.state c.now) self.old self.new result }
-        ensures cause { HasCause self.old self.new result }
+        ensures cause { HasCause K.IsSteady K.faults (decision self.old.state c.now)
+            self.old.keeper self.new.keeper result }
+        ensures told { Told K.Tells self.new.keeper self.new.state }
     {
-        self.office.apply(alloc, &mut self.keeper, c)
+        desk_goes_on();
+        c.has_record();
+        let answer = self.office.apply(alloc, &mut self.keeper, c);
+        // the number of the last entry is one of the type
+        self.office.accepted();
+        answer
     }
 
-    /// The keeper. Where it tells its rows, they are those of the clerk's state.
+    /// The keeper. Its rows, where known, are those of the clerk's state.
     pub fn keeper(&self) -> &K
-        ensures told { Told K.Tells result.now self.now.state }
-        ensures faults { K.faults result.now ≡ self.now.faults }
+        ensures same { result.now ≡ self.now.keeper }
+        ensures told { Told K.Tells self.now.keeper self.now.state }
     {
         &self.keeper
     }
 
-    /// The keeper as it stands; the clerk is given up.
+    /// Ends the clerk and returns its keeper.
     pub fn into_keeper(self) -> K
-        ensures told { Told K.Tells result self.state }
-        ensures faults { K.faults result ≡ self.faults }
+        ensures same { result ≡ self.keeper }
+        ensures desk { IsDesk self.state }
+        ensures told { Told K.Tells self.keeper self.state }
     {
         self.keeper
     }
 
-    /// What is told of the case of this number; `None` exactly where there is no such case.
+    /// The case of this number; `None` exactly where there is no such case.
     pub fn case_view(&self, number: u32) -> Option<CaseView>
         ensures { result ≡ case_view self.now.state number }
     {
         self.office.case_view(number)
     }
 
-    /// The cases that are marked for review, by their numbers, rising: those whose determinations stand, and whose lists of findings over
-    /// the airfields as they stand differ from the lists that the determinations were made on.
+    /// The numbers of the cases marked for review, rising: those whose determinations stand, and whose lists of findings over
+    /// the present airfields differ from the lists that the determinations were made on.
     ///
     /// # Errors
     ///
@@ -97,7 +107,7 @@ impl<K: Keeper> Clerk<K> {
         self.office.review(alloc)
     }
 
-    /// The report of the marked cases, in rising order.
+    /// The report `review` of the marked cases, in rising order.
     ///
     /// # Errors
     ///
@@ -108,18 +118,19 @@ impl<K: Keeper> Clerk<K> {
         self.office.review_report(alloc)
     }
 
-    /// The report of the determinations that stand and expire, by expiry and case.
+    /// The report `expiry` of the standing determinations that have an expiry, by expiry and case.
     ///
     /// # Errors
     ///
     /// `NoMemory` where memory was refused.
     pub fn expiry_report(&self, alloc: Global) -> Result<Text, NoMemory>
-        ensures { IfOk result (λ t. (rows : List ExpiryRow) × IsExpiryOrder (expiring self.now.state) rows × (t ≡ expiry_table rows)) }
+        ensures { IfOk result (λ t. (rows : List ExpiryRow)
+            × IsExpiryOrder (expiry_rows self.now.state) rows × (t ≡ expiry_table rows)) }
     {
         self.office.expiry_report(alloc)
     }
 
-    /// How many cases are marked for review.
+    /// The number of cases marked for review.
     pub fn marked(&self) -> u32
         ensures { result ≡ length (marks self.now.state) }
     {
@@ -143,8 +154,8 @@ impl<K: Keeper> Clerk<K> {
         self.office.accepted()
     }
 
-    /// The number of the last entry at the opening: the entries behind it were accepted since, and the state is the replay of their requests
-    /// from a state that has those up to it.
+    /// The number of the last entry at the opening. The later entries were accepted since, and the state is the replay of their requests
+    /// from a state with the entries up to it.
     pub fn base(&self) -> u64
         ensures within { result ≤ last_number self.now.state }
         ensures accepted { self.now.accepted ≡ drop result self.now.state.entries }
@@ -153,7 +164,7 @@ impl<K: Keeper> Clerk<K> {
         self.base
     }
 
-    /// The airfields as they stand, with the surfaces over them.
+    /// The present airfields, with their surfaces.
     pub fn sky(&self) -> &Sky
         ensures { result.now ≡ self.now.state.register }
     {

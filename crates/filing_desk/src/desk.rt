@@ -1,18 +1,18 @@
-//! All that the desk holds.
+//! The state of the desk.
 
 ghost use Rattle.std.specs.Prelude.{◌≡◌, ◌≤◌, IfSome, length, option_copied, slice_get};
 ghost use Rattle.case_acts.specs.Cases.{IsSound};
 ghost use Rattle.determination_dates.specs.Days.{IsLimited};
-ghost use Rattle.desk_rules.specs.declared.entry.TheConstants.{MOST_CASES};
-ghost use Rattle.desk_rules.specs.States.{empty, case_at, entry_of};
-ghost use Rattle.desk_rules.specs.Marks.{stands_in};
+ghost use Rattle.desk_machine.specs.declared.entry.TheConstants.{MOST_CASES};
+ghost use Rattle.desk_machine.specs.States.{empty, case_at, entry_of};
+ghost use Rattle.desk_machine.specs.Marks.{stands_in};
 ghost use Rattle.filing_desk.specs.Desks.{AreSound};
 
 use crate::receipts::Receipts;
 use crate::view::status_on;
 use case_acts::is_standing;
 use case_records::KeptCase;
-use desk_rules::Entry;
+use desk_machine::Entry;
 use determination_dates::ClosedDays;
 use jiff::civil::Date;
 use oe_findings::Sky;
@@ -33,8 +33,8 @@ pub(crate) struct Desk {
 impl Model for Desk {
     ghost use Rattle.std.specs.Prelude.{IfSome, ◌≤◌, length};
     ghost use Rattle.determination_dates.specs.Days.{IsLimited};
-    ghost use Rattle.desk_rules.specs.States.{State};
-    ghost use Rattle.desk_rules.specs.declared.entry.TheConstants.{MOST_CASES};
+    ghost use Rattle.desk_machine.specs.States.{State};
+    ghost use Rattle.desk_machine.specs.declared.entry.TheConstants.{MOST_CASES};
     ghost use Rattle.filing_desk.specs.Desks.{AreSound};
 
     ghost Value = { State };
@@ -45,7 +45,7 @@ impl Model for Desk {
 }
 
 impl Desk {
-    /// A desk that holds nothing. It takes no memory.
+    /// An empty desk. It allocates nothing.
     pub(crate) fn empty(alloc: Global) -> Desk
         ensures { result ≡ empty }
     {
@@ -58,21 +58,21 @@ impl Desk {
         }
     }
 
-    /// The case at this place.
+    /// The case at this index.
     fn case_in(&self, place: usize) -> Option<&KeptCase>
         ensures { option_copied result ≡ slice_get self.now.cases place }
     {
         self.cases.get(place)
     }
 
-    /// How many cases there are.
+    /// The number of cases.
     pub(crate) fn count(&self) -> usize
         ensures { result ≡ length self.now.cases }
     {
         self.cases.len()
     }
 
-    /// Shows to a proof that the dates of the cases are within their limit, and that their number is.
+    /// Shows to a proof that the dates of the cases and their number are within their limits.
     pub(crate) fn soundness(&self)
         ensures cases { AreSound self.now.cases }
         ensures day { IfSome self.now.day IsLimited }
@@ -94,7 +94,7 @@ impl Desk {
         self.case_in(number as usize - 1)
     }
 
-    /// The entry of this caller under this key.
+    /// The entry of this caller's key.
     pub(crate) fn entry(&self, caller: Word, key: Word) -> Option<&Entry>
         ensures { option_copied result ≡ entry_of caller key self.now.entries }
     {

@@ -1,4 +1,4 @@
-//! The filing desk: what the clerk holds, how it decides changing requests, and what it tells of cases.
+//! The filing desk: the clerk's state, its decisions on changing requests, and its views of cases.
 //!
 //! Dates are those of `jiff`, from 1900-01-01 to 2999-12-31.
 #![tactic(auto)]

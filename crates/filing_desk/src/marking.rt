@@ -1,16 +1,15 @@
-//! Steps of the desk, each with the entry of its request, and the marks after it. All that takes memory comes first.
+//! Steps of the desk, each with the entry of its request, and the marks after it. Everything that allocates is done first.
 
 ghost use Rattle.std.specs.Prelude.{◌≡◌, ◌≢◌, ℕ, cond, not, Some, None, IfErr, IfSome, OnOk, OnErr};
 ghost use Rattle.case_acts.specs.declared.effect.Step.TheVariants as steps;
 ghost use Rattle.case_acts.specs.Cases.{IsSound, IsSoundStep};
 ghost use Rattle.determination_dates.specs.Days.{IsLimited};
 ghost use Rattle.determination_dates.specs.Effects.{IsKept};
-ghost use Rattle.desk_rules.specs.States.{entry_of, with_entry, stepped};
-ghost use Rattle.desk_rules.specs.Machine.{register_rule};
-ghost use Rattle.desk_rules.specs.Marks.{Goes, stands_in};
-ghost use Rattle.desk_rows.specs.Changes.{HasRoom};
-ghost use Rattle.filing_desk.specs.Handed.{Handed, IsUnkept};
-ghost use Rattle.review_marks.specs.Books.{closed, row_at};
+ghost use Rattle.desk_machine.specs.States.{with_entry, state_after_step};
+ghost use Rattle.desk_machine.specs.Marks.{Goes, stands_in};
+ghost use Rattle.desk_tables.specs.Changes.{HasRoom};
+ghost use Rattle.filing_desk.specs.Handed.{IsNew, Keeps, TakesStep};
+ghost use Rattle.review_marks.specs.Books.{rows_after_close, row_at};
 
 use crate::desk::Desk;
 use crate::handing::Accepted;
@@ -25,18 +24,20 @@ use oe_keeper::Keeper;
 use review_marks::MarkBook;
 use std::alloc::Global;
 
-/// Takes a case out of the book, unless its determination stands.
+/// Removes a case from the book, unless its determination stands.
 fn close_fallen_one(desk: &Desk, marks: &mut MarkBook, number: u32)
-    ensures { marks.new ≡ cond (stands_in desk.now number) marks.old (closed number marks.old) }
+    ensures { marks.new ≡ cond (stands_in desk.now number) marks.old
+        (rows_after_close number marks.old) }
 {
     if !desk.stands(number) {
         marks.close(number);
     }
 }
 
-/// Takes the cases out of the book whose determinations do not stand.
+/// Removes the cases from the book whose determinations do not stand.
 fn close_fallen(desk: &Desk, marks: &mut MarkBook)
-    ensures { (n : ℕ) → row_at marks.new n ≡ cond (not (stands_in desk.now n)) None (row_at marks.old n) }
+    ensures { (n : ℕ) → row_at marks.new n ≡ cond (not
+        (stands_in desk.now n)) None (row_at marks.old n) }
 {
     let mut number = marks.last_number();
     while number > 0 {
@@ -46,7 +47,7 @@ fn close_fallen(desk: &Desk, marks: &mut MarkBook)
 }
 
 impl Office {
-    /// Amends the register, where its rules allow that, and marks the determinations whose lists are other ones then.
+    /// Amends the register, where its rules allow it, and marks the determinations whose lists then differ.
     #[tactic(auto, using(review_marks::proofs::Abouts::shown, crate::proofs::Unasked::unasked))]
     fn amend<K: Keeper>(
         &mut self,
@@ -55,12 +56,10 @@ impl Office {
         accepted: Accepted,
         a: &Amendment,
     ) -> Result<(), Refusal>
-        requires new { entry_of accepted.entry.change.caller accepted.entry.change.key self.old.entries ≡ None }
+        requires new { IsNew accepted.entry self.old.entries }
         requires loaded { ∥ K.IsLoaded keeper.old ∥₁ }
-        ensures done { OnOk result ((register_rule self.old.register (steps.Amended a.now) ≡ None) × (self.new ≡ with_entry accepted.entry (stepped (steps.Amended a.now) self.old))) }
-        ensures same { OnErr result (self.new ≡ self.old) }
-        ensures refused { IfErr result (λ why. why ≢ Refusal.NoMemory → why ≢ Refusal.KeeperFault → register_rule self.old.register (steps.Amended a.now) ≡ Some why) }
-        ensures handed { Handed K.Tells K.IsLoaded K.faults keeper.old keeper.new accepted.changes result }
+        ensures { TakesStep K.Tells K.IsLoaded K.IsSteady K.faults keeper.old keeper.new
+            accepted.changes accepted.entry (steps.Amended a.now) self.old self.new result }
     {
         let (sky, changed) = self.desk.amended(alloc, a)?;
         let change = match mark_change(&mut self.marks, &sky, &changed) {
@@ -72,7 +71,7 @@ impl Office {
         Ok(())
     }
 
-    /// Closes a day.
+    /// Records a closed day.
     fn close<K: Keeper>(
         &mut self,
         alloc: Global,
@@ -80,18 +79,18 @@ impl Office {
         accepted: Accepted,
         day: Date,
     ) -> Result<(), Refusal>
-        requires new { entry_of accepted.entry.change.caller accepted.entry.change.key self.old.entries ≡ None }
+        requires new { IsNew accepted.entry self.old.entries }
         requires loaded { ∥ K.IsLoaded keeper.old ∥₁ }
         requires day { IsLimited day }
-        ensures done { OnOk result (self.new ≡ with_entry accepted.entry (stepped (steps.DayClosed day) self.old)) }
-        ensures same { OnErr result (self.new ≡ self.old) }
-        ensures refused { IfErr result IsUnkept }
-        ensures handed { Handed K.Tells K.IsLoaded K.faults keeper.old keeper.new accepted.changes result }
+        ensures { Keeps K.Tells K.IsLoaded K.IsSteady K.faults keeper.old keeper.new
+            accepted.changes self.old
+            (with_entry accepted.entry (state_after_step (steps.DayClosed day) self.old))
+            self.new result }
     {
         self.desk.close(alloc, keeper, accepted, day)
     }
 
-    /// Opens a case behind the others.
+    /// Adds a case after the others.
     fn open<K: Keeper>(
         &mut self,
         alloc: Global,
@@ -99,21 +98,21 @@ impl Office {
         accepted: Accepted,
         case: KeptCase,
     ) -> Result<(), Refusal>
-        requires new { entry_of accepted.entry.change.caller accepted.entry.change.key self.old.entries ≡ None }
+        requires new { IsNew accepted.entry self.old.entries }
         requires loaded { ∥ K.IsLoaded keeper.old ∥₁ }
         requires case { IsSound case }
         requires room { HasRoom self.old.cases (steps.CaseFiled case) }
         requires goes { Goes self.old (steps.CaseFiled case) }
-        ensures done { OnOk result (self.new ≡ with_entry accepted.entry (stepped (steps.CaseFiled case) self.old)) }
-        ensures same { OnErr result (self.new ≡ self.old) }
-        ensures refused { IfErr result IsUnkept }
-        ensures handed { Handed K.Tells K.IsLoaded K.faults keeper.old keeper.new accepted.changes result }
+        ensures { Keeps K.Tells K.IsLoaded K.IsSteady K.faults keeper.old keeper.new
+            accepted.changes self.old
+            (with_entry accepted.entry (state_after_step (steps.CaseFiled case) self.old))
+            self.new result }
     {
         self.desk.open(alloc, keeper, accepted, case)?;
         Ok(())
     }
 
-    /// Sets the desk's day. The determinations that are expired then are no longer watched.
+    /// Sets the desk's day. Determinations that have then expired are no longer watched.
     fn set_day<K: Keeper>(
         &mut self,
         alloc: Global,
@@ -121,14 +120,14 @@ impl Office {
         accepted: Accepted,
         day: Date,
     ) -> Result<(), Refusal>
-        requires new { entry_of accepted.entry.change.caller accepted.entry.change.key self.old.entries ≡ None }
+        requires new { IsNew accepted.entry self.old.entries }
         requires loaded { ∥ K.IsLoaded keeper.old ∥₁ }
         requires day { IsLimited day }
         requires goes { Goes self.old (steps.DaySet day) }
-        ensures done { OnOk result (self.new ≡ with_entry accepted.entry (stepped (steps.DaySet day) self.old)) }
-        ensures same { OnErr result (self.new ≡ self.old) }
-        ensures refused { IfErr result IsUnkept }
-        ensures handed { Handed K.Tells K.IsLoaded K.faults keeper.old keeper.new accepted.changes result }
+        ensures { Keeps K.Tells K.IsLoaded K.IsSteady K.faults keeper.old keeper.new
+            accepted.changes self.old
+            (with_entry accepted.entry (state_after_step (steps.DaySet day) self.old))
+            self.new result }
     {
         self.desk.keep(alloc, keeper, accepted)?;
         self.desk.set_day(day);
@@ -136,7 +135,7 @@ impl Office {
         Ok(())
     }
 
-    /// Puts down the day on which a form came, where the case is there.
+    /// Stores the day on which a form was received, where the case exists.
     fn put_form<K: Keeper>(
         &mut self,
         alloc: Global,
@@ -145,19 +144,19 @@ impl Office {
         number: u32,
         day: Date,
     ) -> Result<(), Refusal>
-        requires new { entry_of accepted.entry.change.caller accepted.entry.change.key self.old.entries ≡ None }
+        requires new { IsNew accepted.entry self.old.entries }
         requires loaded { ∥ K.IsLoaded keeper.old ∥₁ }
-        ensures done { OnOk result (self.new ≡ with_entry accepted.entry (stepped (steps.FormPut number day) self.old)) }
-        ensures same { OnErr result (self.new ≡ self.old) }
-        ensures refused { IfErr result IsUnkept }
-        ensures handed { Handed K.Tells K.IsLoaded K.faults keeper.old keeper.new accepted.changes result }
+        ensures { Keeps K.Tells K.IsLoaded K.IsSteady K.faults keeper.old keeper.new
+            accepted.changes self.old
+            (with_entry accepted.entry (state_after_step (steps.FormPut number day) self.old))
+            self.new result }
     {
         self.desk.keep(alloc, keeper, accepted)?;
         self.desk.put_form(number, day);
         Ok(())
     }
 
-    /// Gives a case this life, where it is there. A determination that does not stand then is no longer watched.
+    /// Replaces the life of a case, where the case exists. A determination that then does not stand is no longer watched.
     fn put_life<K: Keeper>(
         &mut self,
         alloc: Global,
@@ -166,14 +165,14 @@ impl Office {
         number: u32,
         life: Life,
     ) -> Result<(), Refusal>
-        requires new { entry_of accepted.entry.change.caller accepted.entry.change.key self.old.entries ≡ None }
+        requires new { IsNew accepted.entry self.old.entries }
         requires loaded { ∥ K.IsLoaded keeper.old ∥₁ }
         requires kept { IfSome life.determination IsKept }
         requires goes { Goes self.old (steps.LifePut number life) }
-        ensures done { OnOk result (self.new ≡ with_entry accepted.entry (stepped (steps.LifePut number life) self.old)) }
-        ensures same { OnErr result (self.new ≡ self.old) }
-        ensures refused { IfErr result IsUnkept }
-        ensures handed { Handed K.Tells K.IsLoaded K.faults keeper.old keeper.new accepted.changes result }
+        ensures { Keeps K.Tells K.IsLoaded K.IsSteady K.faults keeper.old keeper.new
+            accepted.changes self.old
+            (with_entry accepted.entry (state_after_step (steps.LifePut number life) self.old))
+            self.new result }
     {
         self.desk.keep(alloc, keeper, accepted)?;
         self.desk.put_life(number, life);
@@ -181,8 +180,8 @@ impl Office {
         Ok(())
     }
 
-    /// Gives a case this life and the list of its determination, where it is there. The determination is watched from then on, while it
-    /// stands.
+    /// Replaces the life of a case and stores the list of its determination, where the case exists. The determination is watched from then
+    /// on, as long as it stands.
     fn issue<K: Keeper>(
         &mut self,
         alloc: Global,
@@ -192,14 +191,14 @@ impl Office {
         life: Life,
         list: KeptList,
     ) -> Result<(), Refusal>
-        requires new { entry_of accepted.entry.change.caller accepted.entry.change.key self.old.entries ≡ None }
+        requires new { IsNew accepted.entry self.old.entries }
         requires loaded { ∥ K.IsLoaded keeper.old ∥₁ }
         requires kept { IfSome life.determination IsKept }
         requires goes { Goes self.old (steps.Issued number life list) }
-        ensures done { OnOk result (self.new ≡ with_entry accepted.entry (stepped (steps.Issued number life list) self.old)) }
-        ensures same { OnErr result (self.new ≡ self.old) }
-        ensures refused { IfErr result IsUnkept }
-        ensures handed { Handed K.Tells K.IsLoaded K.faults keeper.old keeper.new accepted.changes result }
+        ensures { Keeps K.Tells K.IsLoaded K.IsSteady K.faults keeper.old keeper.new
+            accepted.changes self.old
+            (with_entry accepted.entry (state_after_step (steps.Issued number life list) self.old))
+            self.new result }
     {
         let Some(case) = self.desk.case(number) else {
             return self.desk.keep(alloc, keeper, accepted);
@@ -218,12 +217,12 @@ impl Office {
         Ok(())
     }
 
-    /// Does a step, and has the entry of its request kept.
+    /// Does a step, and stores the entry of its request.
     ///
     /// # Errors
     ///
-    /// The rule of the register that an amendment breaks, or `NoMemory` where memory was refused, or `KeeperFault` where the keeper failed; the
-    /// office is as it was.
+    /// The rule of the register that an amendment breaks, or `NoMemory` where memory ran out, or `KeeperFault` where the keeper failed.
+    /// The office is then unchanged.
     pub(crate) fn take<K: Keeper>(
         &mut self,
         alloc: Global,
@@ -231,15 +230,13 @@ impl Office {
         accepted: Accepted,
         step: Step,
     ) -> Result<(), Refusal>
-        requires new { entry_of accepted.entry.change.caller accepted.entry.change.key self.old.entries ≡ None }
+        requires new { IsNew accepted.entry self.old.entries }
         requires loaded { ∥ K.IsLoaded keeper.old ∥₁ }
         requires sound { IsSoundStep step }
         requires room { HasRoom self.old.cases step }
         requires goes { Goes self.old step }
-        ensures done { OnOk result ((register_rule self.old.register step ≡ None) × (self.new ≡ with_entry accepted.entry (stepped step self.old))) }
-        ensures same { OnErr result (self.new ≡ self.old) }
-        ensures refused { IfErr result (λ why. why ≢ Refusal.NoMemory → why ≢ Refusal.KeeperFault → register_rule self.old.register step ≡ Some why) }
-        ensures handed { Handed K.Tells K.IsLoaded K.faults keeper.old keeper.new accepted.changes result }
+        ensures { TakesStep K.Tells K.IsLoaded K.IsSteady K.faults keeper.old keeper.new
+            accepted.changes accepted.entry step self.old self.new result }
     {
         match step {
             Step::Amended(a) => self.amend(alloc, keeper, accepted, &a),

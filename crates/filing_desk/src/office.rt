@@ -1,9 +1,9 @@
 //! The desk with the marks of its cases.
 
-ghost use Rattle.std.specs.Prelude.{◌≡◌, List, IfOk, length};
-ghost use Rattle.desk_rules.specs.Marks.{case_view, marks};
-ghost use Rattle.desk_rules.specs.Reports.{IsExpiryOrder, expiring, review_rows};
-ghost use Rattle.desk_rules.specs.States.{empty, last_number};
+ghost use Rattle.std.specs.Prelude.{◌≡◌, ◌<◌, ◌^◌, List, IfOk, length};
+ghost use Rattle.desk_machine.specs.Marks.{case_view, marks};
+ghost use Rattle.desk_machine.specs.Reports.{IsExpiryOrder, expiry_rows, review_rows};
+ghost use Rattle.desk_machine.specs.States.{empty, last_number};
 ghost use Rattle.oe_reports.specs.Tables.{expiry_table, review_table};
 ghost use Rattle.oe_reports.specs.declared.rows.ExpiryRow.{ExpiryRow};
 
@@ -16,7 +16,7 @@ use review_marks::MarkBook;
 use std::alloc::Global;
 use std::marker::Model;
 
-/// The desk, and which of its standing determinations are marked for review.
+/// The desk, and the marks of its standing determinations.
 #[derive(Drop)]
 pub(crate) struct Office {
     pub(crate) desk: Desk,
@@ -24,7 +24,7 @@ pub(crate) struct Office {
 }
 
 impl Model for Office {
-    ghost use Rattle.desk_rules.specs.States.{State};
+    ghost use Rattle.desk_machine.specs.States.{State};
     ghost use Rattle.filing_desk.specs.Marked.{AreMarks, HasDay};
 
     ghost Value = { State };
@@ -35,7 +35,7 @@ impl Model for Office {
 }
 
 impl Office {
-    /// An office whose desk holds nothing. It takes no memory.
+    /// An office with an empty desk. It allocates nothing.
     pub(crate) fn empty(alloc: Global) -> Office
         ensures { result ≡ empty }
     {
@@ -47,12 +47,13 @@ impl Office {
 
     /// The number of the last entry, 0 where there is none.
     pub(crate) fn accepted(&self) -> u64
-        ensures { result ≡ last_number self.now }
+        ensures value { result ≡ last_number self.now }
+        ensures few { last_number self.now < 2 ^ 64 }
     {
         self.desk.receipts.len() as u64
     }
 
-    /// What is told of the case of this number.
+    /// The case of this number.
     pub(crate) fn case_view(&self, number: u32) -> Option<CaseView>
         ensures { result ≡ case_view self.now number }
     {
@@ -63,7 +64,7 @@ impl Office {
         }
     }
 
-    /// The cases that are marked for review.
+    /// The numbers of the cases marked for review.
     pub(crate) fn review(&self, alloc: Global) -> Result<CaseList, NoMemory>
         ensures { IfOk result (λ l. l ≡ marks self.now) }
     {
@@ -78,14 +79,15 @@ impl Office {
         review_report(alloc, &self.desk, &marked)
     }
 
-    /// The report of the determinations that expire.
+    /// The report of the standing determinations that have an expiry.
     pub(crate) fn expiry_report(&self, alloc: Global) -> Result<Text, NoMemory>
-        ensures { IfOk result (λ t. (rows : List ExpiryRow) × IsExpiryOrder (expiring self.now) rows × (t ≡ expiry_table rows)) }
+        ensures { IfOk result (λ t. (rows : List ExpiryRow)
+            × IsExpiryOrder (expiry_rows self.now) rows × (t ≡ expiry_table rows)) }
     {
         expiry_report(alloc, &self.desk)
     }
 
-    /// How many cases are marked for review.
+    /// The number of cases marked for review.
     pub(crate) fn marked(&self) -> u32
         ensures { result ≡ length (marks self.now) }
     {

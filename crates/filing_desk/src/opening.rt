@@ -1,27 +1,27 @@
-//! How a clerk is opened.
+//! Opening a clerk.
 
 ghost use Rattle.std.specs.Prelude.{◌≡◌, [], IfOk, IfErr, option_copied};
-ghost use Rattle.desk_opening.specs.Opening.{Opens};
-ghost use Rattle.desk_rows.specs.Rows.{AreRows};
-ghost use Rattle.desk_rules.specs.States.{empty};
+ghost use Rattle.desk_tables.specs.Opening.{Opens};
+ghost use Rattle.desk_tables.specs.Rows.{AreRows};
+ghost use Rattle.desk_machine.specs.States.{empty};
 ghost use Rattle.filing_desk.specs.Handed.{Told};
 ghost use Rattle.filing_desk.specs.Loads.{HasOpenCause, IsOpened, NamesBadRow};
 
 use crate::clerk::Clerk;
 use crate::desk::Desk;
 use crate::office::Office;
-use desk_opening::{Unread, opened_rows, read_desk};
+use desk_tables::{Unread, opened_rows, read_desk};
 use grid_exact::{NoMemory, Text};
-use oe_keeper::{KeepErr, Keeper, Table, Tables};
-use placed_keeper::NoKeeper;
+use oe_keeper::{KeepErr, Keeper, NoKeeper, Table, Tables};
+use reachable_desks::{desk_starts, opened_is_desk};
 use std::alloc::Global;
 
-/// Why no desk was opened.
+/// Why a clerk could not be opened.
 #[derive(Debug, Drop)]
 pub enum OpenRefusal {
     /// The keeper failed.
     KeeperFault,
-    /// This row is the first, in order of table and key, that is not one of a desk, or that is wanting.
+    /// The first row, in order of table and key, that is bad or missing.
     BadRow { table: Table, key: Text },
     /// Memory was refused.
     NoMemory,
@@ -38,11 +38,11 @@ impl From<NoMemory> for OpenRefusal {
     }
 }
 
-/// The office of the desk whose rows these are.
+/// Opens an office from the rows of a desk.
 ///
 /// # Errors
 ///
-/// `BadRow` names the first row that is not one of a desk, `NoMemory` where memory was refused.
+/// `BadRow` gives the first bad or missing row, `NoMemory` where memory ran out.
 fn office_of(alloc: Global, tables: Tables) -> Result<Office, OpenRefusal>
     ensures opened { IfOk result (λ o. Opens tables o) }
     ensures rows { IfOk result (λ o. AreRows o tables) }
@@ -60,12 +60,13 @@ fn office_of(alloc: Global, tables: Tables) -> Result<Office, OpenRefusal>
 }
 
 impl<K: Keeper> Clerk<K> {
-    /// A clerk of a desk that holds nothing, over a keeper that was loaded and has no rows. It takes no memory.
+    /// A clerk with an empty desk, over a keeper that was loaded and has no rows. It allocates nothing.
     pub(crate) fn empty(alloc: Global, keeper: K) -> Clerk<K>
         requires loaded { ∥ K.IsLoaded keeper ∥₁ }
         requires told { Told K.Tells keeper empty }
-        ensures { result ≡ record { state = empty; accepted = []; faults = K.faults keeper } }
+        ensures { result ≡ record { state = empty; accepted = []; keeper = keeper } }
     {
+        desk_starts();
         Clerk {
             office: Office::empty(alloc),
             keeper,
@@ -75,16 +76,19 @@ impl<K: Keeper> Clerk<K> {
 }
 
 impl<K: Keeper + Drop> Clerk<K> {
-    /// A clerk of the desk whose rows the keeper has at this place; one that holds nothing where it has none.
+    /// Opens the desk from the rows that the keeper has at this place; an empty desk where it has none.
     ///
     /// # Errors
     ///
-    /// `KeeperFault` only where the keeper failed. `BadRow` names the first row, in order of table and key, that is not one of a desk, or a
-    /// format or a day that is wanting. `NoMemory` where memory was refused.
+    /// `KeeperFault` only where the keeper failed. `BadRow` gives the first row, in order of table and key, that is bad, or the row of the
+    /// format or of the desk's day where that is missing. `NoMemory` where memory ran out.
     pub fn open(alloc: Global, keeper: K, place: Option<&str>) -> Result<Clerk<K>, OpenRefusal>
-        ensures opened { IfOk result (λ c. IsOpened K.Finds K.faults keeper (option_copied place.entry) c) }
-        ensures cause { IfErr result (λ why. HasOpenCause K.Finds K.faults K.IsSteady keeper (option_copied place.entry) why) }
+        ensures opened { IfOk result (λ c. IsOpened K.Tells K.Finds K.IsSteady K.faults
+            keeper (option_copied place.entry) c) }
+        ensures cause { IfErr result (λ why. HasOpenCause K.Tells K.Finds K.IsSteady K.faults
+            keeper (option_copied place.entry) why) }
     {
+        opened_is_desk();
         let mut keeper = keeper;
         let tables = match keeper.load(alloc, place) {
             Ok(tables) => tables,
@@ -106,9 +110,10 @@ impl<K: Keeper + Drop> Clerk<K> {
 }
 
 impl Clerk<NoKeeper> {
-    /// A clerk of a desk that holds nothing and of which nothing is kept. It takes no memory.
+    /// A clerk with an empty desk that is not stored. It allocates nothing.
     pub fn unkept(alloc: Global) -> Clerk<NoKeeper>
-        ensures { result ≡ record { state = empty; accepted = []; faults = 0 } }
+        ensures state { result.state ≡ empty }
+        ensures accepted { result.accepted ≡ [] }
     {
         Clerk::empty(alloc, NoKeeper)
     }

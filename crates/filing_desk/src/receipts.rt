@@ -4,15 +4,15 @@ ghost use Rattle.std.specs.Prelude.{◌≡◌, ◌<◌, ◌+◌, ◌∷◌, ◌+
 ghost use Rattle.std.specs.BTreeMap.{Updates, IsUnchanged};
 ghost use Rattle.determination_dates.specs.Days.{IsLimited};
 ghost use Rattle.determination_dates.specs.Closed.{with_day};
-ghost use Rattle.desk_rules.specs.States.{entry_of};
-ghost use Rattle.filing_desk.specs.Handed.{Handed, IsUnkept};
+ghost use Rattle.desk_machine.specs.States.{entry_of};
+ghost use Rattle.filing_desk.specs.Handed.{IsNew, Keeps};
 ghost use Rattle.filing_desk.specs.Receipts.{IsIndex};
 ghost use Rattle.filing_desk.specs.contracts.receipt_key.ReceiptKeyOrd.TheImpl as keys;
 
 use crate::handing::{Accepted, hand};
 use crate::receipt_key::ReceiptKey;
 use case_records::Refusal;
-use desk_rules::Entry;
+use desk_machine::Entry;
 use determination_dates::ClosedDays;
 use grid_exact::NoMemory;
 use jiff::civil::Date;
@@ -22,7 +22,7 @@ use std::collections::BTreeMap;
 use std::marker::Model;
 use wire_values::Word;
 
-/// The accepted requests in order of number, each found by its caller and key.
+/// The accepted requests in order of number, with an index by caller and key.
 #[derive(Drop)]
 pub struct Receipts {
     entries: Vec<Entry>,
@@ -31,7 +31,7 @@ pub struct Receipts {
 
 impl Model for Receipts {
     ghost use Rattle.std.specs.Prelude.{List};
-    ghost use Rattle.desk_rules.specs.declared.entry.Entry.{Entry as Seen};
+    ghost use Rattle.desk_machine.specs.declared.entry.Entry.{Entry as Seen};
     ghost use Rattle.filing_desk.specs.Receipts.{IsIndex};
 
     ghost Value = { List Seen };
@@ -41,7 +41,7 @@ impl Model for Receipts {
     ghost invariant = { λ r. IsIndex r.places r.entries.items };
 }
 
-/// What the entry is found by.
+/// The key by which the entry is found.
 fn key_of(entry: &Entry) -> ReceiptKey
     ensures { result ≡ record { key = entry.now.change.key; caller = entry.now.change.caller } }
 {
@@ -51,7 +51,7 @@ fn key_of(entry: &Entry) -> ReceiptKey
     }
 }
 
-/// Puts a place under a key.
+/// Adds an index under a key.
 fn remember(
     places: &mut BTreeMap<ReceiptKey, usize>,
     key: ReceiptKey,
@@ -66,14 +66,14 @@ fn remember(
     }
 }
 
-/// Takes the place under a key away.
+/// Removes the index under a key.
 fn forget(places: &mut BTreeMap<ReceiptKey, usize>, key: ReceiptKey)
     ensures { Updates keys.ghosts.cmp places.old places.new key None }
 {
     let _ = places.remove(&key);
 }
 
-/// Puts the place of an entry under its caller and key, where none before it is there.
+/// Adds the index of an entry under its caller and key, unless an earlier entry is there.
 fn remember_first(
     places: &mut BTreeMap<ReceiptKey, usize>,
     entries: &[Entry],
@@ -118,14 +118,14 @@ impl Receipts {
         Ok(Receipts { entries, places })
     }
 
-    /// How many there are.
+    /// The number of requests.
     pub fn len(&self) -> usize
         ensures { result ≡ length self.now }
     {
         self.entries.len()
     }
 
-    /// The entry of this caller under this key.
+    /// The entry of this caller's key.
     pub fn find(&self, caller: Word, key: Word) -> Option<&Entry>
         ensures { option_copied result ≡ entry_of caller key self.now }
     {
@@ -135,11 +135,11 @@ impl Receipts {
         }
     }
 
-    /// Has the keeper make the changes of an accepted request, and puts its entry behind the others.
+    /// Stores an accepted request through the keeper, and appends its entry.
     ///
     /// # Errors
     ///
-    /// `NoMemory` where memory was refused, `KeeperFault` where the keeper failed; the entries are as they were.
+    /// `NoMemory` where memory ran out, `KeeperFault` where the keeper failed; the entries are then unchanged.
     #[tactic(auto, using(crate::proofs::Indexing::indexed_on, crate::proofs::Indexing::indexed_off, crate::proofs::Unasked::unasked))]
     pub fn keep<K: Keeper>(
         &mut self,
@@ -147,12 +147,10 @@ impl Receipts {
         keeper: &mut K,
         accepted: Accepted,
     ) -> Result<(), Refusal>
-        requires new { entry_of accepted.entry.change.caller accepted.entry.change.key self.old ≡ None }
+        requires new { IsNew accepted.entry self.old }
         requires loaded { ∥ K.IsLoaded keeper.old ∥₁ }
-        ensures kept { OnOk result (self.new ≡ self.old ++ accepted.entry ∷ []) }
-        ensures same { OnErr result (self.new ≡ self.old) }
-        ensures refused { IfErr result IsUnkept }
-        ensures handed { Handed K.Tells K.IsLoaded K.faults keeper.old keeper.new accepted.changes result }
+        ensures { Keeps K.Tells K.IsLoaded K.IsSteady K.faults keeper.old keeper.new
+            accepted.changes self.old (self.old ++ accepted.entry ∷ []) self.new result }
     {
         let Accepted { entry, changes } = accepted;
         match self.entries.reserve(1) {
@@ -177,11 +175,11 @@ impl Receipts {
         Ok(())
     }
 
-    /// The same for a request that closes a day.
+    /// As above, for a request that records a closed day.
     ///
     /// # Errors
     ///
-    /// `NoMemory` where memory was refused, `KeeperFault` where the keeper failed; the entries and the closed days are as they were.
+    /// `NoMemory` where memory ran out, `KeeperFault` where the keeper failed; the entries and the closed days are then unchanged.
     #[tactic(auto, using(crate::proofs::Unasked::unasked, crate::proofs::Unasked::closed_already))]
     pub fn keep_closing<K: Keeper>(
         &mut self,
@@ -191,13 +189,13 @@ impl Receipts {
         closed: &mut ClosedDays,
         day: Date,
     ) -> Result<(), Refusal>
-        requires new { entry_of accepted.entry.change.caller accepted.entry.change.key self.old ≡ None }
+        requires new { IsNew accepted.entry self.old }
         requires loaded { ∥ K.IsLoaded keeper.old ∥₁ }
         requires day { IsLimited day }
-        ensures kept { OnOk result ((self.new ≡ self.old ++ accepted.entry ∷ []) × (closed.new ≡ with_day day closed.old)) }
-        ensures same { OnErr result ((self.new ≡ self.old) × (closed.new ≡ closed.old)) }
-        ensures refused { IfErr result IsUnkept }
-        ensures handed { Handed K.Tells K.IsLoaded K.faults keeper.old keeper.new accepted.changes result }
+        ensures { Keeps {A = _ × _} K.Tells K.IsLoaded K.IsSteady K.faults keeper.old keeper.new
+            accepted.changes (self.old, closed.old)
+            (self.old ++ accepted.entry ∷ [], with_day day closed.old)
+            (self.new, closed.new) result }
     {
         closed.order();
         if closed.has(day) {

@@ -1,9 +1,9 @@
-//! What an amendment of the register changes in the book of marks.
+//! The change of the marks by an amendment of the register.
 
 ghost use Rattle.std.specs.Prelude.{◌≡◌, ◌<◌, ℕ, IfOk, option_map};
-ghost use Rattle.review_marks.specs.Books.{row_at, committed, HasRoom};
+ghost use Rattle.review_marks.specs.Books.{row_at, rows_after_commit, HasRoom};
 ghost use Rattle.review_marks.specs.Shares.{AreHeld, change_of};
-ghost use Rattle.review_marks.specs.Turns.{turned, Shows};
+ghost use Rattle.review_marks.specs.Turns.{row_after_change, Shows};
 
 use airport_register::Changed;
 use grid_exact::{NoMemory, Steps};
@@ -26,12 +26,14 @@ fn counted_change<L: Ledger>(
     requires some { 0 < L.parts }
     ensures same { marks.new ≡ marks.old }
     ensures room { IfOk result (λ c. HasRoom marks.old c) }
-    ensures turned { IfOk result (λ c. (n : ℕ) → row_at (committed c marks.old) n ≡ option_map (turned sky.now (change_of changed.now)) (row_at marks.old n)) }
+    ensures turned { IfOk result (λ c. (n : ℕ)
+        → row_at (rows_after_commit c marks.old) n
+        ≡ option_map (row_after_change sky.now (change_of changed.now)) (row_at marks.old n)) }
 {
     marks.amended(sky, changed, &mut Steps::<L>::new(blank))
 }
 
-/// The change of the marks after an amendment of the register, which leads to the airfields of `sky`.
+/// The change of the marks by an amendment of the register, after which the airfields are those of `sky`.
 pub(crate) fn mark_change(
     marks: &mut MarkBook,
     sky: &Sky,
@@ -41,7 +43,9 @@ pub(crate) fn mark_change(
     requires shows { Shows sky.now (change_of changed.now) }
     ensures same { marks.new ≡ marks.old }
     ensures room { IfOk result (λ c. HasRoom marks.old c) }
-    ensures turned { IfOk result (λ c. (n : ℕ) → row_at (committed c marks.old) n ≡ option_map (turned sky.now (change_of changed.now)) (row_at marks.old n)) }
+    ensures turned { IfOk result (λ c. (n : ℕ)
+        → row_at (rows_after_commit c marks.old) n
+        ≡ option_map (row_after_change sky.now (change_of changed.now)) (row_at marks.old n)) }
 {
     counted_change::<Brand>(marks, sky, changed, Blank::new(1))
 }

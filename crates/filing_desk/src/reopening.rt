@@ -1,13 +1,13 @@
-//! A desk with what its rows told, and its marks anew.
+//! Rebuilds a desk from its stored rows, and computes its marks anew.
 
 ghost use Rattle.std.specs.Prelude.{◌≡◌, ◌<◌, ◌+◌, IfOk, OnOk, length};
-ghost use Rattle.desk_opening.specs.Desks.{IsSoundDesk, desk_of};
+ghost use Rattle.desk_tables.specs.Desks.{IsSoundDesk, desk_of};
 ghost use Rattle.filing_desk.specs.Marked.{AreMarks, AreMarksTo, HasDay};
 
 use crate::desk::Desk;
 use crate::office::Office;
 use crate::receipts::Receipts;
-use desk_opening::OpenedDesk;
+use desk_tables::OpenedDesk;
 use grid_exact::{NoMemory, Steps};
 use oe_findings::Sky;
 use review_marks::MarkBook;
@@ -15,7 +15,7 @@ use std::alloc::Global;
 use std::marker::Brand;
 use std::sync::ledger::{Blank, Ledger};
 
-/// Puts the case behind those that the book has, where its determination stands: marked exactly where its list would now be another one.
+/// Adds the case to the book, where its determination stands: marked exactly where its list would now differ.
 fn watch<L: Ledger>(
     desk: &Desk,
     marks: &mut MarkBook,
@@ -43,7 +43,7 @@ fn watch<L: Ledger>(
     Ok(())
 }
 
-/// The marks of the desk's cases, by lists that are worked out in steps, which the ledger that `blank` opens counts.
+/// Computes the marks of the desk's cases; the steps are counted in the ledger that `blank` opens.
 fn counted_marks<L: Ledger>(desk: &Desk, marks: &mut MarkBook, blank: Blank) -> Result<(), NoMemory>
     requires none { AreMarksTo desk.now 0 marks.old }
     requires name { blank.name ≡ L.name }
@@ -59,7 +59,7 @@ fn counted_marks<L: Ledger>(desk: &Desk, marks: &mut MarkBook, blank: Blank) -> 
     Ok(())
 }
 
-/// The marks of the desk's cases.
+/// Computes the marks of the desk's cases.
 fn marks_of(alloc: Global, desk: &Desk) -> Result<MarkBook, NoMemory>
     ensures { IfOk result (λ m. AreMarks desk.now m) }
 {
@@ -69,7 +69,7 @@ fn marks_of(alloc: Global, desk: &Desk) -> Result<MarkBook, NoMemory>
 }
 
 impl Desk {
-    /// A desk with what its rows told.
+    /// A desk with the data from its rows.
     ///
     /// # Errors
     ///
@@ -89,7 +89,7 @@ impl Desk {
 }
 
 impl Office {
-    /// A desk with the marks of its cases, which are worked out anew.
+    /// The desk with its marks, computed anew.
     ///
     /// # Errors
     ///

@@ -3,8 +3,8 @@
 ghost use Rattle.std.specs.Prelude.{◌≡◌, ◌++◌, List, OnOk, IfOk, option_to_list};
 ghost use Rattle.oe_reports.specs.Tables as tables;
 ghost use Rattle.oe_reports.specs.declared.rows.ExpiryRow.{ExpiryRow as AnExpiryRow};
-ghost use Rattle.desk_rules.specs.Marks.{marks};
-ghost use Rattle.desk_rules.specs.Reports as spec;
+ghost use Rattle.desk_machine.specs.Marks.{marks};
+ghost use Rattle.desk_machine.specs.Reports as spec;
 
 use crate::desk::Desk;
 use case_records::CaseList;
@@ -13,7 +13,7 @@ use grid_exact::{NoMemory, Text};
 use oe_reports::{ExpiryRow, ReviewRow, expiry_table, review_table};
 use std::alloc::Global;
 
-/// What was decided of a case, and when.
+/// The row of a case: its decision and its day of issuance.
 fn review_row(desk: &Desk, number: u32) -> Option<ReviewRow>
     ensures { result ≡ spec.review_row desk.now number }
 {
@@ -26,7 +26,7 @@ fn review_row(desk: &Desk, number: u32) -> Option<ReviewRow>
     })
 }
 
-/// Puts a row behind others, where there is one.
+/// Appends a row, if there is one.
 fn put_row<T: Drop>(rows: &mut Vec<T>, row: Option<T>) -> Result<(), NoMemory>
     ensures { OnOk result (rows.new.items ≡ rows.old.items ++ option_to_list row) }
 {
@@ -60,7 +60,7 @@ pub(crate) fn review_report(alloc: Global, desk: &Desk, marked: &CaseList) -> Re
     review_table(alloc, rows.as_slice())
 }
 
-/// When the determination of a case expires, where it stands on the desk's day and has an expiry.
+/// The row of a case whose determination stands on the desk's day and has an expiry.
 fn expiry_row(desk: &Desk, number: u32) -> Option<ExpiryRow>
     ensures { result ≡ spec.expiry_row desk.now number }
 {
@@ -75,9 +75,9 @@ fn expiry_row(desk: &Desk, number: u32) -> Option<ExpiryRow>
     })
 }
 
-/// The rows of the determinations that expire, in order of number. More cases than `u32` has numbers are told as memory refused.
+/// The rows of the standing determinations that have an expiry, in order of case. `NoMemory` also where a `u32` cannot count the cases.
 fn expiry_rows(alloc: Global, desk: &Desk) -> Result<Vec<ExpiryRow>, NoMemory>
-    ensures { IfOk result (λ rows. rows.items ≡ spec.expiring desk.now) }
+    ensures { IfOk result (λ rows. rows.items ≡ spec.expiry_rows desk.now) }
 {
     let Ok(last) = u32::try_from(desk.cases.len()) else {
         return Err(NoMemory);
@@ -89,13 +89,14 @@ fn expiry_rows(alloc: Global, desk: &Desk) -> Result<Vec<ExpiryRow>, NoMemory>
     Ok(rows)
 }
 
-/// The report of the determinations that expire, by expiry, and by case where two expire on one day.
+/// The report of the standing determinations that have an expiry, by expiry, then by case.
 ///
 /// # Errors
 ///
 /// `NoMemory` where memory was refused.
 pub(crate) fn expiry_report(alloc: Global, desk: &Desk) -> Result<Text, NoMemory>
-    ensures { IfOk result (λ text. (rows : List AnExpiryRow) × spec.IsExpiryOrder (spec.expiring desk.now) rows × (text ≡ tables.expiry_table rows)) }
+    ensures { IfOk result (λ text. (rows : List AnExpiryRow)
+        × spec.IsExpiryOrder (spec.expiry_rows desk.now) rows × (text ≡ tables.expiry_table rows)) }
 {
     let mut rows = expiry_rows(alloc, desk)?;
     rows.sort_unstable();

@@ -1,25 +1,25 @@
-//! The changes of rows with which an accepted request is kept.
+//! The row changes for an accepted request.
 
 ghost use Rattle.std.specs.Prelude.{◌≡◌, ◌++◌, Some, IfOk, OnOk};
 ghost use Rattle.oe_keeper.specs.Kept.{Kept};
 ghost use Rattle.case_records.specs.declared.case.KeptCase.{KeptCase as SomeCase};
-ghost use Rattle.desk_rules.specs.States.{case_at};
-ghost use Rattle.desk_rows.specs.Rows.{is_bare};
-ghost use Rattle.desk_rows.specs.Changes.{case_changes, changes, step_changes, HasRoom};
+ghost use Rattle.desk_machine.specs.States.{case_at};
+ghost use Rattle.desk_tables.specs.Rows.{is_bare};
+ghost use Rattle.desk_tables.specs.Changes.{case_changes, changes, step_changes, HasRoom};
 
 use crate::desk::Desk;
 use case_acts::Step;
 use case_records::{KeptCase, KeptList};
-use desk_rows::ChangeList;
-use desk_rules::Entry;
+use desk_machine::Entry;
+use desk_tables::ChangeList;
 use determination_dates::Life;
 use grid_exact::NoMemory;
 use jiff::civil::Date;
-use kept_rows::DeskRow;
 use oe_keeper::Keeper;
+use row_register::DeskRow;
 use std::alloc::Global;
 
-/// A copy of a list that may be wanting.
+/// A copy of a list, if there is one.
 fn copy_of(alloc: Global, list: &Option<KeptList>) -> Result<Option<KeptList>, NoMemory>
     ensures { IfOk result (λ l. l ≡ list.now) }
 {
@@ -30,7 +30,7 @@ fn copy_of(alloc: Global, list: &Option<KeptList>) -> Result<Option<KeptList>, N
 }
 
 impl Desk {
-    /// Whether the desk holds nothing.
+    /// Whether the desk is empty.
     #[tactic(auto, using(crate::proofs::Unasked::none_of))]
     fn is_bare(&self) -> bool
         ensures { result ≡ is_bare self.now }
@@ -42,7 +42,7 @@ impl Desk {
             && self.receipts.len() == 0
     }
 
-    /// The change that puts down the day on which a form came.
+    /// The row change that stores the day on which a form was received.
     fn change_form(
         &self,
         alloc: Global,
@@ -50,7 +50,8 @@ impl Desk {
         number: u32,
         day: Date,
     ) -> Result<(), NoMemory>
-        ensures { OnOk result (list.new ≡ list.old ++ case_changes number (λ (c : SomeCase). record c { form = Some day }) (case_at self.now.cases number)) }
+        ensures { OnOk result (list.new ≡ list.old ++ case_changes number (λ
+            (c : SomeCase). record c { form = Some day }) (case_at self.now.cases number)) }
     {
         let Some(case) = self.case(number) else {
             return Ok(());
@@ -65,7 +66,7 @@ impl Desk {
         list.put_filing(alloc, number, &case)
     }
 
-    /// The change that gives a case this life.
+    /// The row change that replaces the life of a case.
     fn change_life(
         &self,
         alloc: Global,
@@ -73,7 +74,8 @@ impl Desk {
         number: u32,
         life: Life,
     ) -> Result<(), NoMemory>
-        ensures { OnOk result (list.new ≡ list.old ++ case_changes number (λ (c : SomeCase). record c { life = life }) (case_at self.now.cases number)) }
+        ensures { OnOk result (list.new ≡ list.old ++ case_changes number (λ
+            (c : SomeCase). record c { life = life }) (case_at self.now.cases number)) }
     {
         let Some(case) = self.case(number) else {
             return Ok(());
@@ -88,7 +90,7 @@ impl Desk {
         list.put_filing(alloc, number, &case)
     }
 
-    /// The change that gives a case this life and the list of its determination.
+    /// The row change that replaces the life of a case and stores the list of its determination.
     fn change_issued(
         &self,
         alloc: Global,
@@ -97,7 +99,9 @@ impl Desk {
         life: Life,
         rests_on: &KeptList,
     ) -> Result<(), NoMemory>
-        ensures { OnOk result (list.new ≡ list.old ++ case_changes number (λ (c : SomeCase). record c { life = life; list = Some rests_on.now }) (case_at self.now.cases number)) }
+        ensures { OnOk result (list.new ≡ list.old ++ case_changes number (λ
+            (c : SomeCase). record c { life = life; list = Some rests_on.now })
+            (case_at self.now.cases number)) }
     {
         let Some(case) = self.case(number) else {
             return Ok(());
@@ -112,7 +116,7 @@ impl Desk {
         list.put_filing(alloc, number, &case)
     }
 
-    /// The changes of a step.
+    /// The row changes of a step.
     fn change_step(&self, alloc: Global, list: &mut ChangeList, step: &Step) -> Result<(), NoMemory>
         requires { HasRoom self.now.cases step.now }
         ensures { OnOk result (list.new ≡ list.old ++ step_changes self.now step.now) }
@@ -132,7 +136,7 @@ impl Desk {
         }
     }
 
-    /// The changes of an accepted request, which are worked out only for a keeper that keeps them.
+    /// The row changes for an accepted request. They are computed only for a keeper that stores them.
     pub(crate) fn changes<K: Keeper>(
         &self,
         alloc: Global,
@@ -141,7 +145,8 @@ impl Desk {
         step: &Step,
     ) -> Result<ChangeList, NoMemory>
         requires { HasRoom self.now.cases step.now }
-        ensures { IfOk result (λ l. (rows : Kept) → K.Tells keeper.now rows → l ≡ changes self.now entry.now step.now) }
+        ensures { IfOk result (λ l. (rows : Kept) → K.Tells keeper.now rows
+            → l ≡ changes self.now entry.now step.now) }
     {
         let mut list = ChangeList::new(alloc);
         if !keeper.keeps() {

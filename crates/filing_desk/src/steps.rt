@@ -1,4 +1,4 @@
-//! What changes on the desk.
+//! Changes of the desk's state.
 
 ghost use Rattle.std.specs.Prelude.{◌≡◌, ◌≢◌, Some, None, IfOk, IfErr, IfSome, OnOk, OnErr};
 ghost use Rattle.airport_register.specs.Amendments.{after_amendment};
@@ -8,11 +8,11 @@ ghost use Rattle.case_acts.specs.declared.effect.Step.TheVariants as steps;
 ghost use Rattle.case_acts.specs.Cases.{IsSound};
 ghost use Rattle.determination_dates.specs.Days.{IsLimited};
 ghost use Rattle.determination_dates.specs.Effects.{IsKept};
-ghost use Rattle.desk_rules.specs.States.{entry_of, with_entry, stepped};
-ghost use Rattle.desk_rules.specs.Machine.{register_rule};
-ghost use Rattle.desk_rows.specs.Changes.{HasRoom};
+ghost use Rattle.desk_machine.specs.States.{with_entry, state_after_step};
+ghost use Rattle.desk_machine.specs.Machine.{register_rule};
+ghost use Rattle.desk_tables.specs.Changes.{HasRoom};
 ghost use Rattle.filing_desk.specs.Desks.{with_register};
-ghost use Rattle.filing_desk.specs.Handed.{Handed, IsUnkept};
+ghost use Rattle.filing_desk.specs.Handed.{IsNew, Keeps};
 
 use crate::desk::Desk;
 use crate::handing::Accepted;
@@ -25,36 +25,38 @@ use oe_keeper::Keeper;
 use std::alloc::Global;
 
 impl Desk {
-    /// Has the keeper make the changes of an accepted request, and puts its entry behind the others.
+    /// Stores an accepted request through the keeper, and appends its entry.
     pub(crate) fn keep<K: Keeper>(
         &mut self,
         alloc: Global,
         keeper: &mut K,
         accepted: Accepted,
     ) -> Result<(), Refusal>
-        requires new { entry_of accepted.entry.change.caller accepted.entry.change.key self.old.entries ≡ None }
+        requires new { IsNew accepted.entry self.old.entries }
         requires loaded { ∥ K.IsLoaded keeper.old ∥₁ }
-        ensures kept { OnOk result (self.new ≡ with_entry accepted.entry self.old) }
-        ensures same { OnErr result (self.new ≡ self.old) }
-        ensures refused { IfErr result IsUnkept }
-        ensures handed { Handed K.Tells K.IsLoaded K.faults keeper.old keeper.new accepted.changes result }
+        ensures { Keeps K.Tells K.IsLoaded K.IsSteady K.faults keeper.old keeper.new
+            accepted.changes self.old
+            (with_entry accepted.entry self.old)
+            self.new result }
     {
         self.receipts.keep(alloc, keeper, accepted)
     }
 
-    /// The airfields after an amendment, with their surfaces, and what it changes.
+    /// The airfields after an amendment, with their surfaces, and the change that was made.
     ///
     /// # Errors
     ///
     /// The first rule of the register that the amendment breaks, or `NoMemory` where memory was refused.
     #[tactic(auto, using(crate::proofs::Causes::no_fault_of_register))]
     pub(crate) fn amended(&self, alloc: Global, a: &Amendment) -> Result<(Sky, Changed), Refusal>
-        ensures allowed { IfOk result (λ _. register_rule self.now.register (steps.Amended a.now) ≡ None) }
+        ensures allowed { IfOk result (λ _. register_rule self.now.register (steps.Amended a.now)
+            ≡ None) }
         ensures after { IfOk result (λ r. r.0 ≡ after_amendment self.now.register a.now) }
         ensures held { IfOk result (λ r. AreHeld (change_of r.1)) }
         ensures leads { IfOk result (λ r. Leads self.now.register r.0 (change_of r.1)) }
         ensures cause { IfErr result (λ why. why ≢ Refusal.KeeperFault) }
-        ensures refused { IfErr result (λ why. why ≢ Refusal.NoMemory → register_rule self.now.register (steps.Amended a.now) ≡ Some why) }
+        ensures refused { IfErr result (λ why. why ≢ Refusal.NoMemory
+            → register_rule self.now.register (steps.Amended a.now) ≡ Some why) }
     {
         self.sky.register().limits();
         match self.sky.amended(alloc, a) {
@@ -66,7 +68,7 @@ impl Desk {
         }
     }
 
-    /// Puts the airfields after an amendment, with their surfaces, in the place of those before it.
+    /// Replaces the airfields, with their surfaces, by those after an amendment.
     pub(crate) fn put_sky<K: Keeper>(
         &mut self,
         alloc: Global,
@@ -74,19 +76,19 @@ impl Desk {
         accepted: Accepted,
         sky: Sky,
     ) -> Result<(), Refusal>
-        requires new { entry_of accepted.entry.change.caller accepted.entry.change.key self.old.entries ≡ None }
+        requires new { IsNew accepted.entry self.old.entries }
         requires loaded { ∥ K.IsLoaded keeper.old ∥₁ }
-        ensures done { OnOk result (self.new ≡ with_entry accepted.entry (with_register sky self.old)) }
-        ensures same { OnErr result (self.new ≡ self.old) }
-        ensures refused { IfErr result IsUnkept }
-        ensures handed { Handed K.Tells K.IsLoaded K.faults keeper.old keeper.new accepted.changes result }
+        ensures { Keeps K.Tells K.IsLoaded K.IsSteady K.faults keeper.old keeper.new
+            accepted.changes self.old
+            (with_entry accepted.entry (with_register sky self.old))
+            self.new result }
     {
         self.receipts.keep(alloc, keeper, accepted)?;
         self.sky = sky;
         Ok(())
     }
 
-    /// Closes a day.
+    /// Records a closed day.
     pub(crate) fn close<K: Keeper>(
         &mut self,
         alloc: Global,
@@ -94,19 +96,19 @@ impl Desk {
         accepted: Accepted,
         day: Date,
     ) -> Result<(), Refusal>
-        requires new { entry_of accepted.entry.change.caller accepted.entry.change.key self.old.entries ≡ None }
+        requires new { IsNew accepted.entry self.old.entries }
         requires loaded { ∥ K.IsLoaded keeper.old ∥₁ }
         requires day { IsLimited day }
-        ensures done { OnOk result (self.new ≡ with_entry accepted.entry (stepped (steps.DayClosed day) self.old)) }
-        ensures same { OnErr result (self.new ≡ self.old) }
-        ensures refused { IfErr result IsUnkept }
-        ensures handed { Handed K.Tells K.IsLoaded K.faults keeper.old keeper.new accepted.changes result }
+        ensures { Keeps K.Tells K.IsLoaded K.IsSteady K.faults keeper.old keeper.new
+            accepted.changes self.old
+            (with_entry accepted.entry (state_after_step (steps.DayClosed day) self.old))
+            self.new result }
     {
         self.receipts
             .keep_closing(alloc, keeper, accepted, &mut self.closed, day)
     }
 
-    /// Opens a case behind the others.
+    /// Adds a case after the others.
     #[tactic(auto, using(crate::proofs::Sound::sound_more, crate::proofs::Unasked::unasked))]
     pub(crate) fn open<K: Keeper>(
         &mut self,
@@ -115,14 +117,14 @@ impl Desk {
         accepted: Accepted,
         case: KeptCase,
     ) -> Result<(), Refusal>
-        requires new { entry_of accepted.entry.change.caller accepted.entry.change.key self.old.entries ≡ None }
+        requires new { IsNew accepted.entry self.old.entries }
         requires loaded { ∥ K.IsLoaded keeper.old ∥₁ }
         requires case { IsSound case }
         requires room { HasRoom self.old.cases (steps.CaseFiled case) }
-        ensures done { OnOk result (self.new ≡ with_entry accepted.entry (stepped (steps.CaseFiled case) self.old)) }
-        ensures same { OnErr result (self.new ≡ self.old) }
-        ensures refused { IfErr result IsUnkept }
-        ensures handed { Handed K.Tells K.IsLoaded K.faults keeper.old keeper.new accepted.changes result }
+        ensures { Keeps K.Tells K.IsLoaded K.IsSteady K.faults keeper.old keeper.new
+            accepted.changes self.old
+            (with_entry accepted.entry (state_after_step (steps.CaseFiled case) self.old))
+            self.new result }
     {
         match self.cases.reserve(1) {
             Ok(()) => {}
@@ -136,14 +138,14 @@ impl Desk {
     /// Sets the desk's day.
     pub(crate) fn set_day(&mut self, day: Date)
         requires { IsLimited day }
-        ensures { self.new ≡ stepped (steps.DaySet day) self.old }
+        ensures { self.new ≡ state_after_step (steps.DaySet day) self.old }
     {
         self.today = Some(day);
     }
 
-    /// Puts down the day on which a form came, where the case is there.
+    /// Stores the day on which a form was received, where the case exists.
     pub(crate) fn put_form(&mut self, number: u32, day: Date)
-        ensures { self.new ≡ stepped (steps.FormPut number day) self.old }
+        ensures { self.new ≡ state_after_step (steps.FormPut number day) self.old }
     {
         if number == 0 {
             return;
@@ -155,10 +157,10 @@ impl Desk {
         self.cases[place].form = Some(day);
     }
 
-    /// Gives a case this life, where it is there.
+    /// Replaces the life of a case, where the case exists.
     pub(crate) fn put_life(&mut self, number: u32, life: Life)
         requires kept { IfSome life.determination IsKept }
-        ensures { self.new ≡ stepped (steps.LifePut number life) self.old }
+        ensures { self.new ≡ state_after_step (steps.LifePut number life) self.old }
     {
         if number == 0 {
             return;
@@ -170,10 +172,10 @@ impl Desk {
         self.cases[place].life = life;
     }
 
-    /// Gives a case this life and the list of its determination, where it is there.
+    /// Replaces the life of a case and stores the list of its determination, where the case exists.
     pub(crate) fn issue(&mut self, number: u32, life: Life, list: KeptList)
         requires kept { IfSome life.determination IsKept }
-        ensures { self.new ≡ stepped (steps.Issued number life list) self.old }
+        ensures { self.new ≡ state_after_step (steps.Issued number life list) self.old }
     {
         if number == 0 {
             return;

@@ -1,14 +1,14 @@
-//! A case, as the reply to a question for it tells it.
+//! Views of cases, for the replies to queries.
 
 ghost use Rattle.std.specs.Prelude.{◌≡◌, IfSome};
 ghost use Rattle.case_acts.specs.Cases.{IsSound};
-ghost use Rattle.desk_rules.specs.Views.{status_on as status_by, view_of as viewed};
+ghost use Rattle.desk_machine.specs.Views.{status_on as status_by, view_of as viewed};
 
 use case_records::{CaseView, KeptCase};
 use determination_dates::{Status, effective, expiry, last_extension_day, status};
 use jiff::civil::Date;
 
-/// How a case stands on the desk's day.
+/// The status of a case on the desk's day.
 pub(crate) fn status_on(day: Option<Date>, case: &KeptCase) -> Status
     requires { IsSound case.now }
     ensures { result ≡ status_by day case.now }
@@ -19,7 +19,7 @@ pub(crate) fn status_on(day: Option<Date>, case: &KeptCase) -> Status
     }
 }
 
-/// What is told of a case: how it stands on the desk's day, and what its determination says.
+/// The view of a case: its status on the desk's day, and its determination.
 pub fn view_of(day: Option<Date>, marked: bool, number: u32, case: &KeptCase) -> CaseView
     requires { IsSound case.now }
     ensures { result ≡ viewed day marked number case.now }

@@ -1,12 +1,13 @@
-//! Where a point lies by a line.
+//! The position of a point relative to a line.
 
 ghost use Rattle.std.specs.Prelude.{◌≡◌, ◌^◌, ◌≤◌, pos, unsigned_abs};
 ghost use Rattle.grid_exact.specs.Lines.{IsOffset, IsReach, IsSquare};
 
 use std::marker::Model;
 
-/// Where a point lies by a line: how far along it from its start and how far to a side of it, both times the length of the line's
-/// vector, and the square of that length, in square tenths of a foot. It is worked out once for all surfaces along one line.
+/// The position of a point relative to a line: its distance along the line from the start and its distance to a side, both multiplied
+/// by the length of the line's vector, and the square of that length, in square tenths of a foot. It is computed once for all
+/// surfaces along one line.
 #[derive(Clone, Copy)]
 pub struct Offset {
     along: i128,
@@ -27,7 +28,7 @@ impl Model for Offset {
 }
 
 impl Offset {
-    /// The offset of these numbers, which a point of the grid and a line have.
+    /// The offset with these numbers, which must belong to a point of the grid and a line.
     pub(crate) fn new(along: i128, aside: u128, square: u128) -> Offset
         requires sizes { IsOffset along aside square }
         ensures along { result.along ≡ along }
@@ -41,7 +42,7 @@ impl Offset {
         }
     }
 
-    /// How far the point is from the start in the line's direction, times the vector's length.
+    /// Distance from the start in the line's direction, times the vector's length; negative behind the start.
     pub fn along(&self) -> i128
         ensures value { result ≡ self.now.along }
         ensures reach { IsReach (unsigned_abs self.now.along) self.now.square }
@@ -49,7 +50,7 @@ impl Offset {
         self.along
     }
 
-    /// How far the point is to a side of the line, times the vector's length.
+    /// Distance to a side of the line, times the vector's length; never negative.
     pub fn aside(&self) -> i128
         ensures value { result ≡ pos self.now.aside }
         ensures reach { IsReach self.now.aside self.now.square }

@@ -11,7 +11,7 @@ use Rattle.airfields.specs.declared.filing.TheConstants.{MOBILE_LIMIT}
 use Rattle.airfields.specs.declared.structure.StructureKind.{StructureKind}
 use Rattle.airfields.specs.declared.structure.StructureKind.TheVariants as kinds
 use Rattle.height_rules.specs.AboveGround.{height_excess, height_surface, notice_excess, notice_surface}
-use Rattle.height_rules.specs.Heights.{allowance_of, notice_top, raised_by, standards_top}
+use Rattle.height_rules.specs.Heights.{allowance_of, notice_top, top_raised_by, standards_top}
 use Rattle.height_rules.specs.declared.heights.TheConstants.{PRIVATE_RAISED, TOP_MOST}
 
 -- the sum that the code makes of the ground, the height and an allowance a
@@ -35,7 +35,7 @@ pub record IsAllowance (z : ℤ) : Type 0 where
   pub low : pos 0 ≤ℤ z
   pub high : z ≤ℤ MOBILE_LIMIT
 
-raised_size : (k : StructureKind) (m : ℤ) → pos 0 ≤ℤ m → m ≤ℤ greatest_mobile k → IsAllowance (raised_by k m)
+raised_size : (k : StructureKind) (m : ℤ) → pos 0 ≤ℤ m → m ≤ℤ greatest_mobile k → IsAllowance (top_raised_by k m)
 raised_size kinds.Object m l h = record { low = omega (arith, ints); high = omega (arith, ints) }
 raised_size kinds.Antenna m l h = record { low = omega (arith, ints); high = omega (arith, ints) }
 raised_size kinds.Interstate m l h = record { low = omega (arith, ints); high = omega (arith, ints) }

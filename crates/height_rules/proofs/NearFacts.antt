@@ -7,7 +7,7 @@ use Rattle.std.specs.List.{list_any}
 use Rattle.std.proofs.lemmas.Bool.{cases_Bool, leb-false}
 use Rattle.std.proofs.lemmas.Int.{ints, by_lt_z}
 use Rattle.grid_exact.specs.Root.{signed_square, AboveRoot, AtLeastRoot}
-use Rattle.grid_exact.specs.Excess.{IsExcess, covering, flat_surface, is_at_least_root, most_excess}
+use Rattle.grid_exact.specs.Excess.{IsExcess, covering_surface, flat_surface, is_at_least_root, most_excess}
 use Rattle.grid_exact.proofs.IntLaws.{signed_square_le}
 use Rattle.grid_exact.proofs.ExcessLemmas.{Tests, excess_of-IsExcess, excess_of-is, within_most}
 use Rattle.grid_exact.proofs.TestFacts.{above_in, above_out, all_true, at_least_in, at_least_out, first_true, le_in, le_out, lt_in, lt_out, second_true, third_true}
@@ -60,13 +60,13 @@ pub none_under : (d2 : ℕ) (base g z : ℤ) → (AtLeastRoot (reach_of base (g 
 none_under d2 base g z missed h = by_lt_z (g -ℤ pos 1) z (λ l. omega (arith, ints, l)) (λ l. absurd (missed (reach_rises d2 base z (g -ℤ pos 1) l h)))
 
 -- the excess over the limit is that over its level part within three nautical miles, and that over its rising part farther away
-pub inner_excess : (d2 : ℕ) (base top : ℤ) (r : Option ℕ) → is_inner d2 ≡ true → IsExcess (flat_surface ⊤ (inner_limit base)) top r → IsExcess (covering (IsAboveLimit d2 base) (IsAtLimit d2 base)) top r
+pub inner_excess : (d2 : ℕ) (base top : ℤ) (r : Option ℕ) → is_inner d2 ≡ true → IsExcess (flat_surface ⊤ (inner_limit base)) top r → IsExcess (covering_surface (IsAboveLimit d2 base) (IsAtLimit d2 base)) top r
 inner_excess d2 base top r e h =
-    subst (λ (b : Bool). IsExcess (covering (λ z. MatchBool b (inner_limit base <ℤ z) (AboveRoot (reach_of base z) RISE_PER_MILE d2)) (λ z. MatchBool b (inner_limit base ≤ℤ z) (AtLeastRoot (reach_of base z) RISE_PER_MILE d2))) top r) (sym e) h
+    subst (λ (b : Bool). IsExcess (covering_surface (λ z. MatchBool b (inner_limit base <ℤ z) (AboveRoot (reach_of base z) RISE_PER_MILE d2)) (λ z. MatchBool b (inner_limit base ≤ℤ z) (AtLeastRoot (reach_of base z) RISE_PER_MILE d2))) top r) (sym e) h
 
-pub outer_excess : (d2 : ℕ) (base top : ℤ) (r : Option ℕ) → is_inner d2 ≡ false → IsExcess (covering (λ z. AboveRoot (reach_of base z) RISE_PER_MILE d2) (λ z. AtLeastRoot (reach_of base z) RISE_PER_MILE d2)) top r → IsExcess (covering (IsAboveLimit d2 base) (IsAtLimit d2 base)) top r
+pub outer_excess : (d2 : ℕ) (base top : ℤ) (r : Option ℕ) → is_inner d2 ≡ false → IsExcess (covering_surface (λ z. AboveRoot (reach_of base z) RISE_PER_MILE d2) (λ z. AtLeastRoot (reach_of base z) RISE_PER_MILE d2)) top r → IsExcess (covering_surface (IsAboveLimit d2 base) (IsAtLimit d2 base)) top r
 outer_excess d2 base top r e h =
-    subst (λ (b : Bool). IsExcess (covering (λ z. MatchBool b (inner_limit base <ℤ z) (AboveRoot (reach_of base z) RISE_PER_MILE d2)) (λ z. MatchBool b (inner_limit base ≤ℤ z) (AtLeastRoot (reach_of base z) RISE_PER_MILE d2))) top r) (sym e) h
+    subst (λ (b : Bool). IsExcess (covering_surface (λ z. MatchBool b (inner_limit base <ℤ z) (AboveRoot (reach_of base z) RISE_PER_MILE d2)) (λ z. MatchBool b (inner_limit base ≤ℤ z) (AtLeastRoot (reach_of base z) RISE_PER_MILE d2))) top r) (sym e) h
 
 -- within 5.99 nautical miles by the square of the distance
 pub outer_in : (d2 : ℕ) → d2 ≤ OUTER_SQUARE → AtLeastRoot (OUTER_HUNDREDTHS *ℤ NAUTICAL_MILE) (pos 100) d2

@@ -5,7 +5,7 @@ use Rattle.airfields.specs.Sites.{Site}
 use Rattle.height_rules.specs.Heights.{notice_top, standards_top}
 use Rattle.height_rules.specs.declared.above_ground.TheConstants.{NOTICE_HEIGHT, OBSTRUCTION_HEIGHT}
 
--- 77.9(a): notice is due of what is more than 200 feet above the ground
+-- 77.9(a): notice is required for structures more than 200 feet above the ground
 abbrev pub notice_limit : Site → ℤ
 notice_limit s = s.terrain +ℤ NOTICE_HEIGHT
 
@@ -15,7 +15,7 @@ notice_surface s = flat_surface ⊤ (notice_limit s)
 abbrev pub notice_excess : Site → Option ℕ
 notice_excess s = flat_excess_of true (notice_limit s) (notice_top s)
 
--- 77.17(a)(1): an obstruction is what is more than 499 feet above the ground
+-- 77.17(a)(1): a structure more than 499 feet above the ground is an obstruction
 abbrev pub height_limit : Site → ℤ
 height_limit s = s.terrain +ℤ OBSTRUCTION_HEIGHT
 

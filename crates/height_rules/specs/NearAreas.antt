@@ -12,7 +12,7 @@ use Rattle.airfields.specs.declared.airfield.Airport.{Airport}
 use Rattle.height_rules.specs.declared.limit.TheConstants.{NAUTICAL_MILE}
 use Rattle.height_rules.specs.declared.near_airport.TheConstants.{OUTER_HUNDREDTHS}
 
--- the limit is asked of structures near the airport: it is of a described category and has a long runway
+-- the airport has the limit: it is of a described category and has a long runway
 pub record HasLimit (a : Airport) : Type 0 where
   pub described : is_described a.category ≡ true
   pub long : list_any is_long a.runways ≡ true
@@ -28,14 +28,14 @@ pub record IsLimited (a : Airport) (arp : Point) (elevation : ℤ) : Type 0 wher
 abbrev pub IsWithin : Point → (x y : ℤ) → Type 0
 IsWithin arp x y = AtLeastRoot (OUTER_HUNDREDTHS *ℤ NAUTICAL_MILE) (pos 100) (length_of (x -ℤ arp.x) (y -ℤ arp.y))
 
--- a box holds all of those points
+-- a box contains all of those points
 pub record HoldsDisc (arp : Point) (box : Area) : Type 0 where
   pub west : (x y : ℤ) → IsWithin arp x y → box.x0 ≤ℤ x
   pub south : (x y : ℤ) → IsWithin arp x y → box.y0 ≤ℤ y
   pub east : (x y : ℤ) → IsWithin arp x y → x ≤ℤ box.x1
   pub north : (x y : ℤ) → IsWithin arp x y → y ≤ℤ box.y1
 
--- the least box that holds them, of an airport with the limit
+-- the least box that contains them, for an airport with the limit
 pub record IsNearArea (a : Airport) (box : Area) : Type 0 where
   pub has_limit : HasLimit a
   pub disc_least : IsLeastBox (HoldsDisc a.arp) box

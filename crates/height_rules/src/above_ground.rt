@@ -10,13 +10,13 @@ use crate::heights::{top_for_notice, top_for_standards};
 use airfields::Filing;
 use grid_exact::flat_excess;
 
-/// Notice is due of what is higher above the ground than this, in tenths of a foot: 200 feet, 77.9(a).
+/// Height above ground above which notice is required, in tenths of a foot: 200 feet (77.9(a)).
 pub const NOTICE_HEIGHT: i64 = 2_000;
 
-/// What is higher above the ground than this is an obstruction, in tenths of a foot: 499 feet, 77.17(a)(1).
+/// Height above ground above which a structure is an obstruction, in tenths of a foot: 499 feet (77.17(a)(1)).
 pub const OBSTRUCTION_HEIGHT: i64 = 4_990;
 
-/// How far `top` is above a height over the ground at the site.
+/// The excess of `top` over a height above the ground at the site, in tenths of a foot; `None` where it is not above.
 fn excess_over_ground(filing: &Filing, height: i64, top: i64) -> Option<u32>
     requires least { pos 0 ≤ℤ height }
     requires most { height ≤ℤ OBSTRUCTION_HEIGHT }
@@ -27,7 +27,7 @@ fn excess_over_ground(filing: &Filing, height: i64, top: i64) -> Option<u32>
     flat_excess(filing.ground + height, top)
 }
 
-/// How far the structure is above 200 feet over the ground, in tenths of a foot: 77.9(a). `None` where it is not.
+/// The excess of the structure over 200 feet above ground, in tenths of a foot (77.9(a)); `None` where it is not above.
 #[tactic(auto, using(crate::proofs::HeightFacts::flat_listed))]
 pub fn excess_200(filing: &Filing) -> Option<u32>
     ensures exact { IsExcess (notice_surface filing.now) (notice_top filing.now) result }
@@ -36,7 +36,7 @@ pub fn excess_200(filing: &Filing) -> Option<u32>
     excess_over_ground(filing, NOTICE_HEIGHT, top_for_notice(filing))
 }
 
-/// How far the structure is above 499 feet over the ground, in tenths of a foot: 77.17(a)(1). `None` where it is not.
+/// The excess of the structure over 499 feet above ground, in tenths of a foot (77.17(a)(1)); `None` where it is not above.
 #[tactic(auto, using(crate::proofs::HeightFacts::flat_listed))]
 pub fn excess_499(filing: &Filing) -> Option<u32>
     ensures exact { IsExcess (height_surface filing.now) (standards_top filing.now) result }

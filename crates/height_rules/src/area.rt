@@ -1,4 +1,4 @@
-//! The area of the limit near an airport.
+//! The area in which the limit near an airport applies.
 
 ghost use Rattle.std.specs.Prelude.{◌≡◌, ◌↔◌, None, IsTrue};
 ghost use Rattle.std.specs.Option.{IsSomeAnd, MatchOption};
@@ -13,17 +13,17 @@ use crate::near_airport::OUTER_HUNDREDTHS;
 use airfields::Airport;
 use grid_exact::{Area, Point};
 
-/// How far the limit goes out in each coordinate, in whole tenths of a foot: 5.99 nautical miles, rounded down, 77.17(a)(2).
+/// Extent of the limit in each coordinate, in whole tenths of a foot: 5.99 nautical miles, rounded down (77.17(a)(2)).
 pub const OUTER_REACH: i64 = OUTER_HUNDREDTHS * NAUTICAL_MILE / 100;
 
-/// Whether the limit is asked of structures near the airport.
+/// Whether the airport has the limit: its category is described and it has a long runway.
 pub(crate) fn has_limit(airport: &Airport) -> bool
     ensures { IsTrue result ↔ HasLimit airport.now }
 {
     airport.category.described() && airport.runways.has_long()
 }
 
-/// The least box that holds the disc of 5.99 nautical miles about the reference point.
+/// The least box that contains the disc of 5.99 nautical miles about the reference point.
 fn disc_box(arp: &Point) -> Area
     ensures { IsLeastBox (HoldsDisc arp.now) result }
 {
@@ -35,13 +35,15 @@ fn disc_box(arp: &Point) -> Area
     }
 }
 
-/// The area of the limit of 77.17(a)(2) of this airport: the least whole box that holds each whole point within 5.99 nautical miles of
-/// its reference point, and so each site that the limit covers. `None` exactly where the limit is asked of no structure: where the
-/// airport is of no described category, or no runway is longer than 3,200 feet.
+/// The area of this airport's limit (77.17(a)(2)): the least whole box that contains each whole point within 5.99 nautical miles of
+/// its reference point, and so each site that the limit covers. `None` exactly where the airport has no limit: where its category
+/// is not described, or no runway is longer than 3,200 feet.
 pub fn near_area(airport: &Airport) -> Option<Area>
     ensures exact { MatchOption result (¬ HasLimit airport.now) (IsNearArea airport.now) }
-    ensures covers { (s : Site) → (near_surface airport.now s).Covers → IsSomeAnd result (λ area. Has area s.at) }
-    ensures skips { (s : Site) → ¬ IsSomeAnd result (λ area. Has area s.at) → near_excess airport.now s ≡ None }
+    ensures covers { (s : Site) → (near_surface airport.now s).Covers →
+        IsSomeAnd result (λ area. Has area s.at) }
+    ensures skips { (s : Site) → ¬ IsSomeAnd result (λ area. Has area s.at) →
+        near_excess airport.now s ≡ None }
 {
     if !has_limit(airport) {
         return None;

@@ -1,4 +1,4 @@
-//! The tops that the rules look at.
+//! The tops that the rules are applied to.
 
 ghost use Rattle.std.specs.Prelude.{◌≡◌, ◌≤ℤ◌, pos};
 ghost use Rattle.grid_exact.specs.Level.{IsLevel};
@@ -6,23 +6,23 @@ ghost use Rattle.height_rules.specs.Heights.{allowance_of, notice_top, standards
 
 use airfields::{ELEVATION_MOST, Filing, HEIGHT_LIMIT, MOBILE_LIMIT, StructureKind};
 
-/// How far an Interstate highway is raised for the traffic on it, in tenths of a foot: 17 feet, 77.9(c).
+/// Height added to an Interstate highway for its traffic, in tenths of a foot: 17 feet (77.9(c)).
 pub const INTERSTATE_RAISED: i64 = 170;
 
-/// How far another public roadway is raised, in tenths of a foot: 15 feet, 77.9(c).
+/// Height added to another public roadway, in tenths of a foot: 15 feet (77.9(c)).
 pub const ROAD_RAISED: i64 = 150;
 
-/// How far a private road is raised at least, in tenths of a foot: 10 feet, 77.9(c).
+/// Least height added to a private road, in tenths of a foot: 10 feet (77.9(c)).
 pub const PRIVATE_RAISED: i64 = 100;
 
-/// How far a railroad is raised, in tenths of a foot: 23 feet, 77.9(c).
+/// Height added to a railroad, in tenths of a foot: 23 feet (77.9(c)).
 pub const RAIL_RAISED: i64 = 230;
 
-/// No top is higher, in tenths of a foot: the highest ground, the greatest height, and the greatest allowance, which is that for
-/// the greatest mobile object.
+/// The highest possible top, in tenths of a foot: the highest ground, the greatest height, and the greatest allowance, which is that
+/// for the greatest mobile object.
 pub const TOP_MOST: i64 = ELEVATION_MOST + HEIGHT_LIMIT + MOBILE_LIMIT;
 
-/// How far a traverse way is raised for the traffic on it, in tenths of a foot: 77.9(c).
+/// The height added to a traverse way for the traffic on it, in tenths of a foot; 0 for other structures (77.9(c)).
 pub fn allowance(filing: &Filing) -> i64
     ensures value { result ≡ allowance_of filing.now }
     ensures low { pos 0 ≤ℤ result }
@@ -38,7 +38,7 @@ pub fn allowance(filing: &Filing) -> i64
     }
 }
 
-/// The top that the notice rules look at, in tenths of a foot.
+/// The top for the notice rules, in tenths of a foot: ground, height and allowance.
 pub fn top_for_notice(filing: &Filing) -> i64
     ensures value { result ≡ notice_top filing.now }
     ensures level { IsLevel result }
@@ -48,8 +48,8 @@ pub fn top_for_notice(filing: &Filing) -> i64
     filing.ground + (filing.height + allowance(filing))
 }
 
-/// The top that the standards look at: a traverse way is not raised on or near an airport with an operative ground traffic
-/// control service, 77.17(b).
+/// The top for the standards, in tenths of a foot: as for notice, but a traverse way on or near an airport with an operative ground
+/// traffic control service has no allowance (77.17(b)).
 pub fn top_for_standards(filing: &Filing) -> i64
     ensures value { result ≡ standards_top filing.now }
     ensures level { IsLevel result }

@@ -17,7 +17,7 @@ pub use heights::{
     INTERSTATE_RAISED, PRIVATE_RAISED, RAIL_RAISED, ROAD_RAISED, TOP_MOST, allowance,
     top_for_notice, top_for_standards,
 };
-pub use laws::{height_excess_is, near_excess_is, notice_excess_is};
+pub use laws::{height_excess_is, near_excess_is, notice_excess_is, numbers};
 pub use limit::{INNER_HEIGHT, INNER_RADIUS, NAUTICAL_MILE, RISE_PER_MILE};
 pub use near_airport::{OUTER_HUNDREDTHS, excess_near_airport, excess_near_limited};
 pub use structure::Structure;

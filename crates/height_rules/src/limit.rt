@@ -1,4 +1,4 @@
-//! The limit near an airport, over one point.
+//! The limit near an airport at one point.
 
 ghost use Rattle.std.specs.Prelude.{◌≡◌, ◌↔◌, ◌<◌, ◌≤◌, ◌*◌, ◌^◌, ℤ, pos, ◌*ℤ◌, ◌≤ℤ◌, ◌<ℤ◌, unsigned_abs, IsTrue};
 ghost use Rattle.grid_exact.specs.Level.{IsLevel};
@@ -11,17 +11,17 @@ use grid_exact::{Rising, Sloping};
 /// A nautical mile, in tenths of a foot.
 pub const NAUTICAL_MILE: i64 = 60_761;
 
-/// Within this distance of the airport's reference point the limit is level, in tenths of a foot: 3 nautical miles, 77.17(a)(2).
+/// Distance from the airport's reference point up to which the limit is level, in tenths of a foot: 3 nautical miles (77.17(a)(2)).
 pub const INNER_RADIUS: u64 = 3 * NAUTICAL_MILE as u64;
 
-/// How far the limit is there above the higher of ground and airport, in tenths of a foot: 200 feet, 77.17(a)(2).
+/// Height of the level part above the higher of ground and airport, in tenths of a foot: 200 feet (77.17(a)(2)).
 pub const INNER_HEIGHT: i64 = 2_000;
 
-/// How much higher it is for each further nautical mile, in tenths of a foot: 100 feet, 77.17(a)(2).
+/// Rise of the limit for each further nautical mile, in tenths of a foot: 100 feet (77.17(a)(2)).
 pub const RISE_PER_MILE: i64 = 1_000;
 
-/// The limit of 77.17(a)(2) over a point farther than three nautical miles from the airport's reference point, by the square of
-/// that distance. It rises there; nearer it is level, and nothing has to be worked out.
+/// The limit of 77.17(a)(2) at a point farther than three nautical miles from the airport's reference point, by the square of that
+/// distance. The limit rises there; nearer it is level and needs no computation.
 #[derive(Clone, Copy)]
 pub(crate) struct NearLimit {
     pub(crate) base: i64,
@@ -31,18 +31,18 @@ pub(crate) struct NearLimit {
     ghost far: { INNER_RADIUS * INNER_RADIUS < square_distance },
 }
 
-/// Whether a point at this square of the distance is within three nautical miles.
+/// Whether a point at this squared distance is within three nautical miles.
 pub(crate) fn is_inside(square_distance: u64) -> bool
     ensures { result ≡ is_inner square_distance }
 {
     square_distance <= INNER_RADIUS * INNER_RADIUS
 }
 
-/// A reach from this one on is that of a level above the limit, however far away the point is: the square of no distance that is asked,
-/// times that of the rise, has as many bits as its square.
+/// A reach at or above this value belongs to a level above the limit at any distance: the greatest squared distance in use times the
+/// squared rise has as many bits as the square of this value.
 const GREAT_REACH: u64 = 1 << 30;
 
-/// The square of a reach that is not so great, which 64 bits hold.
+/// The square of a reach below `GREAT_REACH`, which fits 64 bits.
 fn squared(reach: u64) -> u64
     requires { reach ≤ 2 ^ 30 }
     ensures { result ≡ reach * reach }
@@ -75,7 +75,7 @@ fn is_below_square(square: u64, reach: u64) -> bool
 }
 
 impl NearLimit {
-    /// The limit over the higher of ground and airport, at this square of the distance.
+    /// The limit above the higher of ground and airport, at this squared distance.
     pub(crate) fn new(base: i64, square_distance: u64) -> NearLimit
         requires low { IsLow base }
         requires short { square_distance ≤ 2 ^ 40 }
@@ -89,16 +89,17 @@ impl NearLimit {
         }
     }
 
-    /// The lowest level that it has anywhere.
+    /// The lowest level of the limit anywhere.
     #[tactic(auto, using(crate::proofs::NearFacts::floor_beyond))]
     pub(crate) fn lowest(&self) -> i64
         ensures level { IsLevel result }
-        ensures lowest { (z : ℤ) → AtLeastRoot (reach_of self.now.base z) RISE_PER_MILE self.now.square_distance → result ≤ℤ z }
+        ensures lowest { (z : ℤ) → AtLeastRoot (reach_of self.now.base z) RISE_PER_MILE
+            self.now.square_distance → result ≤ℤ z }
     {
         self.base + INNER_HEIGHT
     }
 
-    /// The level over the base, brought to a distance, times the rise for each nautical mile.
+    /// The height of the level above the base, converted to a distance and multiplied by the rise per nautical mile.
     fn reach(&self, level: i64) -> i64
         requires { IsLevel level }
         ensures value { result ≡ reach_of self.now.base level }
@@ -107,9 +108,10 @@ impl NearLimit {
         NAUTICAL_MILE * (level - (self.base + INNER_HEIGHT)) + RISE_PER_MILE * INNER_RADIUS as i64
     }
 
-    /// The square of the distance, times that of the rise for each nautical mile: what the square of a reach is compared with.
+    /// The squared distance times the squared rise per nautical mile; the square of a reach is compared with it.
     fn square_reach(&self) -> u64
-        ensures value { result ≡ unsigned_abs RISE_PER_MILE * unsigned_abs RISE_PER_MILE * self.now.square_distance }
+        ensures value { result ≡ unsigned_abs RISE_PER_MILE * unsigned_abs RISE_PER_MILE
+            * self.now.square_distance }
         ensures size { result < 2 ^ 60 }
     {
         (RISE_PER_MILE * RISE_PER_MILE) as u64 * self.square_distance

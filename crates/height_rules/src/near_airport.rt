@@ -2,7 +2,7 @@
 
 ghost use Rattle.std.specs.Prelude.{◌≡◌, ◌↔◌, ◌*◌, ◌≤◌, ◌^◌, ◌≤ℤ◌, ◌-ℤ◌, ◌*ℤ◌, pos, IsTrue, IfSome};
 ghost use Rattle.std.specs.Int.{int_max};
-ghost use Rattle.grid_exact.specs.Excess.{IsExcess, covering};
+ghost use Rattle.grid_exact.specs.Excess.{IsExcess, covering_surface};
 ghost use Rattle.grid_exact.specs.Level.{IsLevel};
 ghost use Rattle.grid_exact.specs.Root.{AtLeastRoot};
 ghost use Rattle.grid_exact.specs.Vector.{length_of};
@@ -20,14 +20,14 @@ use crate::structure::Structure;
 use airfields::{Airport, Filing};
 use grid_exact::{Point, Vector, flat_excess};
 
-/// The limit goes out to 5.99 nautical miles, 77.17(a)(2): so many hundredths of one.
+/// Range of the limit in hundredths of a nautical mile: 5.99 nautical miles (77.17(a)(2)).
 pub const OUTER_HUNDREDTHS: i64 = 599;
 
-/// The square of the greatest distance in whole tenths of a foot at which the limit is asked, rounded down.
+/// The square of the greatest distance at which the limit applies, in square tenths of a foot, rounded down.
 const OUTER_SQUARE: u64 = (OUTER_HUNDREDTHS * NAUTICAL_MILE * (OUTER_HUNDREDTHS * NAUTICAL_MILE)
     / 10_000) as u64;
 
-/// The square of a number that is not too large.
+/// The square of a number that is small enough.
 fn squared(number: u64) -> u64
     requires { number ≤ 2 ^ 27 }
     ensures value { result ≡ number * number }
@@ -45,16 +45,17 @@ fn square_distance(arp: &Point, at: &Point) -> u64
     squared(way.x.unsigned_abs()) + squared(way.y.unsigned_abs())
 }
 
-/// Whether a point at this square of the distance is at most 5.99 nautical miles from the airport's reference point.
+/// Whether a point at this squared distance is at most 5.99 nautical miles from the airport's reference point.
 #[tactic(auto, using(crate::proofs::NearFacts::outer))]
 fn is_within(square_distance: u64) -> bool
-    ensures reach { IsTrue result ↔ AtLeastRoot (OUTER_HUNDREDTHS *ℤ NAUTICAL_MILE) (pos 100) square_distance }
+    ensures reach { IsTrue result ↔ AtLeastRoot (OUTER_HUNDREDTHS *ℤ NAUTICAL_MILE) (pos 100)
+        square_distance }
     ensures size { IsTrue result → square_distance ≤ 2 ^ 40 }
 {
     square_distance <= OUTER_SQUARE
 }
 
-/// The higher of the ground at the site and the airport.
+/// The higher of the ground elevation at the site and the airport elevation.
 fn base(elevation: i64, filing: &Filing) -> i64
     ensures value { result ≡ int_max filing.now.terrain elevation }
     ensures least { ELEVATION_LEAST ≤ℤ result }
@@ -62,12 +63,13 @@ fn base(elevation: i64, filing: &Filing) -> i64
     filing.ground.max(elevation)
 }
 
-/// How far `top` is above the limit over a point at this square of the distance.
+/// The excess of `top` over the limit at a point at this squared distance; `None` where it is not above.
 fn excess_at(base: i64, square_distance: u64, top: i64) -> Option<u32>
     requires low { IsLow base }
     requires short { square_distance ≤ 2 ^ 40 }
     requires top { IsLevel top }
-    ensures exact { IsExcess (covering (IsAboveLimit square_distance base) (IsAtLimit square_distance base)) top result }
+    ensures exact { IsExcess (covering_surface (IsAboveLimit square_distance base)
+        (IsAtLimit square_distance base)) top result }
     ensures size { IfSome result (λ e. e ≤ 2 ^ 26) }
 {
     if is_inside(square_distance) {
@@ -76,15 +78,16 @@ fn excess_at(base: i64, square_distance: u64, top: i64) -> Option<u32>
     NearLimit::new(base, square_distance).excess(top)
 }
 
-/// How far the structure is above the limit of each airport that has one, this reference point and this elevation. A top that is not
-/// above the lowest level of the limit is left out before any distance is worked out; that also leaves out each airport whose elevation
-/// nothing else here bounds.
+/// The structure's excess over the limit of any airport that has one, with this reference point and elevation. A top not above the
+/// lowest level of the limit is rejected before any distance is computed; that also rejects airports with an elevation that nothing
+/// else here bounds.
 #[inline(always)]
 fn excess_over_limit(arp: &Point, elevation: i64, filing: &Filing, top: i64) -> Option<u32>
     requires top { top ≡ standards_top filing.now }
     requires level { IsLevel top }
     requires most { top ≤ℤ TOP_MOST }
-    ensures exact { (a : AnAirport) → IsLimited a arp.now elevation → IsExcess (near_surface a filing.now) (standards_top filing.now) result }
+    ensures exact { (a : AnAirport) → IsLimited a arp.now elevation →
+        IsExcess (near_surface a filing.now) (standards_top filing.now) result }
     ensures size { IfSome result (λ e. e ≤ 2 ^ 26) }
 {
     let base = base(elevation, filing);
@@ -98,13 +101,15 @@ fn excess_over_limit(arp: &Point, elevation: i64, filing: &Filing, top: i64) -> 
     excess_at(base, square, top)
 }
 
-/// How far the structure is above the limit of 77.17(a)(2) of an airport of which it is known that it has one, by its reference point
-/// and its elevation: nothing else of it is looked at.
+/// The structure's excess over the limit of 77.17(a)(2) of an airport that is known to have one, from its reference point and
+/// elevation alone.
 #[tactic(auto, using(crate::proofs::NearFacts::near_listed))]
 #[inline(always)]
 pub fn excess_near_limited(arp: &Point, elevation: i64, structure: &Structure) -> Option<u32>
-    ensures exact { (a : AnAirport) → IsLimited a arp.now elevation → IsExcess (near_surface a structure.now) (standards_top structure.now) result }
-    ensures value { (a : AnAirport) → IsLimited a arp.now elevation → result ≡ near_excess a structure.now }
+    ensures exact { (a : AnAirport) → IsLimited a arp.now elevation →
+        IsExcess (near_surface a structure.now) (standards_top structure.now) result }
+    ensures value { (a : AnAirport) → IsLimited a arp.now elevation →
+        result ≡ near_excess a structure.now }
 {
     excess_over_limit(
         arp,
@@ -121,11 +126,12 @@ fn elevation(airport: &Airport) -> i64
     airport.elevation
 }
 
-/// How far the structure is above the limit of 77.17(a)(2) of this airport, in tenths of a foot: 200 feet over the higher of
-/// ground and airport within 3 nautical miles of its reference point, and 100 feet more for each further one up to 5.99.
-/// `None` where it is not, where the airport is of no described category, and where no runway is longer than 3,200 feet.
+/// The structure's excess over this airport's limit (77.17(a)(2)), in tenths of a foot. The limit is 200 feet above the higher of
+/// ground and airport within 3 nautical miles of the reference point, and rises by 100 feet for each further mile up to 5.99. `None`
+/// where the top is not above it, the category is not described, or no runway is longer than 3,200 feet.
 pub fn excess_near_airport(airport: &Airport, filing: &Filing) -> Option<u32>
-    ensures exact { IsExcess (near_surface airport.now filing.now) (standards_top filing.now) result }
+    ensures exact { IsExcess (near_surface airport.now filing.now) (standards_top filing.now)
+        result }
     ensures value { result ≡ near_excess airport.now filing.now }
 {
     if !has_limit(airport) {

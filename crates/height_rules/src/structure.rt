@@ -10,8 +10,8 @@ use grid_exact::Point;
 use outline_boxes::Spot;
 use std::marker::Model;
 
-/// The structure of a filing with both of its tops and with its place ready for the tests of boxes, all of which each airfield near it
-/// asks for and which are worked out once; seen as the structure of the filing.
+/// The structure of a filing with both of its tops and with its position prepared for box tests, computed once for all airfields near it;
+/// contracts see it as the structure of the filing.
 #[derive(Drop)]
 pub struct Structure {
     filing: Filing,
@@ -45,14 +45,14 @@ impl Structure {
         }
     }
 
-    /// What was filed.
+    /// The filing.
     pub fn filing(&self) -> &Filing
         ensures { result.now ≡ self.now }
     {
         &self.filing
     }
 
-    /// Where it stands.
+    /// The position of the structure.
     #[inline(always)]
     pub fn at(&self) -> &Point
         ensures { result.now ≡ self.now.at }
@@ -60,7 +60,7 @@ impl Structure {
         &self.filing.at
     }
 
-    /// Where it stands, ready for the tests of boxes.
+    /// The position of the structure, prepared for box tests.
     #[inline(always)]
     pub fn spot(&self) -> &Spot
         ensures { result.now ≡ self.now.at }
@@ -68,7 +68,7 @@ impl Structure {
         &self.spot
     }
 
-    /// The top that the standards look at.
+    /// The top for the standards, in tenths of a foot.
     #[inline(always)]
     pub fn standards_top(&self) -> i64
         ensures value { result ≡ standards_top self.now }
@@ -79,7 +79,7 @@ impl Structure {
         self.standards_top
     }
 
-    /// The top that the notice rules look at.
+    /// The top for the notice rules, in tenths of a foot.
     #[inline(always)]
     pub fn notice_top(&self) -> i64
         ensures value { result ≡ notice_top self.now }

@@ -1,5 +1,6 @@
 -- The outlines of the surfaces of a heliport, and what they cover.
-use Rattle.std.proofs.Common.{◌≡◌, ◌+◌, ◌*◌, ◌<◌, ℕ, ℤ, pos, ◌+ℤ◌, ◌-ℤ◌, ◌*ℤ◌, ◌≤ℤ◌, neg_ℤ, unsigned_abs, arith, refl, subst, Bool, true, false, ◌&&◌, int_le, int_lt, Option, Some, None}
+use Rattle.std.proofs.Common.{◌≡◌, ◌+◌, ◌*◌, ◌<◌, ℕ, ℤ, pos, ◌+ℤ◌, ◌-ℤ◌, ◌*ℤ◌, ◌≤ℤ◌, neg_ℤ, unsigned_abs, arith, refl, subst, int_le, int_lt, Option, Some, None}
+use Rattle.std.proofs.lemmas.Bool.{and_parts}
 use Rattle.std.proofs.lemmas.Int.{ints}
 use Rattle.grid_exact.specs.Area.{Has}
 use Rattle.grid_exact.specs.Excess.{IsExcess, Surface, is_at_most_root}
@@ -13,6 +14,7 @@ use Rattle.grid_exact.proofs.TestFacts.{at_most_in, le_in, lt_in}
 use Rattle.outline_boxes.specs.Rectangles.{HasRectangleWithin, OnRectangle}
 use Rattle.outline_boxes.specs.Trapezoids.{OnTrapezoid}
 use Rattle.outline_boxes.specs.Boxes.{shrunk}
+use Rattle.outline_boxes.proofs.BoxFacts.{end_down, end_up}
 use Rattle.outline_boxes.proofs.Corners.{far_bounds, start_bounds}
 use Rattle.outline_boxes.proofs.Covers.{band_east, lies_so, widening}
 use Rattle.airfields.specs.Airfields.{IsHeldHeliport}
@@ -29,28 +31,23 @@ use Rattle.heliport_surfaces.specs.Places.{IsCovered, IsCoveredBeside}
 use Rattle.heliport_surfaces.specs.Pads.{pad_primary, pad_approach, pad_transition, pad_notice}
 use Rattle.heliport_surfaces.proofs.PadFacts.{pad_primary-IsExcess, pad_approach-IsExcess, pad_transition-IsExcess, pad_notice-IsExcess}
 
--- both of two tests
-both : (a b : Bool) → (a && b) ≡ true → (a ≡ true) × (b ≡ true)
-both true b h = (refl, h)
-both false b h = absurd (cc)
-
 pub primary_on : (l : Landing) (o : Offset) → IsCovered (primary_place l o) → OnRectangle (landing_outline l) o
 unfolding primary_place
 primary_on l o h =
-    let t = both (int_le (pos 0) o.along) (int_le o.along (pos o.square)) h.along in
+    let t = and_parts (int_le (pos 0) o.along) (int_le o.along (pos o.square)) h.along in
     record { past_start = le_in (pos 0) o.along t.0; before_end = le_in o.along (pos o.square) t.1; not_beside = h.not_outside }
 
 pub primary_side_on : (l : Landing) (o : Offset) → IsCoveredBeside (primary_place l o) → OnRectangle (landing_side_outline l) o
 unfolding primary_place
 primary_side_on l o h =
-    let t = both (int_le (pos 0) o.along) (int_le o.along (pos o.square)) h.along in
+    let t = and_parts (int_le (pos 0) o.along) (int_le o.along (pos o.square)) h.along in
     let e : pos o.aside ≡ pos 1 *ℤ pos o.aside = omega (arith, ints) in
     record { past_start = le_in (pos 0) o.along t.0; before_end = le_in o.along (pos o.square) t.1; not_beside = rw e at h.not_far }
 
 pub approach_on : (a : Approach) (o : Offset) → IsCovered (approach_place a o) → OnTrapezoid (approach_outline a) o
 unfolding approach_place
 approach_on a o h =
-    let t = both (int_lt (pos 0) o.along) (is_at_most_root o.along (pos 40000) o.square) h.along in
+    let t = and_parts (int_lt (pos 0) o.along) (is_at_most_root o.along (pos 40000) o.square) h.along in
     let e : pos 40000 *ℤ pos 5000 -ℤ pos 40000 *ℤ a.width ≡ (pos 5000 -ℤ a.width) *ℤ pos 40000 = omega (arith, ints) in
     record {
       ahead = omega (arith, ints, lt_in (pos 0) o.along t.0);
@@ -61,7 +58,7 @@ approach_on a o h =
 pub approach_side_on : (a : Approach) (o : Offset) → IsCoveredBeside (approach_place a o) → OnTrapezoid (approach_side_outline a) o
 unfolding approach_place
 approach_side_on a o h =
-    let t = both (int_lt (pos 0) o.along) (is_at_most_root o.along (pos 40000) o.square) h.along in
+    let t = and_parts (int_lt (pos 0) o.along) (is_at_most_root o.along (pos 40000) o.square) h.along in
     let e : pos 2500 -ℤ pos 2500 ≡ pos 0 *ℤ pos 40000 = omega (arith, ints) in
     let s : pos o.aside ≡ pos 1 *ℤ pos o.aside -ℤ pos 0 *ℤ o.along = omega (arith, ints) in
     record {
@@ -88,12 +85,6 @@ notice_side l o f v z y b n0 sq w0 within big start end s =
     notice_big : (n : ℕ) (f v m at : ℤ) (p q b : ℕ) → (pos n *ℤ v) ≤ℤ (m *ℤ f +ℤ pos (q * b)) → (m *ℤ f) ≤ℤ (at *ℤ f +ℤ pos (p * unsigned_abs f)) →
         (pos n *ℤ (v -ℤ pos 50000)) ≤ℤ (at *ℤ f +ℤ (pos (p * unsigned_abs f + q * b) -ℤ pos (50000 * n)))
     notice_big n f v m at p q b h k = omega (arith, ints, h, k, mul-sub (pos n) v (pos 50000))
-
-end_up : (a l d : ℤ) → a -ℤ (l +ℤ d) ≡ (a -ℤ l) -ℤ d
-end_up a l d = omega (arith, ints)
-
-end_down : (a l d : ℤ) → (l +ℤ d) -ℤ a ≡ (l -ℤ a) -ℤ neg_ℤ d
-end_down a l d = omega (arith, ints)
 
 up_to : (x l z : ℤ) → (x -ℤ l) ≤ℤ ((z -ℤ pos 50000 -ℤ l) +ℤ pos 50000) → x ≤ℤ z
 up_to x l z h = omega (arith, ints, h)

@@ -1,6 +1,7 @@
 -- The slope of notice, and the tests that compute it.
 use Rattle.std.proofs.Common.{◌≡◌, ℕ, ℤ, ◌*◌, ◌<◌, ◌≤◌, ◌^◌, ◌+ℤ◌, ◌-ℤ◌, ◌<ℤ◌, Bool, true, int_le, unsigned_abs, arith}
 use Rattle.std.specs.Cmp.Derive.{both_true}
+use Rattle.std.proofs.lemmas.Bool.{and_parts}
 use Rattle.std.proofs.lemmas.Int.{ints}
 use Rattle.grid_exact.specs.Excess.{IsExcess, most_excess}
 use Rattle.grid_exact.specs.Level.{IsLevel}
@@ -9,26 +10,25 @@ use Rattle.grid_exact.proofs.ExcessLemmas.{Tests, excess_of-IsExcess}
 use Rattle.grid_exact.proofs.TestFacts.{at_most_in, at_most_out, below_in, below_out, le_in, le_out}
 use Rattle.heliport_surfaces.specs.Landings.{Landing}
 use Rattle.heliport_surfaces.specs.Laws.{above_reaches}
-use Rattle.heliport_surfaces.specs.Notices.{Gap, IsAboveNotice, IsClose, IsNearer, IsOver, IsWithin, away, excess_over_notice, gap, is_nearer, is_over, is_within, notice, reach}
+use Rattle.heliport_surfaces.specs.Notices.{Gap, IsAboveNotice, IsClose, IsNearer, IsOver, IsWithin, excess_away, excess_over_notice, gap, is_nearer, is_over, is_within, notice, reach}
 use Rattle.heliport_surfaces.specs.declared.rules.TheConstants.{NOTICE_RANGE, NOTICE_RISE, NOTICE_SLOPE}
 use Rattle.heliport_surfaces.proofs.Corners.{IsWithin_below, IsWithin-IsClose}
-use Rattle.heliport_surfaces.proofs.PlaceFacts.{left_true, right_true}
 
 pub within_out : (g : Gap) (d : ℕ) → IsWithin g d → is_within g d ≡ true
 unfolding is_within
-within_out g d h = at_most_out (away g d) (reach g d) g.square h
+within_out g d h = at_most_out (excess_away g d) (reach g d) g.square h
 
 pub within_in : (g : Gap) (d : ℕ) → is_within g d ≡ true → IsWithin g d
 unfolding is_within
-within_in g d h = at_most_in (away g d) (reach g d) g.square h
+within_in g d h = at_most_in (excess_away g d) (reach g d) g.square h
 
 nearer_out : (g : Gap) (d : ℕ) → IsNearer g d → is_nearer g d ≡ true
 unfolding is_nearer
-nearer_out g d h = below_out (away g d) (reach g d) g.square h
+nearer_out g d h = below_out (excess_away g d) (reach g d) g.square h
 
 nearer_in : (g : Gap) (d : ℕ) → is_nearer g d ≡ true → IsNearer g d
 unfolding is_nearer
-nearer_in g d h = below_in (away g d) (reach g d) g.square h
+nearer_in g d h = below_in (excess_away g d) (reach g d) g.square h
 
 over_out : (Is : ℕ → Type 0) (is : ℕ → Bool) → ((d : ℕ) → Is d → is d ≡ true) → (z top : ℤ) → IsOver Is z top → is_over is z top ≡ true
 unfolding is_over
@@ -38,7 +38,7 @@ over_in : (Is : ℕ → Type 0) (is : ℕ → Bool) → ((d : ℕ) → is d ≡ 
 unfolding is_over
 over_in Is is in_ z top h =
     let d = NOTICE_SLOPE * unsigned_abs (top -ℤ z) in
-    record { not_below = le_in z top (left_true (int_le z top) (is d) h); distance = in_ d (right_true (int_le z top) (is d) h) }
+    record { not_below = le_in z top (and_parts (int_le z top) (is d) h).0; distance = in_ d (and_parts (int_le z top) (is d) h).1 }
 
 -- the tests compute what the slope says
 pub notice_tests : (l : Landing) (o : Offset) → Tests (notice l o) (is_within (gap l o) NOTICE_RANGE) (is_over (is_nearer (gap l o)) l.z) (is_over (is_within (gap l o)) l.z)

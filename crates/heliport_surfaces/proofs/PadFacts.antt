@@ -20,7 +20,7 @@ use Rattle.heliport_surfaces.specs.Places.{IsCovered, IsCoveredBeside, is_covere
 use Rattle.heliport_surfaces.specs.Approaches.{Approach, approach, approach_heights, approach_place, approach_side, approach_side_heights, excess_over_approach, excess_over_approach_side}
 use Rattle.heliport_surfaces.specs.Notices.{excess_over_notice, notice}
 use Rattle.heliport_surfaces.specs.Landings.{Landing, excess_over_primary, excess_over_primary_side, primary, primary_place, primary_side, primary_side_heights}
-use Rattle.heliport_surfaces.specs.Pads.{only_if, excess_if, excess_over_side, side_surface, approach_of, approach_offset, approach_slope, landing_of, landing_offset, pad_approach, pad_approach_excess, pad_notice, pad_notice_excess, pad_primary, pad_primary_excess, pad_transition, pad_transition_excess}
+use Rattle.heliport_surfaces.specs.Pads.{surface_if, excess_if, excess_over_side, side_surface, approach_of, approach_offset, approach_slope, landing_of, landing_offset, pad_approach, pad_approach_excess, pad_notice, pad_notice_excess, pad_primary, pad_primary_excess, pad_transition, pad_transition_excess}
 use Rattle.heliport_surfaces.specs.Sizes.{HasPadSizes, IsPadSlope}
 use Rattle.heliport_surfaces.proofs.NoticeFacts.{notice-IsExcess}
 use Rattle.heliport_surfaces.proofs.PadSizes.{approach_rises, approach_side_rises, primary_side_rises}
@@ -47,7 +47,7 @@ length_back a b =
     rw (ex, ey) refl
 
 -- ---- surfaces that some heliports alone have
-only_if-IsExcess : (b : Bool) (s : Surface) (top : ℤ) (e : Option ℕ) → IsExcess s top e → IsExcess (only_if b s) top (excess_if b e)
+only_if-IsExcess : (b : Bool) (s : Surface) (top : ℤ) (e : Option ℕ) → IsExcess s top e → IsExcess (surface_if b s) top (excess_if b e)
 only_if-IsExcess true s top None h = λ p. h (p.0.covered, p.1)
 only_if-IsExcess true s top (Some e) h = record { covers = record { there = refl; covered = h.covers }; above = h.above; at_or_above = h.at_or_above; greatest = h.greatest }
 only_if-IsExcess false s top e h = λ p. let k : false ≡ true = p.0.there in cc

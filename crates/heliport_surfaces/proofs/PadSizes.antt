@@ -2,6 +2,7 @@
 use Rattle.std.proofs.Common.{◌≡◌, ℕ, ◌*◌, ◌<◌, ◌≤◌, ◌^◌, ℤ, pos, ◌+ℤ◌, ◌*ℤ◌, ◌≤ℤ◌, ◌<ℤ◌, FitsSigned, w64, true, unsigned_abs, int_lt, arith}
 use Rattle.std.proofs.Math.IntN.{*ℤ-zero}
 use Rattle.std.proofs.Math.Nat.{mul-le-mul_left}
+use Rattle.std.proofs.lemmas.Bool.{and_parts}
 use Rattle.std.proofs.lemmas.Int.{ints, by_lt_z, unsigned_abs-mul}
 use Rattle.grid_exact.specs.Lines.{Offset}
 use Rattle.grid_exact.specs.Excess.{is_at_most_root}
@@ -12,9 +13,9 @@ use Rattle.grid_exact.proofs.TestFacts.{lt_in}
 use Rattle.heliport_surfaces.specs.Sizes.{HasPadSizes, IsPadSlope}
 use Rattle.heliport_surfaces.specs.Places.{is_covered, is_covered_beside}
 use Rattle.heliport_surfaces.specs.Landings.{Landing, at_axis, primary_place, primary_side_heights}
-use Rattle.heliport_surfaces.specs.Approaches.{Approach, approach_heights, approach_place, approach_side_heights, outside}
+use Rattle.heliport_surfaces.specs.Approaches.{Approach, approach_heights, approach_place, approach_side_heights, lateral_excess}
 use Rattle.heliport_surfaces.specs.declared.rules.TheConstants.{APPROACH_LENGTH, APPROACH_WIDTH, RISE_SCALE}
-use Rattle.heliport_surfaces.proofs.PlaceFacts.{IsRising, beside_in, covered_in, left_true}
+use Rattle.heliport_surfaces.proofs.PlaceFacts.{IsRising, beside_in, covered_in}
 
 pub width_fits : (w z : ℤ) → HasPadSizes w z → FitsSigned w64 w
 width_fits w z h = omega (arith, ints, h.width_least, h.width_most)
@@ -52,7 +53,7 @@ at_axis_size w z h = omega (arith, ints, h.width_least, h.width_most, h.z_size)
 pub approach_rises : (a : Approach) (o : Offset) → HasPadSizes a.width a.z → IsPadSlope a.slope → is_covered (approach_place a o) ≡ true → IsRising (approach_heights a o)
 unfolding approach_place approach_heights
 approach_rises a o h k c =
-    let ahead = left_true (int_lt (pos 0) o.along) (is_at_most_root o.along APPROACH_LENGTH o.square) (covered_in (approach_place a o) c).along in
+    let ahead = (and_parts (int_lt (pos 0) o.along) (is_at_most_root o.along APPROACH_LENGTH o.square) (covered_in (approach_place a o) c).along).0 in
     let low : unsigned_abs a.z ≤ 2 ^ 25 = omega (arith, h.z_size) in
     record {
       positive = lt_in (pos 0) o.along ahead;
@@ -75,11 +76,11 @@ pub approach_side_rises : (a : Approach) (o : Offset) → HasPadSizes a.width a.
 unfolding approach_place approach_side_heights
 approach_side_rises a o h k p c =
     let covered = beside_in (approach_place a o) c in
-    let ahead = left_true (int_lt (pos 0) o.along) (is_at_most_root o.along APPROACH_LENGTH o.square) covered.along in
+    let ahead = (and_parts (int_lt (pos 0) o.along) (is_at_most_root o.along APPROACH_LENGTH o.square) covered.along).0 in
     let tall = a.slope *ℤ at_axis a.z a.width in
     let foot : unsigned_abs (APPROACH_LENGTH *ℤ tall) ≤ 40000 * (10 * 2 ^ 21) = abs_mul_le APPROACH_LENGTH tall 40000 (10 * 2 ^ 21) (omega arith) (side_height_size a.slope a.width a.z k h) in
     record {
-      positive = raised_up a.slope (outside a o) o.along a.width o.square k (lt_in (pos 0) o.along ahead) (omega (arith, ints, h.width_least)) p covered.not_inside;
+      positive = raised_up a.slope (lateral_excess a o) o.along a.width o.square k (lt_in (pos 0) o.along ahead) (omega (arith, ints, h.width_least)) p covered.not_inside;
       rises = omega (arith, ints, k.slope_least);
       foot = omega (arith, ints, k.slope_least, foot);
     }

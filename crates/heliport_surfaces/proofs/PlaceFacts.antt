@@ -1,7 +1,8 @@
 -- What covers a point, as the tests compute it, and excesses over heights that follow from one comparison with a root.
 use Rattle.std.proofs.Common.{◌≡◌, ℕ, ℤ, pos, negsuc, neg_ℤ, ◌*◌, ◌-ℤ◌, ◌*ℤ◌, ◌≤◌, ◌^◌, ◌≤ℤ◌, ◌<ℤ◌, sym, subst, ◌∙◌, Option, Bool, true, unsigned_abs, arith, refl}
-use Rattle.std.specs.Prelude.{◌&&◌, IfSome, ⊤}
+use Rattle.std.specs.Prelude.{IfSome, ⊤}
 use Rattle.std.specs.Cmp.Derive.{both_true}
+use Rattle.std.proofs.lemmas.Bool.{and_parts}
 use Rattle.std.proofs.lemmas.Int.{ints}
 use Rattle.grid_exact.specs.Excess.{IsExcess, flat_excess_of, flat_surface, is_at_least_root, is_at_most_root, root_surface}
 use Rattle.grid_exact.specs.Level.{IsLevel}
@@ -10,14 +11,8 @@ use Rattle.grid_exact.specs.declared.level.TheConstants.{LEVEL_LIMIT}
 use Rattle.grid_exact.proofs.ExcessLemmas.{flat_excess_of-is, root_excess-IsExcess, root_excess_of-is}
 use Rattle.grid_exact.proofs.SlopeLemmas.{above_unreached, low_unreached}
 use Rattle.grid_exact.proofs.TestFacts.{all_true, at_least_in, at_least_out, at_most_in, at_most_out, first_true, second_true, third_true}
-use Rattle.heliport_surfaces.specs.Places.{Heights, IsCovered, IsCoveredBeside, Place, excess_over, is_covered, is_covered_beside, sloping}
+use Rattle.heliport_surfaces.specs.Places.{Heights, IsCovered, IsCoveredBeside, Place, excess_over, is_covered, is_covered_beside, sloping_surface}
 use Rattle.heliport_surfaces.specs.declared.rules.TheConstants.{TRANSITION_REACH}
-
-pub left_true : (a b : Bool) → a && b ≡ true → a ≡ true
-left_true a b h = grind arith
-
-pub right_true : (a b : Bool) → a && b ≡ true → b ≡ true
-right_true a b h = grind arith
 
 pub covered_out : (p : Place) → IsCovered p → is_covered p ≡ true
 unfolding is_covered
@@ -27,7 +22,7 @@ pub covered_in : (p : Place) → is_covered p ≡ true → IsCovered p
 unfolding is_covered
 covered_in p h =
     let near = is_at_most_root p.out p.edge p.square in
-    record { along = left_true p.is_along near h; not_outside = at_most_in p.out p.edge p.square (right_true p.is_along near h) }
+    record { along = (and_parts p.is_along near h).0; not_outside = at_most_in p.out p.edge p.square (and_parts p.is_along near h).1 }
 
 pub beside_out : (p : Place) → IsCoveredBeside p → is_covered_beside p ≡ true
 unfolding is_covered_beside
@@ -58,7 +53,7 @@ low_level h z s r =
 
 -- what the function of tests computes is the excess
 pub excess_over-IsExcess : (C : Type 0) (covers : Bool) (h : Heights) (top : ℤ) → IsLevel top → (C → covers ≡ true) → (covers ≡ true → C) → (C → IsRising h) →
-    IsExcess (sloping C h) top (excess_over covers h top)
+    IsExcess (sloping_surface C h) top (excess_over covers h top)
 excess_over-IsExcess C covers h top l out in_ s =
     root_excess-IsExcess C covers h.a h.k h.c h.n top l out in_ (λ p _ z r. low_level h z (s p) r)
 

@@ -1,4 +1,4 @@
--- The areas of the surfaces of a heliport: the least whole boxes that hold their corners.
+-- The areas of the surfaces of a heliport: the least whole boxes that contain their corners.
 use Rattle.std.specs.Prelude.{ℤ, pos, ◌*ℤ◌, ◌≡◌, None, List, [], ◌∷◌}
 use Rattle.grid_exact.specs.Area.{Has}
 use Rattle.grid_exact.specs.declared.area.Area.{Area}
@@ -16,12 +16,12 @@ use Rattle.heliport_surfaces.specs.Approaches.{Approach}
 use Rattle.heliport_surfaces.specs.Pads.{landing_of, approach_of, pad_primary, pad_approach, pad_transition, pad_notice}
 use Rattle.heliport_surfaces.specs.Pads.{pad_primary_excess, pad_approach_excess, pad_transition_excess, pad_notice_excess}
 
--- the primary surface reaches half its width to each side of its axis: 77.23(a)
+-- the primary surface extends half its width to each side of its axis: 77.23(a)
 abbrev pub landing_outline : Landing → Rectangle
 landing_outline l = record { line = l.line; scale = pos 2; half = l.width }
 
--- an approach surface does so at the end of the primary surface, and 250 feet at its outer end: 77.23(b). In 80,000ths of a tenth of a
--- foot half a width is 40,000 times the width
+-- an approach surface extends half the primary width to each side at its inner end, and 250 feet at its outer end: 77.23(b). In 80,000ths
+-- of a tenth of a foot, half a width is 40,000 times the width
 abbrev pub approach_outline : Approach → Trapezoid
 approach_outline a = record {
   line = a.line;
@@ -31,14 +31,14 @@ approach_outline a = record {
   length = APPROACH_LENGTH;
 }
 
--- the transitional surfaces reach 250 feet to each side of the axis: 77.23(c)
+-- the transitional surfaces extend 250 feet to each side of the axis: 77.23(c)
 abbrev pub landing_side_outline : Landing → Rectangle
 landing_side_outline l = record { line = l.line; scale = pos 1; half = TRANSITION_REACH }
 
 abbrev pub approach_side_outline : Approach → Trapezoid
 approach_side_outline a = record { line = a.line; scale = pos 1; near = TRANSITION_REACH; far = TRANSITION_REACH; length = APPROACH_LENGTH }
 
--- the slope of notice reaches 5,000 feet from the area: 77.9(b)(3)
+-- the slope of notice extends 5,000 feet from the area: 77.9(b)(3)
 pub record IsPadAreas (h : Heliport) (a : PadAreas) : Type 0 where
   pub primary_least : IsLeastBox (HasRectangle (landing_outline (landing_of h))) a.primary
   pub approach1_least : IsLeastBox (HasTrapezoid (approach_outline (approach_of h One))) a.approach1
@@ -48,7 +48,7 @@ pub record IsPadAreas (h : Heliport) (a : PadAreas) : Type 0 where
   pub beside_approach2_least : IsLeastBox (HasTrapezoid (approach_side_outline (approach_of h Two))) a.beside_approach2
   pub notice_least : IsLeastBox (HasRectangleWithin (landing_outline (landing_of h)) (pos NOTICE_RANGE)) a.notice
 
--- each area has every point that its surface covers
+-- each area contains every point that its surface covers
 pub record CoverPad (h : Heliport) (a : PadAreas) : Type 0 where
   pub primary_has : (x : Point) → (pad_primary h x).Covers → Has a.primary x
   pub approach1_has : (x : Point) → (pad_approach h One x).Covers → Has a.approach1 x
@@ -58,7 +58,7 @@ pub record CoverPad (h : Heliport) (a : PadAreas) : Type 0 where
   pub beside_approach2_has : (x : Point) → (pad_transition h ApproachTwo x).Covers → Has a.beside_approach2 x
   pub notice_has : (x : Point) → (pad_notice h x).Covers → Has a.notice x
 
--- so nothing exceeds a surface at a point that its area has not
+-- so no surface is exceeded at a point outside its area
 pub record SkipPad (h : Heliport) (x : Point) (top : ℤ) (a : PadAreas) : Type 0 where
   pub primary_none : ¬ Has a.primary x → pad_primary_excess h x top ≡ None
   pub approach1_none : ¬ Has a.approach1 x → pad_approach_excess h One x top ≡ None
@@ -79,7 +79,7 @@ pub record ArePadAreas (h : Heliport) (areas : List Area) : Type 0 where
   pub exact : IsPadAreas h seven
   pub covers : CoverPad h seven
 
--- nothing exceeds the surfaces at a point that these areas of them have not
+-- no surface is exceeded at a point outside its one of these areas
 pub record SkipsIn (h : Heliport) (x : Point) (top : ℤ) (areas : List Area) : Type 0 where
   pub seven : PadAreas
   pub ordered : areas ≡ in_order seven

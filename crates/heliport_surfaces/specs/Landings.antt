@@ -3,10 +3,10 @@
 use Rattle.std.specs.Prelude.{ℕ, ℤ, pos, ◌*◌, ◌-ℤ◌, ◌*ℤ◌, ◌&&◌, int_le, Option}
 use Rattle.grid_exact.specs.Excess.{Surface, flat_surface, flat_excess_of}
 use Rattle.grid_exact.specs.Lines.{Line, Offset}
-use Rattle.heliport_surfaces.specs.Places.{Place, Heights, IsCovered, IsCoveredBeside, sloping, is_covered, is_covered_beside, excess_over}
+use Rattle.heliport_surfaces.specs.Places.{Place, Heights, IsCovered, IsCoveredBeside, sloping_surface, is_covered, is_covered_beside, excess_over}
 use Rattle.heliport_surfaces.specs.declared.rules.TheConstants.{SIDE_SLOPE}
 
--- the axis of the area from its one end to its other, its width, and the elevation of the heliport
+-- the axis of the area between its two ends, its width, and the elevation of the heliport
 pub record Landing : Type 0 where
   pub line : Line
   pub width : ℤ
@@ -27,7 +27,7 @@ primary_place l o = record {
 abbrev pub primary : Landing → Offset → Surface
 primary l o = flat_surface (IsCovered (primary_place l o)) l.z
 
--- four times the height that a slope of 2 to 1 has at an axis, where it is at the elevation z half the width from it
+-- four times the height of a 2 to 1 slope extended to the axis, where the slope has the elevation z at half the width from it
 abbrev pub at_axis : (z width : ℤ) → ℤ
 at_axis z width = SIDE_SLOPE *ℤ z -ℤ width
 
@@ -37,9 +37,9 @@ unfoldable pub primary_side_heights : Landing → Offset → Heights
 primary_side_heights l o = record { a = pos (2 * o.aside); k = SIDE_SLOPE; c = at_axis l.z l.width; n = o.square }
 
 abbrev pub primary_side : Landing → Offset → Surface
-primary_side l o = sloping (IsCoveredBeside (primary_place l o)) (primary_side_heights l o)
+primary_side l o = sloping_surface (IsCoveredBeside (primary_place l o)) (primary_side_heights l o)
 
--- ---- the same as tests that compute
+-- ---- the same predicates as tests that compute
 
 abbrev pub excess_over_primary : Landing → Offset → ℤ → Option ℕ
 excess_over_primary l o top = flat_excess_of (is_covered (primary_place l o)) l.z top

@@ -6,7 +6,7 @@ use Rattle.std.proofs.lemmas.Int.{ints}
 use Rattle.grid_exact.specs.Root.{AtMostRoot}
 use Rattle.grid_exact.specs.Laws.{AtMostRoot_more, BelowRoot-AtMostRoot}
 use Rattle.grid_exact.proofs.RootOrder.{AtMostRoot_less}
-use Rattle.heliport_surfaces.specs.Notices.{Gap, IsWithin, IsAtNotice, IsAboveNotice, away, reach, corner, is_in_line}
+use Rattle.heliport_surfaces.specs.Notices.{Gap, IsWithin, IsAtNotice, IsAboveNotice, excess_away, reach, corner, is_in_line}
 use Rattle.heliport_surfaces.specs.declared.rules.TheConstants.{NOTICE_SLOPE}
 
 corner_less : (g : Gap) (d e : ℕ) → d ≤ e → corner g e ≤ℤ corner g d
@@ -32,4 +32,4 @@ notice_rises z g y top h k =
 pub above_reaches : (z : ℤ) (g : Gap) (top : ℤ) → IsAboveNotice z g top → IsAtNotice z g top
 above_reaches z g top h =
     let d = NOTICE_SLOPE * unsigned_abs (top -ℤ z) in
-    record { not_below = h.not_below; distance = BelowRoot-AtMostRoot (away g d) (reach g d) g.square h.distance }
+    record { not_below = h.not_below; distance = BelowRoot-AtMostRoot (excess_away g d) (reach g d) g.square h.distance }

@@ -6,23 +6,23 @@ use Rattle.grid_exact.specs.Lines.{Offset}
 use Rattle.heliport_surfaces.specs.Landings.{Landing}
 use Rattle.heliport_surfaces.specs.declared.rules.TheConstants.{NOTICE_SLOPE, NOTICE_RANGE}
 
--- how a point lies off an area with an axis of the length sqrt(n): how far before or past the ends of the axis and how far to a side
--- of it, both times sqrt(n), the width of the area, and n
+-- the position of a point relative to an area with an axis of length sqrt(n): the distance before or past the ends of the axis and the
+-- distance to a side of it, both times sqrt(n), the width of the area, and n
 pub record Gap : Type 0 where
   pub beyond : ℕ
   pub aside : ℕ
   pub width : ℕ
   pub square : ℕ
 
--- how far m is below 0 or above n
+-- the distance of m below 0 or above n
 abbrev pub beyond_ends : ℤ → ℕ → ℕ
 beyond_ends m n = if int_lt m (pos 0) then unsigned_abs m else if int_lt (pos n) m then unsigned_abs (m -ℤ pos n) else 0
 
 abbrev pub gap : Landing → Offset → Gap
 gap l o = record { beyond = beyond_ends o.along o.square; aside = o.aside; width = unsigned_abs l.width; square = o.square }
 
--- the point lies between the two sides of the area or what extends them, 2*q <= w*sqrt(n) with q aside and the width w: then it is
--- p/sqrt(n) away, with p beyond
+-- the point lies between the two sides of the area or their extensions, 2*q <= w*sqrt(n) with q aside and the width w: then its distance
+-- is p/sqrt(n), with p beyond
 abbrev pub is_in_line : Gap → Bool
 is_in_line g = is_at_most_root (pos (2 * g.aside)) (pos g.width) g.square
 
@@ -32,33 +32,33 @@ is_in_line g = is_at_most_root (pos (2 * g.aside)) (pos g.width) g.square
 abbrev pub corner : Gap → ℕ → ℤ
 corner g d = pos (4 * (g.beyond * g.beyond) + 4 * (g.aside * g.aside) + g.width * g.width * g.square) -ℤ pos (4 * (d * d) * g.square)
 
--- so the point is at most d away where away <= reach * sqrt(n), and nearer where it is less
-abbrev pub away : Gap → ℕ → ℤ
-away g d = if is_in_line g then pos g.beyond else corner g d
+-- so the point is at most d away where excess_away <= reach * sqrt(n), and nearer where it is less
+abbrev pub excess_away : Gap → ℕ → ℤ
+excess_away g d = if is_in_line g then pos g.beyond else corner g d
 
 abbrev pub reach : Gap → ℕ → ℤ
 reach g d = if is_in_line g then pos d else pos (4 * g.aside * g.width)
 
 abbrev pub IsWithin : Gap → ℕ → Type 0
-IsWithin g d = AtMostRoot (away g d) (reach g d) g.square
+IsWithin g d = AtMostRoot (excess_away g d) (reach g d) g.square
 
 abbrev pub IsNearer : Gap → ℕ → Type 0
-IsNearer g d = BelowRoot (away g d) (reach g d) g.square
+IsNearer g d = BelowRoot (excess_away g d) (reach g d) g.square
 
--- over a point at the distance d from an area at the elevation z the slope is z + d/25 high: of a top that is not below z, what the
--- distance is against 25 times the height over z says whether it is at or above the slope
+-- at the distance d from an area at the elevation z the slope has the height z + d/25: for a top not below z, comparing the distance with
+-- 25 times the top's height above z decides whether the top is at or above the slope
 pub record IsOver (Is : ℕ → Type 0) (z top : ℤ) : Type 0 where
   pub not_below : z ≤ℤ top
   pub distance : Is (NOTICE_SLOPE * unsigned_abs (top -ℤ z))
 
--- at or above it where the point is at most as far as that, and above it where it is nearer
+-- the top is at or above it where the point is at most that distance away, and above it where the point is nearer
 abbrev pub IsAtNotice : ℤ → Gap → ℤ → Type 0
 IsAtNotice z g top = IsOver (IsWithin g) z top
 
 abbrev pub IsAboveNotice : ℤ → Gap → ℤ → Type 0
 IsAboveNotice z g top = IsOver (IsNearer g) z top
 
--- it reaches 5,000 feet, so that it is nowhere more than 200 feet over z
+-- it extends 5,000 feet, so it is nowhere more than 200 feet above z
 abbrev pub notice : Landing → Offset → Surface
 notice l o = record {
   Covers = IsWithin (gap l o) NOTICE_RANGE;
@@ -66,13 +66,13 @@ notice l o = record {
   AtOrAbove = IsAtNotice l.z (gap l o);
 }
 
--- ---- the same as tests that compute
+-- ---- the same predicates as tests that compute
 
 unfoldable pub is_within : Gap → ℕ → Bool
-is_within g d = is_at_most_root (away g d) (reach g d) g.square
+is_within g d = is_at_most_root (excess_away g d) (reach g d) g.square
 
 unfoldable pub is_nearer : Gap → ℕ → Bool
-is_nearer g d = is_below_root (away g d) (reach g d) g.square
+is_nearer g d = is_below_root (excess_away g d) (reach g d) g.square
 
 unfoldable pub is_over : (ℕ → Bool) → ℤ → ℤ → Bool
 is_over is z top = int_le z top && is (NOTICE_SLOPE * unsigned_abs (top -ℤ z))
@@ -83,8 +83,8 @@ excess_over_notice l o top =
 
 -- ---- for proofs alone
 
--- what follows for a point at most d away, without a root: p <= d*sqrt(n) and 2*q <= (2*d + w)*sqrt(n), so that it is no farther in
--- the direction of the axis alone, nor to a side of the area alone
+-- a consequence, without a root, for a point at most d away: p <= d*sqrt(n) and 2*q <= (2*d + w)*sqrt(n), so it is at most d away in the
+-- direction of the axis alone, and to a side of the area alone
 pub record IsClose (g : Gap) (d : ℕ) : Type 0 where
   pub ends : g.beyond * g.beyond ≤ d * d * g.square
   pub sides : 4 * (g.aside * g.aside) ≤ (2 * d + g.width) * (2 * d + g.width) * g.square

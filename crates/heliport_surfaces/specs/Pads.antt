@@ -15,14 +15,14 @@ use Rattle.heliport_surfaces.specs.Approaches.{Approach, approach, approach_side
 use Rattle.heliport_surfaces.specs.Notices.{notice, excess_over_notice}
 use Rattle.heliport_surfaces.specs.declared.rules.TheConstants.{CIVIL_SLOPE, MILITARY_SLOPE}
 
--- the line that starts at a point and reaches as far as the way from one point to another
+-- the line that starts at a point and has the vector between two points
 abbrev pub line_from : (start from to : Point) → Line
 line_from start from to = record { x = start.x; y = start.y; dx = to.x -ℤ from.x; dy = to.y -ℤ from.y }
 
--- outward from this end of the axis
-abbrev pub outward : Heliport → PadEnd → Line
-outward h One = line_from h.a h.b h.a
-outward h Two = line_from h.b h.a h.b
+-- the line outward from this end of the axis
+abbrev pub outward_line : Heliport → PadEnd → Line
+outward_line h One = line_from h.a h.b h.a
+outward_line h Two = line_from h.b h.a h.b
 
 -- 8 to 1 for civil heliports and 10 to 1 for military heliports
 abbrev pub approach_slope : Heliport → ℤ
@@ -32,29 +32,29 @@ unfoldable pub landing_of : Heliport → Landing
 landing_of h = record { line = line_from h.a h.a h.b; width = h.width; z = h.elevation }
 
 unfoldable pub approach_of : Heliport → PadEnd → Approach
-approach_of h end = record { line = outward h end; width = h.width; z = h.elevation; slope = approach_slope h }
+approach_of h end = record { line = outward_line h end; width = h.width; z = h.elevation; slope = approach_slope h }
 
--- where a point lies by the axis of the area, and by the line outward from an end
+-- the position of a point relative to the axis of the area, and to the line outward from an end
 abbrev pub landing_offset : Heliport → Point → Offset
 landing_offset h x = offset (landing_of h).line x
 
 abbrev pub approach_offset : Heliport → PadEnd → Point → Offset
 approach_offset h end x = offset (approach_of h end).line x
 
--- a surface that is there for some heliports alone
+-- a surface that exists where b holds
 pub record IsThere (b : Bool) (Covers : Type 0) : Type 0 where
   pub there : IsTrue b
   pub covered : Covers
 
-abbrev pub only_if : Bool → Surface → Surface
-only_if b s = record { Covers = IsThere b s.Covers; Above = s.Above; AtOrAbove = s.AtOrAbove }
+abbrev pub surface_if : Bool → Surface → Surface
+surface_if b s = record { Covers = IsThere b s.Covers; Above = s.Above; AtOrAbove = s.AtOrAbove }
 
--- the surfaces at a point. 77.23 and 77.9(b)(3) are for the heliports that 77.9(d) describes: another one has no surfaces
+-- the surfaces at a point. 77.23 and 77.9(b)(3) are for the heliports that 77.9(d) describes: other heliports have no surfaces
 abbrev pub pad_primary : Heliport → Point → Surface
-pad_primary h x = only_if (is_described h.category) (primary (landing_of h) (landing_offset h x))
+pad_primary h x = surface_if (is_described h.category) (primary (landing_of h) (landing_offset h x))
 
 abbrev pub pad_approach : Heliport → PadEnd → Point → Surface
-pad_approach h end x = only_if (is_described h.category) (approach (approach_of h end) (approach_offset h end x))
+pad_approach h end x = surface_if (is_described h.category) (approach (approach_of h end) (approach_offset h end x))
 
 abbrev pub side_surface : Heliport → Beside → Point → Surface
 side_surface h Primary x = primary_side (landing_of h) (landing_offset h x)
@@ -62,12 +62,12 @@ side_surface h ApproachOne x = approach_side (approach_of h One) (approach_offse
 side_surface h ApproachTwo x = approach_side (approach_of h Two) (approach_offset h Two x)
 
 abbrev pub pad_transition : Heliport → Beside → Point → Surface
-pad_transition h beside x = only_if (is_described h.category) (side_surface h beside x)
+pad_transition h beside x = surface_if (is_described h.category) (side_surface h beside x)
 
 abbrev pub pad_notice : Heliport → Point → Surface
-pad_notice h x = only_if (is_described h.category) (notice (landing_of h) (landing_offset h x))
+pad_notice h x = surface_if (is_described h.category) (notice (landing_of h) (landing_offset h x))
 
--- ---- the excess of a top over them, where they are exceeded, by tests that compute
+-- ---- the excess of a top over each surface, where it is exceeded, by tests that compute
 
 abbrev pub excess_if : Bool → Option ℕ → Option ℕ
 excess_if b e = if b then e else None

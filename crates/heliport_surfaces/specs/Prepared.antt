@@ -1,4 +1,4 @@
--- For proofs alone: what is prepared of a heliport.
+-- For proofs alone: the prepared surfaces of a heliport.
 use Rattle.std.specs.Prelude.{◌≡◌}
 use Rattle.airfields.specs.Airfields.{IsHeldHeliport}
 use Rattle.airfields.specs.declared.airfield.Heliport.{Heliport}
@@ -8,7 +8,7 @@ use Rattle.heliport_surfaces.specs.declared.landing.LandingArea.{LandingArea}
 use Rattle.heliport_surfaces.specs.declared.approach.PadApproach.{PadApproach}
 use Rattle.heliport_surfaces.specs.declared.parts.PadEnd.TheVariants.{One, Two}
 
--- the heliport keeps its limits, and the parts are those of it
+-- the heliport is within its limits, and the parts are its own
 pub record IsPrepared (h : Heliport) (landing : LandingArea) (approach1 approach2 : PadApproach) : Type 0 where
   pub held : IsHeldHeliport h
   pub landing_is : landing_shape landing ≡ landing_of h

@@ -1,4 +1,4 @@
--- For proofs alone: what the prepared parts of a heliport are, and where a point lies by them.
+-- For proofs alone: the prepared parts of a heliport, and positions of points relative to them.
 use Rattle.grid_exact.specs.declared.slope.Slope.{Slope}
 use Rattle.heliport_surfaces.specs.Axes.{pad_line}
 use Rattle.heliport_surfaces.specs.Places.{Heights, Place}

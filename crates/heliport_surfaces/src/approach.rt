@@ -11,11 +11,11 @@ use crate::place::PadPlace;
 use crate::rules::{APPROACH_LENGTH, APPROACH_WIDTH, RISE_SCALE, SIDE_SCALE};
 use grid_exact::{Slope, minus, plus, product, scale};
 
-/// The approach surface of an end, 77.23(b): it begins at the end of the primary surface with that one's width, and goes outward
-/// and upward along the extended axis.
+/// The approach surface of an end (77.23(b)): it begins at the end of the primary surface with the same width, and goes outward and upward
+/// along the extended axis.
 #[derive(Clone, Copy)]
 pub(crate) struct PadApproach {
-    /// From the end, outward as far as the other end is away.
+    /// From the end, outward by the distance to the other end.
     pub(crate) axis: PadAxis,
     pub(crate) width: i64,
     pub(crate) z: i64,
@@ -25,12 +25,12 @@ pub(crate) struct PadApproach {
 }
 
 impl PadApproach {
-    ghost use Rattle.heliport_surfaces.specs.Approaches.{approach_place, approach_heights, approach_side_heights, outside as outside_of, raised as raised_of, excess_over_approach, excess_over_approach_side};
+    ghost use Rattle.heliport_surfaces.specs.Approaches.{approach_place, approach_heights, approach_side_heights, lateral_excess as outside_of, rise_at as raised_of, excess_over_approach, excess_over_approach_side};
     ghost use Rattle.heliport_surfaces.specs.Landings.{at_axis};
     ghost use Rattle.heliport_surfaces.specs.Places.{is_covered, is_covered_beside};
     ghost use Rattle.heliport_surfaces.specs.Shapes.{approach_shape, place_shape, slope_heights};
 
-    /// How much wider it is at its outer end.
+    /// The width at its outer end minus the width at its inner end.
     fn growth(&self) -> i64
         ensures value { result ≡ APPROACH_WIDTH -ℤ self.now.width }
         ensures size { unsigned_abs result ≤ unsigned_abs APPROACH_WIDTH }
@@ -38,7 +38,7 @@ impl PadApproach {
         APPROACH_WIDTH - self.width
     }
 
-    /// How much half its width has grown where a point lies, in 80,000ths, times the length of the axis.
+    /// The growth of the half width at a point, in 80,000ths, times the length of the axis.
     #[tactic(auto, using(grid_exact::proofs::Sizes::casts, crate::proofs::PadSizes::growth_size))]
     fn grown(&self, at: &PadOffset) -> i128
         ensures value { result ≡ (APPROACH_WIDTH -ℤ self.now.width) *ℤ at.now.offset.along }
@@ -47,7 +47,7 @@ impl PadApproach {
         scale(self.growth(), at.along())
     }
 
-    /// How far a point is to a side less what half the width has grown, in 80,000ths, times the length of the axis.
+    /// The distance of a point to a side minus the growth of the half width, in 80,000ths, times the length of the axis.
     fn outside(&self, at: &PadOffset) -> i128
         ensures value { result ≡ outside_of (approach_shape self.now) at.now.offset }
         ensures size { unsigned_abs result ≤ 2 ^ 57 }
@@ -55,7 +55,7 @@ impl PadApproach {
         minus(scale(SIDE_SCALE, at.aside()), self.grown(at))
     }
 
-    /// Where a point lies by it.
+    /// The position of a point relative to the surface.
     fn place(&self, at: &PadOffset) -> PadPlace
         ensures { place_shape result ≡ approach_place (approach_shape self.now) at.now.offset }
     {
@@ -68,9 +68,10 @@ impl PadApproach {
         }
     }
 
-    /// Its heights, over a point that it covers.
+    /// The heights of the surface at a point that it covers.
     fn heights(&self, at: &PadOffset) -> Slope
-        requires covered { is_covered (approach_place (approach_shape self.now) at.now.offset) ≡ true }
+        requires covered { is_covered (approach_place (approach_shape self.now) at.now.offset)
+            ≡ true }
         ensures { slope_heights result ≡ approach_heights (approach_shape self.now) at.now.offset }
     {
         Slope::rising(
@@ -81,7 +82,7 @@ impl PadApproach {
         )
     }
 
-    /// How far `top` is above it at a point, or `None` where it is not above, or the surface does not cover the point.
+    /// The excess of `top` over it at a point; `None` where it is not above, or the surface does not cover the point.
     pub(crate) fn excess(&self, at: &PadOffset, top: i64) -> Option<u32>
         requires top { IsLevel top }
         ensures { result ≡ excess_over_approach (approach_shape self.now) at.now.offset top }
@@ -92,17 +93,17 @@ impl PadApproach {
         self.heights(at).excess(top)
     }
 
-    /// How far a point is to a side less what half the width has grown, in 80,000ths, times the slope and the length of the axis.
+    /// The distance of a point to a side minus the growth of the half width, in 80,000ths, times the slope and the length of the axis.
     #[tactic(auto, using(grid_exact::proofs::Sizes::casts, crate::proofs::PadSizes::sloped_size))]
     fn sloped_outside(&self, at: &PadOffset) -> i128
-        ensures value { result ≡ self.now.slope *ℤ outside_of (approach_shape self.now) at.now.offset }
+        ensures value { result ≡ self.now.slope
+            *ℤ outside_of (approach_shape self.now) at.now.offset }
         ensures size { unsigned_abs result ≤ 10 * 2 ^ 57 }
     {
         scale(self.slope, self.outside(at))
     }
 
-    /// The height over the elevation that the slopes outward and to a side give, times 160,000 and the slope and the length of the
-    /// axis.
+    /// The height above the elevation from the slopes outward and to a side, times 160,000 and the slope and the length of the axis.
     fn raised(&self, at: &PadOffset) -> i128
         ensures value { result ≡ raised_of (approach_shape self.now) at.now.offset }
         ensures size { unsigned_abs result < 2 ^ 63 }
@@ -119,7 +120,7 @@ impl PadApproach {
         RISE_SCALE * self.slope
     }
 
-    /// Four times the height of the slope to a side taken back to the axis, times the slope.
+    /// Four times the height of the side slope extended to the axis, times the slope.
     #[tactic(auto, using(grid_exact::proofs::Sizes::casts, crate::proofs::PadSizes::side_height_size))]
     fn side_height(&self) -> i128
         ensures value { result ≡ self.now.slope *ℤ at_axis self.now.z self.now.width }
@@ -128,25 +129,27 @@ impl PadApproach {
         scale(self.slope, height_at_axis(self.z, self.width))
     }
 
-    /// The height of the slope to a side taken back to the axis, times 160,000 and the slope.
+    /// The height of the side slope extended to the axis, times 160,000 and the slope.
     fn foot(&self) -> i128
-        ensures value { result ≡ APPROACH_LENGTH *ℤ (self.now.slope *ℤ at_axis self.now.z self.now.width) }
+        ensures value { result ≡ APPROACH_LENGTH
+            *ℤ (self.now.slope *ℤ at_axis self.now.z self.now.width) }
         ensures size { unsigned_abs result ≤ 2 ^ 41 }
     {
         scale(APPROACH_LENGTH, self.side_height())
     }
 
-    /// The heights of a transitional surface beside it, over a point that it covers.
+    /// The heights of a transitional surface beside it, at a point that it covers.
     fn side(&self, at: &PadOffset) -> Slope
-        requires covered { is_covered_beside (approach_place (approach_shape self.now) at.now.offset) ≡ true }
-        ensures { slope_heights result ≡ approach_side_heights (approach_shape self.now) at.now.offset }
+        requires covered { is_covered_beside (approach_place (approach_shape self.now)
+            at.now.offset) ≡ true }
+        ensures { slope_heights result
+            ≡ approach_side_heights (approach_shape self.now) at.now.offset }
     {
-        // its factor is 160,000 times a slope, too steep for `Slope::rising`, and its root short enough for this
+        // its factor is 160,000 times a slope, too steep for `Slope::rising`, and its root is short enough for this
         Slope::rising_short(self.raised(at), self.steepness(), self.foot(), at.square())
     }
 
-    /// How far `top` is above the transitional surface beside it, or `None` where it is not above, or the surface does not cover the
-    /// point.
+    /// The excess of `top` over the transitional surface beside it; `None` where it is not above, or the surface does not cover the point.
     pub(crate) fn excess_beside(&self, at: &PadOffset, top: i64) -> Option<u32>
         requires top { IsLevel top }
         ensures { result ≡ excess_over_approach_side (approach_shape self.now) at.now.offset top }

@@ -1,4 +1,4 @@
-//! The areas of the surfaces of a heliport: the least whole boxes that hold their corners.
+//! The areas of the surfaces of a heliport: the least whole boxes that contain their corners.
 
 ghost use Rattle.std.specs.Prelude.{◌≡◌, ℤ, pos};
 ghost use Rattle.grid_exact.specs.Area.{Has};
@@ -28,7 +28,7 @@ pub(crate) struct PadAreas {
     pub(crate) beside_primary: Area,
     pub(crate) beside_approach1: Area,
     pub(crate) beside_approach2: Area,
-    /// Of the slope of notice.
+    /// The area of the slope of notice.
     pub(crate) notice: Area,
 }
 
@@ -49,7 +49,7 @@ impl LandingArea {
         }
     }
 
-    /// The outline of the transitional surfaces beside it.
+    /// The outline of the transitional surfaces beside the approach surface.
     fn side_outline(&self) -> RectangleOutline
         ensures { rectangle_shape result ≡ landing_side_outline (landing_shape self.now) }
     {
@@ -62,24 +62,33 @@ impl LandingArea {
 
     /// The area of the primary surface.
     fn area(&self) -> Area
-        ensures exact { IsLeastBox (HasRectangle (landing_outline (landing_shape self.now))) result }
-        ensures covers { (x : Point) → IsCovered (primary_place (landing_shape self.now) (offset (landing_shape self.now).line x)) → Has result x }
+        ensures exact { IsLeastBox (HasRectangle (landing_outline (landing_shape self.now)))
+            result }
+        ensures covers { (x : Point) → IsCovered
+            (primary_place (landing_shape self.now) (offset (landing_shape self.now).line x)) →
+            Has result x }
     {
         self.outline().area()
     }
 
     /// The area of the transitional surfaces beside it.
     fn area_beside(&self) -> Area
-        ensures exact { IsLeastBox (HasRectangle (landing_side_outline (landing_shape self.now))) result }
-        ensures covers { (x : Point) → IsCoveredBeside (primary_place (landing_shape self.now) (offset (landing_shape self.now).line x)) → Has result x }
+        ensures exact { IsLeastBox (HasRectangle (landing_side_outline (landing_shape self.now)))
+            result }
+        ensures covers { (x : Point) → IsCoveredBeside
+            (primary_place (landing_shape self.now) (offset (landing_shape self.now).line x)) →
+            Has result x }
     {
         self.side_outline().area()
     }
 
     /// The area of the slope of notice.
     fn area_of_notice(&self) -> Area
-        ensures exact { IsLeastBox (HasRectangleWithin (landing_outline (landing_shape self.now)) (pos NOTICE_RANGE)) result }
-        ensures covers { (x : Point) → IsWithin (gap (landing_shape self.now) (offset (landing_shape self.now).line x)) NOTICE_RANGE → Has result x }
+        ensures exact { IsLeastBox (HasRectangleWithin (landing_outline (landing_shape self.now))
+            (pos NOTICE_RANGE)) result }
+        ensures covers { (x : Point) → IsWithin
+            (gap (landing_shape self.now) (offset (landing_shape self.now).line x)) NOTICE_RANGE →
+            Has result x }
     {
         self.outline().area_within(NOTICE_RANGE as i64)
     }
@@ -90,7 +99,7 @@ impl PadApproach {
     ghost use Rattle.heliport_surfaces.specs.Areas.{approach_outline, approach_side_outline};
     ghost use Rattle.heliport_surfaces.specs.Shapes.{approach_shape};
 
-    /// Its outline.
+    /// The outline of the approach surface.
     fn outline(&self) -> TrapezoidOutline
         ensures { trapezoid_shape result ≡ approach_outline (approach_shape self.now) }
     {
@@ -103,7 +112,7 @@ impl PadApproach {
         }
     }
 
-    /// The outline of the transitional surfaces beside it.
+    /// The outline of the transitional surfaces beside the primary surface.
     fn side_outline(&self) -> TrapezoidOutline
         ensures { trapezoid_shape result ≡ approach_side_outline (approach_shape self.now) }
     {
@@ -116,18 +125,24 @@ impl PadApproach {
         }
     }
 
-    /// Its area.
+    /// The area of the approach surface.
     fn area(&self) -> Area
-        ensures exact { IsLeastBox (HasTrapezoid (approach_outline (approach_shape self.now))) result }
-        ensures covers { (x : Point) → IsCovered (approach_place (approach_shape self.now) (offset (approach_shape self.now).line x)) → Has result x }
+        ensures exact { IsLeastBox (HasTrapezoid (approach_outline (approach_shape self.now)))
+            result }
+        ensures covers { (x : Point) → IsCovered
+            (approach_place (approach_shape self.now) (offset (approach_shape self.now).line x)) →
+            Has result x }
     {
         self.outline().area()
     }
 
     /// The area of the transitional surfaces beside it.
     fn area_beside(&self) -> Area
-        ensures exact { IsLeastBox (HasTrapezoid (approach_side_outline (approach_shape self.now))) result }
-        ensures covers { (x : Point) → IsCoveredBeside (approach_place (approach_shape self.now) (offset (approach_shape self.now).line x)) → Has result x }
+        ensures exact { IsLeastBox (HasTrapezoid
+            (approach_side_outline (approach_shape self.now))) result }
+        ensures covers { (x : Point) → IsCoveredBeside
+            (approach_place (approach_shape self.now) (offset (approach_shape self.now).line x)) →
+            Has result x }
     {
         self.side_outline().area()
     }
@@ -153,9 +168,9 @@ impl Pad {
         }
     }
 
-    /// One area per surface: of the primary surface, of the approach surfaces of the first end and of the second, of the transitional
-    /// surfaces beside each of them (77.23), and of the slope of notice (77.9(b)(3)). Each is the least whole box that holds the
-    /// corners and has every point that its surface covers.
+    /// The areas of the primary surface, of the approach surfaces of the first and second end, of the transitional surfaces beside each of
+    /// these three (77.23), and of the slope of notice (77.9(b)(3)), in that order. Each is the least whole box that contains the corners,
+    /// and contains every point that its surface covers.
     pub fn areas(&self) -> [Area; 7]
         ensures areas { ArePadAreas self.now result }
         ensures skips { (x : Point) (top : ℤ) → IsLevel top → SkipsIn self.now x top result }

@@ -1,4 +1,4 @@
-//! How a point lies off a takeoff and landing area, and how far away.
+//! The position of a point relative to a takeoff and landing area, and its distance.
 
 ghost use Rattle.std.specs.Prelude.{◌≡◌, ◌↔◌, ◌+◌, ◌*◌, ◌^◌, ◌<◌, ◌≤◌, pos, IsTrue, unsigned_abs};
 ghost use Rattle.std.specs.Ordering.{is_le as is_le_of, is_lt as is_lt_of};
@@ -8,12 +8,12 @@ use crate::rules::NOTICE_RANGE;
 use grid_exact::{cmp_root, is_at_most_root, minus};
 use std::cmp::Ordering;
 
-/// How a point lies off a takeoff and landing area.
+/// The position of a point relative to a takeoff and landing area.
 #[derive(Clone, Copy)]
 pub(crate) struct LandingGap {
-    /// How far it is before or past the ends of the axis, times the length of the axis.
+    /// The distance before or past the ends of the axis, times the length of the axis.
     pub(crate) beyond: u128,
-    /// How far it is to a side of the axis, times the length of the axis.
+    /// The distance to a side of the axis, times the length of the axis.
     pub(crate) aside: u128,
     /// The width of the area.
     pub(crate) width: u128,
@@ -36,38 +36,42 @@ impl LandingGap {
 
     /// Whether the point is at most 5,000 feet before or past the ends of the axis.
     fn is_near_ends(&self) -> bool
-        ensures { IsTrue result ↔ (self.now.beyond * self.now.beyond ≤ NOTICE_RANGE * NOTICE_RANGE * self.now.square) }
+        ensures { IsTrue result ↔ (self.now.beyond * self.now.beyond ≤ NOTICE_RANGE * NOTICE_RANGE
+            * self.now.square) }
     {
         self.beyond * self.beyond <= NOTICE_RANGE * NOTICE_RANGE * self.square
     }
 
-    /// Whether the point is at most 5,000 feet to a side of the area or of what extends it.
+    /// Whether the point is at most 5,000 feet to a side of the area or of its extension.
     fn is_near_sides(&self) -> bool
-        ensures { IsTrue result ↔ (4 * (self.now.aside * self.now.aside) ≤ (2 * NOTICE_RANGE + self.now.width) * (2 * NOTICE_RANGE + self.now.width) * self.now.square) }
+        ensures { IsTrue result ↔ (4 * (self.now.aside * self.now.aside) ≤ (2 * NOTICE_RANGE
+            + self.now.width) * (2 * NOTICE_RANGE + self.now.width) * self.now.square) }
     {
         let reach = 2 * NOTICE_RANGE + self.width;
         4 * (self.aside * self.aside) <= reach * reach * self.square
     }
 
-    /// Whether the point is at most 5,000 feet away in each of the two directions. It is tested before the distance is, since the
-    /// products that the distance takes would not fit for a point at the other end of the grid.
+    /// Whether the point is at most 5,000 feet away in each of the two directions. It is tested before the distance, whose products would
+    /// overflow for a point at the far end of the grid.
     fn is_close(&self) -> bool
         ensures { IsTrue result ↔ IsClose (gap_shape self.now) NOTICE_RANGE }
     {
         self.is_near_ends() && self.is_near_sides()
     }
 
-    /// Whether the point is at most half the width from the axis or from what extends it.
+    /// Whether the point is at most half the width from the axis or its extension.
     fn is_in_line(&self) -> bool
         ensures { result ≡ is_in_line_of (gap_shape self.now) }
     {
         is_at_most_root(signed(2 * self.aside), signed(self.width), self.square)
     }
 
-    /// Four times the squares of the ways beyond and aside, and the square of the width times that of the axis.
+    /// Four times the squares of the distances beyond and aside, plus the square of the width times that of the axis.
     fn squares(&self) -> i128
         requires close { IsClose (gap_shape self.now) NOTICE_RANGE }
-        ensures value { result ≡ pos (4 * (self.now.beyond * self.now.beyond) + 4 * (self.now.aside * self.now.aside) + self.now.width * self.now.width * self.now.square) }
+        ensures value { result ≡ pos (4 * (self.now.beyond * self.now.beyond)
+            + 4 * (self.now.aside * self.now.aside)
+            + self.now.width * self.now.width * self.now.square) }
         ensures size { unsigned_abs result ≤ 2 ^ 61 }
     {
         let beyond = 4 * (self.beyond * self.beyond);
@@ -84,7 +88,7 @@ impl LandingGap {
         signed(4 * (distance * distance) * self.square)
     }
 
-    /// What of the comparison with a distance from a corner has no root.
+    /// The part without a root in the comparison of a distance with that from a corner.
     fn corner(&self, distance: u128) -> i128
         requires close { IsClose (gap_shape self.now) NOTICE_RANGE }
         requires distance { distance ≤ NOTICE_RANGE }
@@ -94,7 +98,7 @@ impl LandingGap {
         minus(self.squares(), self.reach(distance))
     }
 
-    /// What of it is times the root.
+    /// The factor of the root in that comparison.
     fn edge(&self) -> i128
         requires close { IsClose (gap_shape self.now) NOTICE_RANGE }
         ensures value { result ≡ pos (4 * self.now.aside * self.now.width) }
@@ -103,7 +107,7 @@ impl LandingGap {
         signed(4 * self.aside * self.width)
     }
 
-    /// Compares how far the point is from the area with this distance.
+    /// Compares the point's distance from the area with this distance.
     pub(crate) fn compare(&self, distance: u128) -> Ordering
         requires close { IsClose (gap_shape self.now) NOTICE_RANGE }
         requires distance { distance ≤ NOTICE_RANGE }

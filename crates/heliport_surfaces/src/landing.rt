@@ -23,7 +23,7 @@ pub(crate) struct LandingArea {
     ghost sized: { HasPadSizes width z },
 }
 
-/// Four times the height that a slope of 2 to 1 has at an axis, where it is at the elevation `z` half the width from it.
+/// Four times the height of a 2 to 1 slope extended to the axis, where the slope has the elevation `z` at half the width from it.
 pub(crate) fn height_at_axis(z: i64, width: i64) -> i128
     requires sized { HasPadSizes width z }
     ensures value { result ≡ at_axis z width }
@@ -38,7 +38,7 @@ impl LandingArea {
     ghost use Rattle.heliport_surfaces.specs.Places.{is_covered_beside};
     ghost use Rattle.heliport_surfaces.specs.Shapes.{gap_shape, landing_shape, place_shape, slope_heights};
 
-    /// Where a point lies by the primary surface.
+    /// The position of a point relative to the primary surface.
     fn place(&self, at: &PadOffset) -> PadPlace
         ensures { place_shape result ≡ primary_place (landing_shape self.now) at.now.offset }
     {
@@ -51,8 +51,7 @@ impl LandingArea {
         }
     }
 
-    /// How far `top` is above the primary surface at a point, or `None` where it is not above, or the surface does not cover the
-    /// point.
+    /// The excess of `top` over the primary surface at a point; `None` where it is not above, or the surface does not cover the point.
     pub(crate) fn excess(&self, at: &PadOffset, top: i64) -> Option<u32>
         requires top { IsLevel top }
         ensures { result ≡ excess_over_primary (landing_shape self.now) at.now.offset top }
@@ -63,10 +62,12 @@ impl LandingArea {
         flat_excess(self.z, top)
     }
 
-    /// The heights of a transitional surface beside the primary one, over a point that it covers.
+    /// The heights of a transitional surface beside the primary one, at a point that it covers.
     fn side(&self, at: &PadOffset) -> Slope
-        requires covered { is_covered_beside (primary_place (landing_shape self.now) at.now.offset) ≡ true }
-        ensures { slope_heights result ≡ primary_side_heights (landing_shape self.now) at.now.offset }
+        requires covered { is_covered_beside (primary_place (landing_shape self.now)
+            at.now.offset) ≡ true }
+        ensures { slope_heights result
+            ≡ primary_side_heights (landing_shape self.now) at.now.offset }
     {
         Slope::rising(
             at.twice_aside(),
@@ -76,8 +77,8 @@ impl LandingArea {
         )
     }
 
-    /// How far `top` is above the transitional surface beside the primary one, or `None` where it is not above, or the surface does
-    /// not cover the point.
+    /// The excess of `top` over the transitional surface beside the primary one; `None` where it is not above, or the surface does not
+    /// cover the point.
     pub(crate) fn excess_beside(&self, at: &PadOffset, top: i64) -> Option<u32>
         requires top { IsLevel top }
         ensures { result ≡ excess_over_primary_side (landing_shape self.now) at.now.offset top }
@@ -88,7 +89,7 @@ impl LandingArea {
         self.side(at).excess(top)
     }
 
-    /// How a point lies off the area.
+    /// The position of a point relative to the area.
     fn gap(&self, at: &PadOffset) -> LandingGap
         ensures { gap_shape result ≡ gap_of (landing_shape self.now) at.now.offset }
     {
@@ -100,7 +101,7 @@ impl LandingArea {
         }
     }
 
-    /// How far `top` is above the slope of notice at a point, or `None` where it is not above, or the slope does not reach the point.
+    /// The excess of `top` over the slope of notice at a point; `None` where it is not above, or the slope does not reach the point.
     pub(crate) fn excess_notice(&self, at: &PadOffset, top: i64) -> Option<u32>
         requires top { IsLevel top }
         ensures { result ≡ excess_over_notice (landing_shape self.now) at.now.offset top }

@@ -1,5 +1,5 @@
-//! Imaginary surfaces of heliports, 77.23: the primary surface, the approach surfaces and the transitional surfaces; and the slope
-//! of 77.9(b)(3) near a heliport. Lengths, coordinates and elevations are whole tenths of a foot.
+//! Imaginary surfaces of heliports (77.23): the primary, approach and transitional surfaces; and the notice slope near a heliport
+//! (77.9(b)(3)). Lengths, coordinates and elevations are whole tenths of a foot.
 #![tactic(auto)]
 
 mod approach;
@@ -17,7 +17,8 @@ mod prepare;
 mod rules;
 
 pub use laws::{
-    pad_approach_excess_is, pad_notice_excess_is, pad_primary_excess_is, pad_transition_excess_is,
+    numbers, pad_approach_excess_is, pad_notice_excess_is, pad_primary_excess_is,
+    pad_transition_excess_is,
 };
 pub use pad::Pad;
 pub use parts::{Beside, PadEnd, PadExcesses};

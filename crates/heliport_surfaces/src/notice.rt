@@ -12,8 +12,8 @@ use crate::rules::{NOTICE_RISE, NOTICE_SLOPE};
 use grid_exact::{Rising, Sloping};
 use std::cmp::Ordering;
 
-/// The slope of 77.9(b)(3), over a point that it reaches: 25 to 1 from the elevation of the heliport, away from the takeoff and
-/// landing area.
+/// The slope of 77.9(b)(3) at a point that it reaches: 25 to 1 from the elevation of the heliport, outward from the takeoff and landing
+/// area.
 #[derive(Clone, Copy)]
 pub(crate) struct NoticeSlope {
     gap: LandingGap,
@@ -25,7 +25,7 @@ pub(crate) struct NoticeSlope {
 impl NoticeSlope {
     ghost use Rattle.heliport_surfaces.specs.Notices.{IsAboveNotice, IsAtNotice};
 
-    /// The slope over a point that it reaches, by how the point lies off the area and the elevation of the heliport.
+    /// The slope at a point that it reaches, from the point's position relative to the area and the elevation of the heliport.
     pub(crate) fn new(gap: LandingGap, z: i64) -> NoticeSlope
         requires low { unsigned_abs z ≤ 2 ^ 18 }
         requires near { IsTrue (is_within (gap_shape gap) NOTICE_RANGE) }
@@ -35,7 +35,7 @@ impl NoticeSlope {
         NoticeSlope { gap, z }
     }
 
-    /// The distance at which it is as high as a level, which is up to 200 feet over the elevation.
+    /// The distance at which the slope has a level, which is at most 200 feet above the elevation.
     fn distance(&self, level: i64) -> u128
         requires low { self.now.z ≤ℤ level }
         requires high { level ≤ℤ (self.now.z +ℤ NOTICE_RISE) }
@@ -45,11 +45,13 @@ impl NoticeSlope {
         NOTICE_SLOPE * (level - self.z).unsigned_abs() as u128
     }
 
-    /// Compares its height with a level.
+    /// Compares the height of the slope with a level.
     fn compare(&self, level: i64) -> Ordering
         requires { IsLevel level }
-        ensures reached { IsTrue (is_le_of result) ↔ IsAtNotice self.now.z (gap_shape self.now.gap) level }
-        ensures exceeded { IsTrue (is_lt_of result) ↔ IsAboveNotice self.now.z (gap_shape self.now.gap) level }
+        ensures reached { IsTrue (is_le_of result)
+            ↔ IsAtNotice self.now.z (gap_shape self.now.gap) level }
+        ensures exceeded { IsTrue (is_lt_of result)
+            ↔ IsAboveNotice self.now.z (gap_shape self.now.gap) level }
     {
         if level < self.z {
             return Ordering::Greater;

@@ -1,4 +1,4 @@
-//! Where a point lies by the axis of a takeoff and landing area.
+//! The position of a point relative to the axis of a takeoff and landing area.
 
 ghost use Rattle.std.specs.Prelude.{◌≡◌, ◌*◌, ◌^◌, ◌<◌, ◌≤◌, ◌&&◌, int_le, int_lt, pos, unsigned_abs};
 ghost use Rattle.grid_exact.specs.Excess.{is_at_most_root as at_most_root_of};
@@ -9,8 +9,8 @@ ghost use Rattle.heliport_surfaces.specs.Sizes.{IsShortAxis};
 use crate::rules::APPROACH_LENGTH;
 use grid_exact::{Offset, is_at_most_root, scale};
 
-/// Where a point lies by an axis at most 1,000 feet long, so that products of it with the numbers of 77.23 can be compared with
-/// roots.
+/// The position of a point relative to an axis at most 1,000 feet long, so that its products with the numbers of 77.23 can be compared
+/// with roots.
 #[derive(Clone, Copy)]
 pub(crate) struct PadOffset {
     pub(crate) offset: Offset,
@@ -18,7 +18,7 @@ pub(crate) struct PadOffset {
 }
 
 impl PadOffset {
-    /// How far the point is from the start, times the length of the axis.
+    /// The distance of the point along the axis from the start, times the length of the axis.
     pub(crate) fn along(&self) -> i128
         ensures value { result ≡ self.now.offset.along }
         ensures size { unsigned_abs result ≤ 2 ^ 40 }
@@ -26,7 +26,7 @@ impl PadOffset {
         self.offset.along()
     }
 
-    /// How far the point is to a side, times the length of the axis.
+    /// The distance of the point to a side, times the length of the axis.
     pub(crate) fn aside(&self) -> i128
         ensures value { result ≡ pos self.now.offset.aside }
         ensures size { unsigned_abs result ≤ 2 ^ 40 }
@@ -34,7 +34,7 @@ impl PadOffset {
         self.offset.aside()
     }
 
-    /// Twice how far the point is to a side, times the length of the axis.
+    /// Twice the distance of the point to a side, times the length of the axis.
     pub(crate) fn twice_aside(&self) -> i128
         ensures value { result ≡ pos (2 * self.now.offset.aside) }
         ensures size { unsigned_abs result ≤ 2 ^ 41 }
@@ -53,19 +53,21 @@ impl PadOffset {
 
     /// Whether the point is neither before the start nor past the end.
     pub(crate) fn is_between_ends(&self) -> bool
-        ensures { result ≡ int_le (pos 0) self.now.offset.along && int_le self.now.offset.along (pos self.now.offset.square) }
+        ensures { result ≡ int_le (pos 0) self.now.offset.along
+            && int_le self.now.offset.along (pos self.now.offset.square) }
     {
         0 <= self.along() && self.along() <= self.square() as i128
     }
 
-    /// Whether the point is ahead of the start, and at most as far as an approach surface extends.
+    /// Whether the point is outward of the start, by at most the length of an approach surface.
     pub(crate) fn is_ahead(&self) -> bool
-        ensures { result ≡ int_lt (pos 0) self.now.offset.along && at_most_root_of self.now.offset.along APPROACH_LENGTH self.now.offset.square }
+        ensures { result ≡ int_lt (pos 0) self.now.offset.along
+            && at_most_root_of self.now.offset.along APPROACH_LENGTH self.now.offset.square }
     {
         0 < self.along() && is_at_most_root(self.along(), APPROACH_LENGTH as i128, self.square())
     }
 
-    /// How far the point is before the start or past the end, times the length of the axis.
+    /// The distance of the point before the start or past the end, times the length of the axis.
     pub(crate) fn beyond(&self) -> u128
         ensures value { result ≡ beyond_ends self.now.offset.along self.now.offset.square }
         ensures size { result ≤ 2 ^ 41 }

@@ -28,8 +28,8 @@ const NO_EXCESSES: PadExcesses = PadExcesses {
     beside_approach2: None,
 };
 
-/// The surfaces of a heliport, prepared for many points; seen as the heliport. One that 77.9(d) does not describe has no surfaces:
-/// each excess over them is `None`.
+/// The surfaces of a heliport, prepared for many points; contracts see it as the heliport. A heliport that 77.9(d) does not describe has
+/// no surfaces: every excess is `None`.
 #[derive(Drop)]
 pub struct Pad {
     heliport: Heliport,
@@ -50,7 +50,7 @@ impl Model for Pad {
 }
 
 impl Pad {
-    /// The surfaces of a heliport that keeps the limits of a register's heliports.
+    /// The surfaces of a heliport within the limits of the register.
     pub fn of(h: &Heliport) -> Pad
         requires held { IsHeldHeliport h.now }
         ensures heliport { result ≡ h.now }
@@ -95,7 +95,7 @@ impl Pad {
         }
     }
 
-    /// How far `top` is above each surface of 77.23 at a point, in tenths of a foot, rounded down.
+    /// The excess of `top` over each surface of 77.23 at a point, in tenths of a foot, rounded down.
     #[tactic(auto, unfolding(crate::specs::Pads::pad_primary_excess, crate::specs::Pads::pad_approach_excess, crate::specs::Pads::pad_transition_excess))]
     pub fn excesses(&self, x: &Point, top: i64) -> PadExcesses
         requires top { IsLevel top }
@@ -120,8 +120,8 @@ impl Pad {
         }
     }
 
-    /// How far `top` is above the primary surface at a point, in tenths of a foot, rounded down: 77.23(a). `None` where it is not
-    /// above, and where the surface does not cover the point.
+    /// The excess of `top` over the primary surface at a point, in tenths of a foot, rounded down (77.23(a)). `None` where it is not
+    /// above, or the surface does not cover the point.
     #[tactic(auto, unfolding(crate::specs::Pads::pad_primary_excess))]
     pub fn excess_primary(&self, x: &Point, top: i64) -> Option<u32>
         requires top { IsLevel top }
@@ -135,8 +135,8 @@ impl Pad {
         landing.excess(&landing.axis.offset(x), top)
     }
 
-    /// How far `top` is above the approach surface of an end at a point, in tenths of a foot, rounded down: 77.23(b). `None` where
-    /// it is not above, and where the surface does not cover the point.
+    /// The excess of `top` over the approach surface of an end at a point, in tenths of a foot, rounded down (77.23(b)). `None` where it
+    /// is not above, or the surface does not cover the point.
     #[tactic(auto, unfolding(crate::specs::Pads::pad_approach_excess))]
     pub fn excess_approach(&self, end: PadEnd, x: &Point, top: i64) -> Option<u32>
         requires top { IsLevel top }
@@ -150,25 +150,27 @@ impl Pad {
         approach.excess(&approach.axis.offset(x), top)
     }
 
-    /// How far `top` is above the transitional surface beside the primary surface.
+    /// The excess of `top` over the transitional surface beside the primary surface.
     fn beside_primary(&self, x: &Point, top: i64) -> Option<u32>
         requires top { IsLevel top }
-        ensures { result ≡ excess_over_primary_side (landing_of self.now) (landing_offset self.now x.now) top }
+        ensures { result ≡ excess_over_primary_side (landing_of self.now) (landing_offset self.now
+            x.now) top }
     {
         let landing = self.landing();
         landing.excess_beside(&landing.axis.offset(x), top)
     }
 
-    /// How far `top` is above the transitional surface beside the approach surface of an end.
+    /// The excess of `top` over the transitional surface beside the approach surface of an end.
     fn beside_approach(&self, end: PadEnd, x: &Point, top: i64) -> Option<u32>
         requires top { IsLevel top }
-        ensures { result ≡ excess_over_approach_side (approach_of self.now end) (approach_offset self.now end x.now) top }
+        ensures { result ≡ excess_over_approach_side (approach_of self.now end) (approach_offset
+            self.now end x.now) top }
     {
         let approach = self.approach(end);
         approach.excess_beside(&approach.axis.offset(x), top)
     }
 
-    /// How far `top` is above the transitional surface beside this part.
+    /// The excess of `top` over the transitional surface beside this part.
     fn side(&self, beside: Beside, x: &Point, top: i64) -> Option<u32>
         requires top { IsLevel top }
         ensures { result ≡ excess_over_side self.now beside x.now top }
@@ -180,8 +182,8 @@ impl Pad {
         }
     }
 
-    /// How far `top` is above the transitional surface beside the primary or an approach surface at a point, in tenths of a foot,
-    /// rounded down: 77.23(c). `None` where it is not above, and where the surface does not cover the point.
+    /// The excess of `top` over the transitional surface beside the primary or an approach surface at a point, in tenths of a foot,
+    /// rounded down (77.23(c)). `None` where it is not above, or the surface does not cover the point.
     #[tactic(auto, unfolding(crate::specs::Pads::pad_transition_excess))]
     pub fn excess_transition(&self, beside: Beside, x: &Point, top: i64) -> Option<u32>
         requires top { IsLevel top }
@@ -194,8 +196,8 @@ impl Pad {
         self.side(beside, x, top)
     }
 
-    /// How far `top` is above the slope of 25 to 1 from the takeoff and landing area at a point, in tenths of a foot, rounded down:
-    /// 77.9(b)(3). `None` where it is not above, and where the point is more than 5,000 feet from the area.
+    /// The excess of `top` over the slope of 25 to 1 from the takeoff and landing area at a point, in tenths of a foot, rounded down
+    /// (77.9(b)(3)). `None` where it is not above, or the point is more than 5,000 feet from the area.
     #[tactic(auto, unfolding(crate::specs::Pads::pad_notice_excess))]
     pub fn excess_notice(&self, x: &Point, top: i64) -> Option<u32>
         requires top { IsLevel top }

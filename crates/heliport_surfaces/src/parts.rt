@@ -9,7 +9,7 @@ pub enum PadEnd {
     Two,
 }
 
-/// What transitional surfaces of a heliport lie beside.
+/// The part of a heliport that a transitional surface lies beside.
 #[derive(Clone, Copy, Debug, PartialEq, Eq)]
 pub enum Beside {
     /// The primary surface.
@@ -20,8 +20,8 @@ pub enum Beside {
     ApproachTwo,
 }
 
-/// How far a top is above each surface of 77.23 of a heliport at a point, in tenths of a foot, rounded down; `None` where it is not
-/// above, and where the surface does not cover the point.
+/// The excess of a top over each surface of 77.23 of a heliport at a point, in tenths of a foot, rounded down; `None` where it is not
+/// above, or the surface does not cover the point.
 #[derive(Clone, Copy, Debug, PartialEq, Eq)]
 pub struct PadExcesses {
     /// The primary surface.

@@ -1,4 +1,4 @@
-//! Where a point lies by a surface between two lateral boundaries.
+//! The position of a point relative to a surface between two lateral boundaries.
 
 ghost use Rattle.std.specs.Prelude.{◌≡◌};
 ghost use Rattle.heliport_surfaces.specs.Sizes.{HasPlaceSizes};
@@ -6,16 +6,16 @@ ghost use Rattle.heliport_surfaces.specs.Sizes.{HasPlaceSizes};
 use crate::rules::TRANSITION_REACH;
 use grid_exact::{is_at_least_root, is_at_most_root};
 
-/// Where a point lies by the primary or an approach surface. All lengths are times the length of the axis.
+/// The position of a point relative to the primary or an approach surface. All lengths are times the length of the axis.
 #[derive(Clone, Copy)]
 pub(crate) struct PadPlace {
-    /// Whether the point is as far along the axis as the surface.
+    /// Whether the point is within the surface's extent along the axis.
     pub(crate) is_along: bool,
-    /// How far it is to a side, on the scale of the surface.
+    /// The distance to a side, on the scale of the surface.
     pub(crate) out: i128,
-    /// How far the lateral boundary is there on that scale, which is times the root of `square`.
+    /// The distance of the lateral boundary there on that scale; it is multiplied by the root of `square`.
     pub(crate) edge: i128,
-    /// How far it is from the axis.
+    /// The distance from the axis.
     pub(crate) aside: i128,
     /// The square of the length of the axis.
     pub(crate) square: u128,

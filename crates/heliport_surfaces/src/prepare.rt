@@ -1,4 +1,4 @@
-//! What the surfaces of a heliport are.
+//! Preparation of a heliport's surfaces.
 
 ghost use Rattle.std.specs.Prelude.{◌≡◌, ◌*◌, ◌≤◌, ◌-ℤ◌};
 ghost use Rattle.grid_exact.specs.Vector.{length_of};
@@ -7,7 +7,7 @@ ghost use Rattle.airfields.specs.declared.limits.TheConstants.{HELIPORT_AXIS_LEA
 ghost use Rattle.heliport_surfaces.specs.Sizes.{IsPadSlope};
 ghost use Rattle.heliport_surfaces.specs.Axes.{pad_line};
 ghost use Rattle.heliport_surfaces.specs.Shapes.{landing_shape, approach_shape};
-ghost use Rattle.heliport_surfaces.specs.Pads.{line_from, outward as outward_of, approach_slope, landing_of, approach_of};
+ghost use Rattle.heliport_surfaces.specs.Pads.{line_from, outward_line as outward_of, approach_slope, landing_of, approach_of};
 
 use crate::approach::PadApproach;
 use crate::axis::PadAxis;
@@ -17,10 +17,12 @@ use crate::rules::{CIVIL_SLOPE, MILITARY_SLOPE};
 use airfields::Heliport;
 use grid_exact::{Axis, Point, Start, Vector};
 
-/// The axis that starts at a point and reaches as far as the way from one point to another.
+/// The axis that starts at a point and has the vector between two points.
 fn axis_from(start: &Point, from: &Point, to: &Point) -> PadAxis
-    requires least { HELIPORT_AXIS_LEAST * HELIPORT_AXIS_LEAST ≤ length_of (to.now.x -ℤ from.now.x) (to.now.y -ℤ from.now.y) }
-    requires most { length_of (to.now.x -ℤ from.now.x) (to.now.y -ℤ from.now.y) ≤ HELIPORT_AXIS_MOST * HELIPORT_AXIS_MOST }
+    requires least { HELIPORT_AXIS_LEAST * HELIPORT_AXIS_LEAST ≤ length_of (to.now.x
+        -ℤ from.now.x) (to.now.y -ℤ from.now.y) }
+    requires most { length_of (to.now.x -ℤ from.now.x)
+        (to.now.y -ℤ from.now.y) ≤ HELIPORT_AXIS_MOST * HELIPORT_AXIS_MOST }
     ensures line { pad_line result ≡ line_from start.now from.now to.now }
 {
     PadAxis {

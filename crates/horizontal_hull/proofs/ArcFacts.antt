@@ -11,7 +11,7 @@ use Rattle.airfields.specs.declared.airfield.Airport.{Airport}
 use Rattle.airfields.specs.declared.limits.TheConstants.{RUNWAY_REACH}
 use Rattle.airfields.specs.declared.runway.Runway.{Runway}
 use Rattle.airfields.specs.Categories.{has_civil_surfaces}
-use Rattle.airfields.specs.Runways.{HasNearEnds, apart, length_square}
+use Rattle.airfields.specs.Runways.{HasNearEnds, distance_apart, length_square}
 use Rattle.runway_lines.specs.Centers.{center}
 use Rattle.runway_lines.specs.declared.end.End.TheVariants.{One, Two}
 use Rattle.runway_lines.proofs.CenterFacts.{extended_near}
@@ -19,7 +19,7 @@ use Rattle.horizontal_hull.specs.Arcs.{ArcShape, arc, arcs_of, arcs_of_runway}
 use Rattle.horizontal_hull.specs.declared.sizes.TheConstants.{ARC_MOST, CENTER_REACH}
 use Rattle.horizontal_hull.specs.Close.{IsNearReference}
 
-center_near : (hard : Bool) (here there arp : ℤ) (n : ℕ) → apart here arp ≤ RUNWAY_REACH → unsigned_abs (center hard here there n -ℤ arp) ≤ CENTER_REACH
+center_near : (hard : Bool) (here there arp : ℤ) (n : ℕ) → distance_apart here arp ≤ RUNWAY_REACH → unsigned_abs (center hard here there n -ℤ arp) ≤ CENTER_REACH
 center_near true here there arp n h = let e = extended_near here there n in omega (arith, ints, h, e.0, e.1)
 center_near false here there arp n h = omega (arith, h)
 

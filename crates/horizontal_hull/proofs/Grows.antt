@@ -10,7 +10,7 @@ use Rattle.grid_exact.proofs.RootOrder.{AtLeastRoot_more}
 use Rattle.horizontal_hull.specs.declared.edge.Edge.{Edge}
 use Rattle.horizontal_hull.specs.declared.edge.Edge.TheVariants.{Closed, Open}
 use Rattle.horizontal_hull.specs.Arcs.{ArcShape}
-use Rattle.horizontal_hull.specs.Capsules.{InCapsule, InDisc, InTapered, IsUnderTangent, ahead, aside, flare, span, tangent}
+use Rattle.horizontal_hull.specs.Capsules.{InCapsule, InDisc, InTapered, IsUnderTangent, distance_ahead, distance_aside, flare, span, tangent}
 use Rattle.horizontal_hull.specs.Within.{Within}
 use Rattle.center_polygon.proofs.SomeFacts.{SomeTwo_map}
 
@@ -78,19 +78,19 @@ reach_lt : (r c c' s : ℕ) (z : ℤ) → 0 < s → c < c' → (pos ((r + c) * s
 reach_lt r c c' s z p l = let m : r + (c + 1) ≤ r + c' = omega arith in omega (arith, ints, mul-le-mul_right s m)
 
 under_grows : (edge : Edge) (x : Point) (c c' : ℕ) → c ≤ c' → (a b : ArcShape) → flare a b * flare a b < span a b → IsUnderTangent edge a b x c → IsUnderTangent edge a b x c'
-under_grows Closed x c c' l a b p h = AtLeastRoot_more _ _ (pos (aside a b x)) (tangent a b) (reach_le a.radius c c' (span a b) (pos (flare a b) *ℤ ahead a b x) l) h
-under_grows Open x c c' l a b p h = AboveRoot_more _ _ (pos (aside a b x)) (tangent a b) (reach_le a.radius c c' (span a b) (pos (flare a b) *ℤ ahead a b x) l) h
+under_grows Closed x c c' l a b p h = AtLeastRoot_more _ _ (pos (distance_aside a b x)) (tangent a b) (reach_le a.radius c c' (span a b) (pos (flare a b) *ℤ distance_ahead a b x) l) h
+under_grows Open x c c' l a b p h = AboveRoot_more _ _ (pos (distance_aside a b x)) (tangent a b) (reach_le a.radius c c' (span a b) (pos (flare a b) *ℤ distance_ahead a b x) l) h
 
 under_opens : (x : Point) (c c' : ℕ) → c < c' → (a b : ArcShape) → flare a b * flare a b < span a b → IsUnderTangent Closed a b x c → IsUnderTangent Open a b x c'
 under_opens x c c' l a b p h =
     let s : 0 < span a b = positive (flare a b * flare a b) (span a b) p in
-    AtLeastRoot_above _ _ (pos (aside a b x)) (tangent a b) (reach_lt a.radius c c' (span a b) (pos (flare a b) *ℤ ahead a b x) s l) h
+    AtLeastRoot_above _ _ (pos (distance_aside a b x)) (tangent a b) (reach_lt a.radius c c' (span a b) (pos (flare a b) *ℤ distance_ahead a b x) s l) h
   where
     positive : (m n : ℕ) → m < n → 0 < n
     positive m n l = omega arith
 
 under_closes : (x : Point) (c : ℕ) (a b : ArcShape) → flare a b * flare a b < span a b → IsUnderTangent Open a b x c → IsUnderTangent Closed a b x c
-under_closes x c a b p h = AboveRoot-AtLeastRoot _ (pos (aside a b x)) (tangent a b) h
+under_closes x c a b p h = AboveRoot-AtLeastRoot _ (pos (distance_aside a b x)) (tangent a b) h
 
 -- ---- what is within
 pub Within_grows : (edge : Edge) (arcs : List ArcShape) (x : Point) (c c' : ℕ) → c ≤ c' → Within edge arcs x c → Within edge arcs x c'

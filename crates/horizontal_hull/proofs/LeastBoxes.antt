@@ -8,6 +8,7 @@ use Rattle.grid_exact.specs.declared.point.Point.{Point}
 use Rattle.grid_exact.specs.Area.{Has}
 use Rattle.center_polygon.specs.Triangles.{InSomeTriangle}
 use Rattle.outline_boxes.specs.Boxes.{Encloses, HoldsBoth, IsLeastBox}
+use Rattle.outline_boxes.proofs.More.{Encloses_through}
 use Rattle.horizontal_hull.specs.declared.edge.Edge.{Edge}
 use Rattle.horizontal_hull.specs.declared.sizes.TheConstants.{BOX_REACH, CONICAL_RUN}
 use Rattle.horizontal_hull.specs.Arcs.{ArcShape}
@@ -15,17 +16,6 @@ use Rattle.horizontal_hull.specs.Areas.{HoldsDiscs, disc_box}
 use Rattle.horizontal_hull.specs.Close.{AreClose, IsNearReference, IsOuter}
 use Rattle.horizontal_hull.specs.Within.{Within}
 use Rattle.horizontal_hull.proofs.Reach.{Within_in_outer}
-
-encloses_same : (a : Area) → Encloses a a
-encloses_same a = record { west = omega (arith, ints); east = omega (arith, ints); south = omega (arith, ints); north = omega (arith, ints) }
-
-encloses_all : (a b c : Area) → Encloses a b → Encloses b c → Encloses a c
-encloses_all a b c h k = record {
-  west = omega (arith, ints, h.west, k.west);
-  east = omega (arith, ints, h.east, k.east);
-  south = omega (arith, ints, h.south, k.south);
-  north = omega (arith, ints, h.north, k.north);
-}
 
 -- ---- a box that holds the discs of the first i arcs, and lies in each that holds all
 pub record IsLeastSoFar (arcs : List ArcShape) (c i : ℕ) (box : Area) : Type 0 where
@@ -42,7 +32,7 @@ pub least_with_next : (arcs : List ArcShape) (c i : ℕ) (a : ArcShape) (box dis
     IsLeastSoFar arcs c (i + 1) joined
 least_with_next arcs c i a box disc joined l e b h j = record {
   holds = All-more (λ z. Encloses joined (disc_box c z)) arcs i a l
-      (All-weaker (λ z. Encloses box (disc_box c z)) (λ z. Encloses joined (disc_box c z)) (λ z k. encloses_all joined box (disc_box c z) j.holds.first k) (take i arcs) h.holds)
+      (All-weaker (λ z. Encloses box (disc_box c z)) (λ z. Encloses joined (disc_box c z)) (λ z k. Encloses_through joined box (disc_box c z) j.holds.first k) (take i arcs) h.holds)
       (subst (λ (z : ArcShape). Encloses joined (disc_box c z)) e (subst (λ (z : Area). Encloses joined z) b j.holds.second));
   least = λ other k. j.least other (record {
     first = h.least other k;

@@ -8,7 +8,7 @@ use Rattle.grid_exact.proofs.TestFacts.{same_test}
 use Rattle.horizontal_hull.specs.declared.edge.Edge.TheVariants.{Closed}
 use Rattle.horizontal_hull.specs.declared.seen.Seen.{Seen}
 use Rattle.horizontal_hull.specs.Arcs.{ArcShape}
-use Rattle.horizontal_hull.specs.Capsules.{InTapered, aside, in_capsule, in_tapered, tangent, tangent_reach}
+use Rattle.horizontal_hull.specs.Capsules.{InTapered, distance_aside, in_capsule, in_tapered, tangent, tangent_reach}
 use Rattle.horizontal_hull.specs.Sights.{InSight, IsSeen, IsSeenOf, IsUnder, width}
 use Rattle.horizontal_hull.proofs.Tests.{InTapered-test}
 
@@ -24,12 +24,12 @@ root_out (negsuc m) q t r e h = absurd (omega (arith, ints, h.at_least))
 width_is : (a b : ArcShape) (x : Point) (s : Seen) (c : ℕ) → IsSeen a b x s → width s c ≡ tangent_reach a b x c
 width_is a b x s c h = rw (h.first_radius_is, h.square_is, h.lean_is) refl
 
-under_in : (a b : ArcShape) (x : Point) (s : Seen) (c : ℕ) → IsSeen a b x s → IsUnder s c → AtLeastRoot (tangent_reach a b x c) (pos (aside a b x)) (tangent a b)
-under_in a b x s c h u = rw (width_is a b x s c h) at (root_in (width s c) (aside a b x) (tangent a b) s.reach h.reach_is u.not_past u.reaches)
+under_in : (a b : ArcShape) (x : Point) (s : Seen) (c : ℕ) → IsSeen a b x s → IsUnder s c → AtLeastRoot (tangent_reach a b x c) (pos (distance_aside a b x)) (tangent a b)
+under_in a b x s c h u = rw (width_is a b x s c h) at (root_in (width s c) (distance_aside a b x) (tangent a b) s.reach h.reach_is u.not_past u.reaches)
 
-under_out : (a b : ArcShape) (x : Point) (s : Seen) (c : ℕ) → IsSeen a b x s → AtLeastRoot (tangent_reach a b x c) (pos (aside a b x)) (tangent a b) → IsUnder s c
+under_out : (a b : ArcShape) (x : Point) (s : Seen) (c : ℕ) → IsSeen a b x s → AtLeastRoot (tangent_reach a b x c) (pos (distance_aside a b x)) (tangent a b) → IsUnder s c
 under_out a b x s c h u =
-    let r = root_out (width s c) (aside a b x) (tangent a b) s.reach h.reach_is (rw (width_is a b x s c h) u) in
+    let r = root_out (width s c) (distance_aside a b x) (tangent a b) s.reach h.reach_is (rw (width_is a b x s c h) u) in
     record { not_past = r.0; reaches = r.1 }
 
 -- ---- in the tapered capsule

@@ -11,7 +11,7 @@ use Rattle.center_polygon.proofs.Deciding.{InSomeTriangle-test}
 use Rattle.horizontal_hull.specs.declared.edge.Edge.{Edge}
 use Rattle.horizontal_hull.specs.declared.edge.Edge.TheVariants.{Closed, Open}
 use Rattle.horizontal_hull.specs.Arcs.{ArcShape, centers_of}
-use Rattle.horizontal_hull.specs.Capsules.{InBand, InCapsule, InDisc, InTapered, ReachesRoot, ahead, aside, away, flare, in_band, in_capsule, in_disc, in_tapered, reaches_root, span, tangent, tangent_reach}
+use Rattle.horizontal_hull.specs.Capsules.{InBand, InCapsule, InDisc, InTapered, ReachesRoot, distance_ahead, distance_aside, distance_away, flare, in_band, in_capsule, in_disc, in_tapered, reaches_root, span, tangent, tangent_reach}
 use Rattle.horizontal_hull.specs.Within.{Within, is_within}
 use Rattle.center_polygon.proofs.SomeFacts.{SomeTwo-test, and_test, or_test}
 
@@ -31,8 +31,8 @@ if_test false p q h k = k
 
 -- ---- capsules
 InDisc-test : (edge : Edge) (a : ArcShape) (x : Point) (c : ℕ) → IsTrue (in_disc edge a x c) ↔ InDisc edge a x c
-InDisc-test Closed a x c = nat_le_test (away a x) ((a.radius + c) * (a.radius + c))
-InDisc-test Open a x c = nat_lt_test (away a x) ((a.radius + c) * (a.radius + c))
+InDisc-test Closed a x c = nat_le_test (distance_away a x) ((a.radius + c) * (a.radius + c))
+InDisc-test Open a x c = nat_lt_test (distance_away a x) ((a.radius + c) * (a.radius + c))
 
 ReachesRoot-test : (edge : Edge) (a : ℤ) (b n : ℕ) → IsTrue (reaches_root edge a b n) ↔ ReachesRoot edge a b n
 ReachesRoot-test Closed a b n = (at_least_in a (pos b) n, at_least_out a (pos b) n)
@@ -40,12 +40,12 @@ ReachesRoot-test Open a b n = (above_in a (pos b) n, above_out a (pos b) n)
 
 InBand-test : (edge : Edge) (a b : ArcShape) (x : Point) (c : ℕ) → IsTrue (in_band edge a b x c) ↔ InBand edge a b x c
 InBand-test edge a b x c =
-    let p : Bool = is_at_most_root (neg_ℤ (pos (flare a b * aside a b x))) (ahead a b x) (tangent a b) in
-    let q : Bool = is_at_most_root (pos (flare a b * aside a b x)) (pos (span a b) -ℤ ahead a b x) (tangent a b) in
-    let r : Bool = reaches_root edge (tangent_reach a b x c) (aside a b x) (tangent a b) in
-    let hp = at_most_test (neg_ℤ (pos (flare a b * aside a b x))) (ahead a b x) (tangent a b) in
-    let hq = at_most_test (pos (flare a b * aside a b x)) (pos (span a b) -ℤ ahead a b x) (tangent a b) in
-    let hr = ReachesRoot-test edge (tangent_reach a b x c) (aside a b x) (tangent a b) in (
+    let p : Bool = is_at_most_root (neg_ℤ (pos (flare a b * distance_aside a b x))) (distance_ahead a b x) (tangent a b) in
+    let q : Bool = is_at_most_root (pos (flare a b * distance_aside a b x)) (pos (span a b) -ℤ distance_ahead a b x) (tangent a b) in
+    let r : Bool = reaches_root edge (tangent_reach a b x c) (distance_aside a b x) (tangent a b) in
+    let hp = at_most_test (neg_ℤ (pos (flare a b * distance_aside a b x))) (distance_ahead a b x) (tangent a b) in
+    let hq = at_most_test (pos (flare a b * distance_aside a b x)) (pos (span a b) -ℤ distance_ahead a b x) (tangent a b) in
+    let hr = ReachesRoot-test edge (tangent_reach a b x c) (distance_aside a b x) (tangent a b) in (
       λ t. record { after = hp.0 (first_true p q r t); before = hq.0 (second_true p q r t); under = hr.0 (third_true p q r t) },
       λ h. all_true p q r (hp.1 h.after) (hq.1 h.before) (hr.1 h.under),
     )

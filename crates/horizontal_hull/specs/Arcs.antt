@@ -11,13 +11,13 @@ use Rattle.runway_lines.specs.declared.end.End.{End}
 use Rattle.runway_lines.specs.declared.end.End.TheVariants.{One, Two}
 use Rattle.horizontal_hull.specs.declared.sizes.TheConstants.{HORIZONTAL_RISE}
 
--- an arc of a radius about a center
+-- an arc, given by its center and radius
 pub record ArcShape : Type 0 where
   pub x : ℤ
   pub y : ℤ
   pub radius : ℕ
 
--- where its center lies
+-- the position of its center
 abbrev pub spot_of : ArcShape → Spot
 spot_of a = record { x = a.x; y = a.y }
 
@@ -32,7 +32,7 @@ arcs_of_runway r = arc r One ∷ arc r Two ∷ []
 abbrev pub centers_of : List ArcShape → List Spot
 centers_of arcs = map spot_of arcs
 
--- the arcs of an airport: those of its runways, where its category has the surfaces of 77.19, which is for civil airports
+-- the arcs of an airport: the arcs of its runways where its category has the surfaces of 77.19, which are for civil airports, else none
 abbrev pub arcs_of : Airport → List ArcShape
 arcs_of a = if has_civil_surfaces a.category then flat_map arcs_of_runway a.runways else []
 

@@ -22,16 +22,16 @@ disc_box c a = record {
   y1 = a.y +ℤ pos (a.radius + c);
 }
 
--- a box holds the discs about the centers of some arcs, their radii raised by c
+-- a box contains the discs about the centers of arcs, with radii raised by c
 abbrev pub HoldsDiscs : List ArcShape → ℕ → Area → Type 0
 HoldsDiscs arcs c box = All (λ a. Encloses box (disc_box c a)) arcs
 
--- the boxes of both surfaces: of arcs joined by their tangents no more sticks out than of the arcs
+-- the boxes of both surfaces: arcs joined by their tangents extend no farther than the arcs themselves
 pub record AreHullAreas (arcs : List ArcShape) (a : HullAreas) : Type 0 where
   pub horizontal_least : IsLeastBox (HoldsDiscs arcs 0) a.horizontal
   pub conical_least : IsLeastBox (HoldsDiscs arcs CONICAL_RUN) a.conical
 
--- the first has every point that the horizontal surface covers, and the second every point where either surface lies over it
+-- the first contains every point that the horizontal surface covers, and the second every point that either surface covers
 pub record CoverHull (d : Dome) (a : HullAreas) : Type 0 where
   pub horizontal_has : (x : Point) → Within Closed d.arcs x 0 → Has a.horizontal x
   pub conical_has : (x : Point) → Within Closed d.arcs x CONICAL_RUN → Has a.conical x

@@ -1,4 +1,4 @@
--- For proofs alone: how near to one another the arcs of one airport and the points are that lie within them.
+-- For proofs alone: bounds on the distances between the arcs of one airport and the points within them.
 use Rattle.std.specs.Prelude.{ℕ, ℤ, pos, neg_ℤ, ◌+◌, ◌-ℤ◌, ◌≤◌, ◌<ℤ◌, ◌⊎◌, ◌^◌, List, unsigned_abs}
 use Rattle.std.specs.List.{All}
 use Rattle.grid_exact.specs.Area.{Has}
@@ -22,12 +22,12 @@ pub record AreClose (arcs : List ArcShape) (x : Point) : Type 0 where
   pub x_size : unsigned_abs (x.x -ℤ arp.x) ≤ BOX_REACH
   pub y_size : unsigned_abs (x.y -ℤ arp.y) ≤ BOX_REACH
 
--- a box that has each point of the grid over which a surface of the arcs lies, and none that is not close to them
+-- a box that contains each point of the grid that a surface of the arcs covers, and no point that is not close to them
 pub record IsOuter (arcs : List ArcShape) (box : Area) : Type 0 where
   pub close : (x : Point) → Has box x → AreClose arcs x
   pub all : (edge : Edge) (x : Point) (c : ℕ) → c ≤ CONICAL_RUN → Within edge arcs x c → Has box x
 
--- what a hull is made of: arcs, their outer box, and a small level
+-- the parts of a hull: arcs, their outer box, and a bounded level
 pub record IsHull (arcs : List ArcShape) (box : Area) (level : ℤ) : Type 0 where
   pub outer : IsOuter arcs box
   pub level_size : unsigned_abs level ≤ 2 ^ 18
@@ -43,7 +43,7 @@ pub record IsNearBoth (a b : ArcShape) (x : Point) : Type 0 where
   pub first_radius : a.radius ≤ ARC_MOST
   pub second_radius : b.radius ≤ ARC_MOST
 
--- both discs about the centers of two arcs, their radii raised by c, lie west of a point, or east, south or north of it
+-- both discs of two arcs, with radii raised by c, lie west of a point, or both east, south or north of it
 abbrev pub IsBeside : ArcShape → ArcShape → Point → ℕ → Type 0
 IsBeside a b x c =
     (((pos (a.radius + c) <ℤ (x.x -ℤ a.x)) × (pos (b.radius + c) <ℤ (x.x -ℤ b.x)))

@@ -1,4 +1,4 @@
--- For proofs alone: how the arcs of an airport are kept.
+-- For proofs alone: the stored form of an airport's arcs.
 use Rattle.std.specs.Prelude.{◌≡◌, List, [], length}
 use Rattle.horizontal_hull.specs.declared.arcs.Kept.{Kept}
 use Rattle.horizontal_hull.specs.declared.arcs.Kept.TheVariants.{Absent, Pair, Many}
@@ -10,7 +10,7 @@ shapes_of Absent = []
 shapes_of (Pair pair) = pair
 shapes_of (Many several) = several.value
 
--- those of one runway are two
+-- one runway has two arcs
 abbrev pub IsKept : Kept → Type 0
 IsKept Absent = Unit {0}
 IsKept (Pair pair) = length pair ≡ 2

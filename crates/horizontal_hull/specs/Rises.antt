@@ -1,4 +1,4 @@
--- For proofs alone: the least number that passes a test, and how much higher than the horizontal surface the conical one is.
+-- For proofs alone: the least number that passes a test, and the height of the conical surface above the horizontal one.
 use Rattle.std.specs.Prelude.{ℕ, ◌≡◌, ◌*◌, ◌<◌, ◌≤◌, Bool, true, List}
 use Rattle.grid_exact.specs.declared.point.Point.{Point}
 use Rattle.horizontal_hull.specs.declared.edge.Edge.TheVariants.{Closed}
@@ -13,7 +13,7 @@ pub record IsLeastRise (passes : ℕ → Bool) (most rise : ℕ) : Type 0 where
   pub reaches : rise < most → passes rise ≡ true
   pub least : (k : ℕ) → passes k ≡ true → rise ≤ k
 
--- a point lies in the capsule of two arcs that goes outward as far as the conical surface does to rise so much
+-- a point lies in the capsule of two arcs, raised by the outward distance over which the conical surface has this rise
 abbrev pub in_risen : Point → ℕ → ArcShape → ArcShape → Bool
 in_risen x k a b = in_capsule Closed a b x (CONICAL_SLOPE * k)
 

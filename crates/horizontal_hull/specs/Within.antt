@@ -12,22 +12,22 @@ use Rattle.horizontal_hull.specs.Arcs.{ArcShape, Dome, centers_of}
 use Rattle.horizontal_hull.specs.Capsules.{InCapsule, in_capsule}
 use Rattle.horizontal_hull.specs.declared.sizes.TheConstants.{CONICAL_RISE, CONICAL_RUN, CONICAL_SLOPE}
 
--- a point is at most c beyond the arcs joined by their tangents: it lies in the tapered capsule of some two arcs with radii raised by
--- c, or in the closed triangle of some three of their centers. Each runway has two centers, so that every disc lies in a capsule
+-- a point is at most c outside the arcs joined by their tangents: it lies in the tapered capsule of some two arcs with radii raised by
+-- c, or in the closed triangle of some three of their centers. Each runway has two centers, so every disc lies in a capsule
 unfoldable pub Within : Edge → List ArcShape → Point → ℕ → Type 0
 Within edge arcs x c = SomeTwo (λ a b. InCapsule edge a b x c) arcs ⊎ InSomeTriangle (centers_of arcs) x
 
--- ---- the horizontal surface covers what the arcs and their tangents hold, at its one level
+-- ---- the horizontal surface covers the area within the arcs and their tangents, at one level
 abbrev pub horizontal : Dome → Point → Surface
 horizontal d x = flat_surface (Within Closed d.arcs x 0) d.level
 
--- ---- the conical surface goes outward from there for 4,000 feet and upward 20 to 1
+-- ---- the conical surface extends from there 4,000 feet outward, rising 20 to 1
 
 pub record ConicalCovers (d : Dome) (x : Point) : Type 0 where
   pub within_outer : Within Closed d.arcs x CONICAL_RUN
   pub not_inner : ¬ Within Closed d.arcs x 0
 
--- how far out a level is that many tenths of a foot above the horizontal surface
+-- the outward distance at which the conical surface has this level, which is in tenths of a foot
 abbrev pub run_to : Dome → ℤ → ℕ
 run_to d z = CONICAL_SLOPE * unsigned_abs (z -ℤ d.level)
 
@@ -42,7 +42,7 @@ pub record AboveConical (d : Dome) (x : Point) (z : ℤ) : Type 0 where
 abbrev pub conical : Dome → Point → Surface
 conical d x = record { Covers = ConicalCovers d x; Above = AboveConical d x; AtOrAbove = AtConical d x }
 
--- ---- where both end upward
+-- ---- the upper end of both
 
 -- the least level at or above the conical surface
 pub record IsLeastConical (d : Dome) (x : Point) (z : ℤ) : Type 0 where
@@ -55,7 +55,7 @@ abbrev pub IsCap : Dome → Point → Cap → Type 0
 IsCap d x (Level z) = (Within Closed d.arcs x 0 × (z ≡ d.level)) ⊎ (ConicalCovers d x × IsLeastConical d x z)
 IsCap d x Beyond = ¬ Within Closed d.arcs x CONICAL_RUN
 
--- ---- the same as tests that compute
+-- ---- the same predicates as tests that compute
 
 unfoldable pub is_within : Edge → List ArcShape → Point → ℕ → Bool
 is_within edge arcs x c = some_two (λ a b. in_capsule edge a b x c) arcs || in_some_triangle (centers_of arcs) x
@@ -75,7 +75,7 @@ conical_covers d x = is_within Closed d.arcs x CONICAL_RUN && not (is_within Clo
 unfoldable pub conical_excess : Dome → Point → ℤ → Option ℕ
 conical_excess d x top = excess_of (conical_covers d x) (is_above_conical d x) (is_at_conical d x) most_excess top
 
--- how far below the outer edge's level, 200 feet above the horizontal surface, the least level is
+-- the least level's distance below the level of the outer edge, which is 200 feet above the horizontal surface
 abbrev pub below_edge : Dome → Point → ℕ
 below_edge d x = greatest_up_to (λ e. is_at_conical d x (d.level +ℤ pos CONICAL_RISE -ℤ pos e)) CONICAL_RISE
 

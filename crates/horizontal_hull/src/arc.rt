@@ -12,8 +12,8 @@ use grid_exact::{Point, Start, Vector};
 use runway_lines::{End, center, class};
 use std::marker::Model;
 
-/// An arc of a radius about the center at an end of a runway's primary surface, 77.19(a). It takes 12 bytes, half as many as with a center
-/// of 64 bits: each structure near an airport reads its arcs.
+/// An arc about the center at an end of a runway's primary surface (77.19(a)). It takes 12 bytes, half of what a 64-bit center would need:
+/// each structure near an airport reads the airport's arcs.
 #[derive(Drop)]
 pub(crate) struct Arc {
     x: i32,
@@ -32,7 +32,7 @@ impl Model for Arc {
     ghost invariant = { λ a. IsNearGrid a.x a.y };
 }
 
-/// A coordinate of a center.
+/// A coordinate of a center as 32 bits.
 fn narrow(coordinate: i64) -> i32
     requires size { unsigned_abs coordinate ≤ START_LIMIT }
     ensures { result ≡ coordinate }
@@ -55,7 +55,7 @@ impl Arc {
         }
     }
 
-    /// The start of a line that lies at its center.
+    /// The start of a line at the center.
     #[inline(always)]
     fn start(&self) -> Start
         ensures x { result.x ≡ self.now.x }
@@ -81,7 +81,7 @@ impl Arc {
         self.radius
     }
 
-    /// The way from its center to a point.
+    /// The vector from the center to a point.
     pub(crate) fn to_point(&self, x: &Point) -> Vector
         ensures x { result.x ≡ x.now.x -ℤ self.now.x }
         ensures y { result.y ≡ x.now.y -ℤ self.now.y }
@@ -89,7 +89,7 @@ impl Arc {
         self.start().to_point(x)
     }
 
-    /// The way from its center to another arc's.
+    /// The vector from the center to the center of another arc.
     pub(crate) fn to_arc(&self, other: &Arc) -> Vector
         ensures x { result.x ≡ other.now.x -ℤ self.now.x }
         ensures y { result.y ≡ other.now.y -ℤ self.now.y }
@@ -98,7 +98,7 @@ impl Arc {
     }
 }
 
-/// The one of two arcs with the smaller radius, the first of equal ones.
+/// The arc with the smaller radius, the first of two equal ones.
 #[inline(always)]
 pub(crate) fn smaller<'a>(a: &'a Arc, b: &'a Arc) -> &'a Arc
     ensures { result.now ≡ if nat_le a.now.radius b.now.radius then a.now else b.now }
@@ -106,7 +106,7 @@ pub(crate) fn smaller<'a>(a: &'a Arc, b: &'a Arc) -> &'a Arc
     if a.radius() <= b.radius() { a } else { b }
 }
 
-/// The other one.
+/// The other of the two arcs.
 #[inline(always)]
 pub(crate) fn larger<'a>(a: &'a Arc, b: &'a Arc) -> &'a Arc
     ensures { result.now ≡ if nat_le a.now.radius b.now.radius then b.now else a.now }

@@ -1,4 +1,4 @@
-//! The arcs of an airport, ready to be asked.
+//! The arcs of an airport, prepared for tests of many points.
 
 ghost use Rattle.std.specs.Prelude.{◌≡◌, IfOk};
 ghost use Rattle.std.specs.List.{All, flat_map};
@@ -15,7 +15,7 @@ use runway_lines::End;
 use std::alloc::Global;
 use std::marker::Model;
 
-/// The arcs of several runways, with the polygon of their centers; seen as the list of the arcs.
+/// The arcs of several runways, with the polygon of their centers; contracts see it as the list of the arcs.
 #[derive(Drop)]
 struct Several {
     arcs: Vec<Arc>,
@@ -58,7 +58,7 @@ fn centers(alloc: Global, arcs: &[Arc]) -> Result<Vec<Center>, NoMemory>
 }
 
 impl Several {
-    /// Those of runways.
+    /// The arcs of several runways.
     fn of(alloc: Global, runways: &[Runway]) -> Result<Several, NoMemory>
         requires proper { All IsProper runways.now }
         ensures arcs { IfOk result (λ s. s ≡ flat_map arcs_of_runway runways.now) }
@@ -75,7 +75,7 @@ impl Several {
         self.arcs.as_slice()
     }
 
-    /// Whether a point lies in the triangle of some three of their centers.
+    /// Whether a point lies in the triangle of any three of the centers.
     fn has_triangle(&self, x: &Point) -> bool
         ensures { result ≡ in_some_triangle (centers_of self.now) x.now }
     {
@@ -83,15 +83,15 @@ impl Several {
     }
 }
 
-/// How arcs are kept.
+/// The stored form of an airport's arcs.
 #[derive(Drop)]
 enum Kept {
-    /// There are none.
+    /// The airport has no arcs.
     Absent,
-    /// Those of one runway, as nearly all airports have. They stand in place, since each structure near the airport asks them, and their
+    /// The arcs of one runway, the most frequent case. They are stored in place, since each structure near the airport reads them. Two
     /// centers have no triangle.
     Pair([Arc; 2]),
-    /// Those of several runways, which are asked for elsewhere.
+    /// The arcs of several runways, stored on the heap.
     Many(Box<Several>),
 }
 
@@ -111,7 +111,7 @@ fn keep(alloc: Global, runways: &[Runway]) -> Result<Kept, NoMemory>
     Ok(Kept::Many(Box::new(alloc, several)?))
 }
 
-/// The arcs of an airport; seen as their list.
+/// The arcs of an airport; contracts see it as their list.
 #[derive(Drop)]
 pub(crate) struct Arcs {
     kept: Kept,
@@ -130,7 +130,7 @@ impl Model for Arcs {
 }
 
 impl Arcs {
-    /// The arcs of an airport: none where 77.19 is not for its category.
+    /// The arcs of an airport; none where its category has no surfaces of 77.19.
     pub(crate) fn of(alloc: Global, a: &Airport) -> Result<Arcs, NoMemory>
         requires proper { All IsProper a.now.runways }
         ensures arcs { IfOk result (λ arcs. arcs ≡ arcs_of a.now) }
@@ -142,7 +142,7 @@ impl Arcs {
         Ok(Arcs { kept })
     }
 
-    /// All of them.
+    /// The arcs as a slice.
     #[inline(always)]
     pub(crate) fn as_slice(&self) -> &[Arc]
         ensures { result.now ≡ self.now }
@@ -154,7 +154,7 @@ impl Arcs {
         }
     }
 
-    /// Whether a point lies in the triangle of some three of their centers.
+    /// Whether a point lies in the triangle of any three of the centers.
     #[inline(always)]
     pub(crate) fn has_triangle(&self, x: &Point) -> bool
         ensures { result ≡ in_some_triangle (centers_of self.now) x.now }

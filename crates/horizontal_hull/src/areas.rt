@@ -1,4 +1,4 @@
-//! The least boxes of the horizontal and the conical surface.
+//! The least boxes of the horizontal and conical surfaces.
 
 ghost use Rattle.std.specs.Prelude.{◌≡◌, ◌<◌, ◌≤◌, [], length};
 ghost use Rattle.std.specs.Option.{MatchOption};
@@ -14,8 +14,8 @@ use crate::sizes::CONICAL_RUN;
 use grid_exact::Area;
 use outline_boxes::{Bounds, joined};
 
-/// The least boxes of the horizontal and the conical surface of an airport, 77.19(a) and (b): each holds the discs about the centers of all
-/// arcs, the conical one with all radii 4,000 feet greater.
+/// The least boxes of the horizontal and conical surfaces of an airport (77.19(a) and (b)): each contains the discs about the centers of
+/// all arcs, for the conical surface with radii 4,000 feet greater.
 #[derive(Clone, Copy, Debug, PartialEq, Eq)]
 pub struct HullAreas {
     pub horizontal: Area,
@@ -36,7 +36,7 @@ fn disc_box(arc: &Arc, c: u32) -> Area
     }
 }
 
-/// The least box that holds the discs about the centers of arcs, their radii raised by `c`.
+/// The least box that contains the discs about the centers of arcs, with radii raised by `c`.
 fn least_box(arcs: &[Arc], c: u32) -> Area
     requires some { 0 < length arcs.now }
     ensures { IsLeastBox (HoldsDiscs arcs.now c) result }
@@ -48,7 +48,7 @@ fn least_box(arcs: &[Arc], c: u32) -> Area
     least
 }
 
-/// The boxes of both surfaces; none without arcs.
+/// The boxes of both surfaces; `None` without arcs.
 pub(crate) fn areas(arcs: &[Arc]) -> Option<HullAreas>
     ensures { MatchOption result (arcs.now ≡ []) (AreHullAreas arcs.now) }
 {
@@ -61,9 +61,10 @@ pub(crate) fn areas(arcs: &[Arc]) -> Option<HullAreas>
     })
 }
 
-/// The box outside which neither surface lies, kept small; it has no point without arcs.
+/// The box that contains both surfaces, in a compact form; it contains no point without arcs.
 pub(crate) fn outer_box(arcs: &[Arc]) -> Bounds
-    ensures { (arp : Point) → All (IsNearReference arp) arcs.now → IsOuter arcs.now (box_of result) }
+    ensures { (arp : Point) → All (IsNearReference arp) arcs.now →
+        IsOuter arcs.now (box_of result) }
 {
     if arcs.is_empty() {
         return Bounds::nowhere();

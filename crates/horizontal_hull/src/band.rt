@@ -1,4 +1,4 @@
-//! What lies between the tangents of two arcs.
+//! The band between the common tangents of two arcs.
 
 ghost use Rattle.std.specs.Prelude.{◌≡◌, ◌↔◌, ◌+◌, ◌-◌, ◌*◌, ◌^◌, ◌<◌, ◌≤◌, ◌+ℤ◌, ◌-ℤ◌, ◌*ℤ◌, ◌≤ℤ◌, neg_ℤ, pos, unsigned_abs, IsTrue};
 ghost use Rattle.grid_exact.specs.Products.{cross, dot};
@@ -12,30 +12,30 @@ use crate::edge::Edge;
 use crate::sizes::CONICAL_RUN;
 use grid_exact::{Point, Vector, is_above_root, is_at_least_root, is_at_most_root, plus, scale};
 
-/// A point beside the line from the center of an arc to the center of another one, whose radius is not the smaller.
+/// A point relative to the line between the centers of two arcs; the second radius is at least the first.
 #[derive(Clone, Copy)]
 pub(crate) struct Band {
     /// The square of the distance between the centers.
     square: u64,
-    /// How far the point lies along the line, times that distance.
+    /// The distance of the point along the line, times the distance between the centers.
     along: i64,
-    /// How far it lies beside the line, times that distance.
+    /// The distance of the point to a side of the line, times the distance between the centers.
     across: u64,
-    /// How much greater the second radius is.
+    /// The second radius minus the first.
     growth: u32,
-    /// The first radius, raised.
+    /// The first radius, raised by `c`.
     radius: u32,
     ghost sized: { IsBand square along across growth radius },
 }
 
-/// How far a way leads along another one, times the length of that. It is so small that 64 bits hold it, in which more is asked faster.
+/// The component of one vector along another, times the other's length. It fits 64 bits, which are faster.
 fn along_of(way: &Vector, seen: &Vector) -> i64
     ensures { result ≡ dot way.now seen.now }
 {
     way.dot(seen) as i64
 }
 
-/// How far it leads beside it.
+/// The component of one vector at right angles to another, times the other's length.
 fn across_of(way: &Vector, seen: &Vector) -> u64
     ensures { result ≡ unsigned_abs (cross way.now seen.now) }
 {
@@ -43,12 +43,13 @@ fn across_of(way: &Vector, seen: &Vector) -> u64
 }
 
 impl Band {
-    /// The point `x` beside two arcs with radii raised by `c`.
+    /// The point `x` relative to two arcs with radii raised by `c`.
     pub(crate) fn of(a: &Arc, b: &Arc, x: &Point, c: u32) -> Band
         requires near { IsNearBoth a.now b.now x.now }
         requires order { a.now.radius ≤ b.now.radius }
         requires run { c ≤ CONICAL_RUN }
-        ensures { IsBandOf a.now b.now x.now c result.square result.along result.across result.growth result.radius }
+        ensures { IsBandOf a.now b.now x.now c result.square result.along result.across
+            result.growth result.radius }
     {
         let way = a.to_arc(b);
         let seen = a.to_point(x);
@@ -61,7 +62,7 @@ impl Band {
         }
     }
 
-    /// Whether the larger disc does not hold the smaller one.
+    /// Whether the larger disc does not contain the smaller one.
     pub(crate) fn is_open(&self) -> bool
         ensures { IsTrue result ↔ (self.now.growth * self.now.growth < self.now.square) }
     {
@@ -77,7 +78,7 @@ impl Band {
         self.square
     }
 
-    /// The square of the length of a tangent; 0 where the larger disc holds the smaller one, and there is none.
+    /// The square of the length of a tangent; 0 where the larger disc contains the smaller one, so that there is no tangent.
     fn tangent(&self) -> u64
         ensures value { result ≡ self.now.square - self.now.growth * self.now.growth }
         ensures size { result ≤ 2 ^ 41 }
@@ -86,7 +87,7 @@ impl Band {
         self.square.saturating_sub(growth * growth)
     }
 
-    /// How far beside the line the point lies, times how much greater the second radius is.
+    /// The distance of the point to a side of the line, times the difference of the radii.
     fn tilt(&self) -> u64
         ensures value { result ≡ self.now.growth * self.now.across }
         ensures size { result < 2 ^ 59 }
@@ -94,10 +95,11 @@ impl Band {
         self.growth as u64 * self.across
     }
 
-    /// Whether the point is not before where the tangents touch the first arc.
+    /// Whether the point is not before the points where the tangents touch the first arc.
     #[tactic(auto, using(crate::proofs::BandSizes::bands))]
     pub(crate) fn is_after(&self) -> bool
-        ensures { IsTrue result ↔ AtMostRoot (neg_ℤ (pos (self.now.growth * self.now.across))) self.now.along (self.now.square - self.now.growth * self.now.growth) }
+        ensures { IsTrue result ↔ AtMostRoot (neg_ℤ (pos (self.now.growth * self.now.across)))
+            self.now.along (self.now.square - self.now.growth * self.now.growth) }
     {
         is_at_most_root(
             -(self.tilt() as i128),
@@ -106,10 +108,12 @@ impl Band {
         )
     }
 
-    /// Whether the point is not past where the tangents touch the second arc.
+    /// Whether the point is not past the points where the tangents touch the second arc.
     #[tactic(auto, using(crate::proofs::BandSizes::bands))]
     pub(crate) fn is_before(&self) -> bool
-        ensures { IsTrue result ↔ AtMostRoot (pos (self.now.growth * self.now.across)) (pos self.now.square -ℤ self.now.along) (self.now.square - self.now.growth * self.now.growth) }
+        ensures { IsTrue result ↔ AtMostRoot (pos (self.now.growth * self.now.across))
+            (pos self.now.square -ℤ self.now.along)
+            (self.now.square - self.now.growth * self.now.growth) }
     {
         is_at_most_root(
             self.tilt() as i128,
@@ -118,9 +122,10 @@ impl Band {
         )
     }
 
-    /// Whether the larger disc does not hold the smaller one, and the point is not before or past where the tangents touch the arcs.
+    /// Whether the larger disc does not contain the smaller one, and the point lies between the touching points of the two arcs.
     pub(crate) fn is_between(&self) -> bool
-        ensures { IsTrue result ↔ IsBetween self.now.square self.now.along self.now.across self.now.growth }
+        ensures { IsTrue result ↔ IsBetween self.now.square self.now.along self.now.across
+            self.now.growth }
     {
         if self.growth == 0 {
             return self.is_abreast();
@@ -128,15 +133,16 @@ impl Band {
         self.is_open() && (self.is_after() && self.is_before())
     }
 
-    /// Whether the centers are apart, and the point is not before the first or past the second one. It is the same for equal radii, which
-    /// the arcs of each runway have, and is asked faster.
+    /// Whether the centers are apart and the point lies between them. For equal radii, as on the arcs of each runway, this is the same
+    /// test, and faster.
     fn is_abreast(&self) -> bool
-        ensures { IsTrue result ↔ ((0 < self.now.square) × ((pos 0 ≤ℤ self.now.along) × (self.now.along ≤ℤ pos self.now.square))) }
+        ensures { IsTrue result ↔ ((0 < self.now.square)
+            × ((pos 0 ≤ℤ self.now.along) × (self.now.along ≤ℤ pos self.now.square))) }
     {
         0 < self.square && (0 <= self.along && self.along <= self.square as i64)
     }
 
-    /// How far along the line the point lies, times the distance between the centers and how much greater the second radius is.
+    /// The distance of the point along the line, times the distance between the centers and the difference of the radii.
     #[tactic(auto, using(crate::proofs::BandSizes::bands))]
     pub(crate) fn lean(&self) -> i64
         ensures value { result ≡ pos self.now.growth *ℤ self.now.along }
@@ -145,18 +151,21 @@ impl Band {
         self.growth as i64 * self.along
     }
 
-    /// The square of how far beside the line the point lies, times the square of that distance and of the length of a tangent.
+    /// The square of the distance to a side of the line, times the squares of the distance between the centers and of the tangent's
+    /// length.
     pub(crate) fn reach(&self) -> u128
-        ensures { result ≡ self.now.across * self.now.across * (self.now.square - self.now.growth * self.now.growth) }
+        ensures { result ≡ self.now.across * self.now.across
+            * (self.now.square - self.now.growth * self.now.growth) }
     {
         let across = self.across as u128;
         across * across * self.tangent() as u128
     }
 
-    /// How far beside the line a tangent passes, times the distance between the centers and times the length of the tangent.
+    /// The distance of a tangent to the side of the line, times the distance between the centers and the length of the tangent.
     #[tactic(auto, using(crate::proofs::BandSizes::bands))]
     fn width(&self) -> i128
-        ensures value { result ≡ pos (self.now.radius * self.now.square) +ℤ pos self.now.growth *ℤ self.now.along }
+        ensures value { result ≡ pos (self.now.radius * self.now.square)
+            +ℤ pos self.now.growth *ℤ self.now.along }
         ensures size { unsigned_abs result < 2 ^ 62 }
     {
         plus(
@@ -165,10 +174,12 @@ impl Band {
         )
     }
 
-    /// Whether the point is not beyond a tangent.
+    /// Whether the point is not outside a tangent.
     #[tactic(auto, using(crate::proofs::BandSizes::bands))]
     pub(crate) fn is_under(&self, edge: Edge) -> bool
-        ensures { IsTrue result ↔ ReachesRoot edge (pos (self.now.radius * self.now.square) +ℤ pos self.now.growth *ℤ self.now.along) self.now.across (self.now.square - self.now.growth * self.now.growth) }
+        ensures { IsTrue result ↔ ReachesRoot edge
+            (pos (self.now.radius * self.now.square) +ℤ pos self.now.growth *ℤ self.now.along)
+            self.now.across (self.now.square - self.now.growth * self.now.growth) }
     {
         let width = self.width();
         let across = self.across as i128;

@@ -11,13 +11,13 @@ use crate::edge::Edge;
 use crate::sizes::{ARC_MOST, CONICAL_RUN};
 use grid_exact::{Point, Vector};
 
-/// Whether a point is at most `c` beyond the arc about its center.
+/// Whether a point is at most `c` outside the arc: in its disc with the radius raised by `c`.
 fn is_in_disc(edge: Edge, a: &Arc, x: &Point, c: u32) -> bool
     requires radius { a.now.radius ≤ ARC_MOST }
     requires run { c ≤ CONICAL_RUN }
     ensures { IsTrue result ↔ InDisc edge a.now x.now c }
 {
-    // 64 bits hold both squares, in which they are asked faster.
+    // 64 bits hold both squares, and are faster.
     let away = a.to_point(x).square_length() as u64;
     let radius = u64::from(a.radius() + c);
     match edge {
@@ -26,12 +26,13 @@ fn is_in_disc(edge: Edge, a: &Arc, x: &Point, c: u32) -> bool
     }
 }
 
-/// Whether the larger of two arcs, the second, does not hold the smaller one, and a point lies in the smaller disc or between the tangents.
+/// Whether the second, larger disc does not contain the first one, and a point lies in the first disc or between the tangents.
 fn is_in_smaller_part(edge: Edge, a: &Arc, b: &Arc, x: &Point, c: u32) -> bool
     requires near { IsNearBoth a.now b.now x.now }
     requires order { a.now.radius ≤ b.now.radius }
     requires run { c ≤ CONICAL_RUN }
-    ensures { IsTrue result ↔ ((flare a.now b.now * flare a.now b.now < span a.now b.now) × (InDisc edge a.now x.now c ⊎ InBand edge a.now b.now x.now c)) }
+    ensures { IsTrue result ↔ ((flare a.now b.now * flare a.now b.now < span a.now b.now)
+        × (InDisc edge a.now x.now c ⊎ InBand edge a.now b.now x.now c)) }
 {
     let band = Band::of(a, b, x, c);
     if !band.is_open() {
@@ -43,7 +44,7 @@ fn is_in_smaller_part(edge: Edge, a: &Arc, b: &Arc, x: &Point, c: u32) -> bool
     band.is_after() && band.is_before() && band.is_under(edge)
 }
 
-/// Whether a point lies in the tapered capsule of two arcs with radii raised by `c`, where the first is not the larger one.
+/// Whether a point lies in the tapered capsule of two arcs with radii raised by `c`; the first radius is at most the second.
 fn is_in_tapered(edge: Edge, a: &Arc, b: &Arc, x: &Point, c: u32) -> bool
     requires near { IsNearBoth a.now b.now x.now }
     requires order { a.now.radius ≤ b.now.radius }
@@ -53,35 +54,35 @@ fn is_in_tapered(edge: Edge, a: &Arc, b: &Arc, x: &Point, c: u32) -> bool
     is_in_disc(edge, b, x, c) || is_in_smaller_part(edge, a, b, x, c)
 }
 
-/// Whether a disc that reaches so far lies west of a point that is seen so from its center.
+/// Whether a disc of this radius lies west of a point, which is given relative to the center.
 fn is_west(seen: &Vector, reach: u32) -> bool
     ensures { IsTrue result ↔ (pos reach <ℤ seen.now.x) }
 {
     i64::from(reach) < seen.x
 }
 
-/// Whether it lies east of it.
+/// Whether the disc lies east of the point.
 fn is_east(seen: &Vector, reach: u32) -> bool
     ensures { IsTrue result ↔ (seen.now.x <ℤ neg_ℤ (pos reach)) }
 {
     seen.x < -i64::from(reach)
 }
 
-/// Whether it lies south of it.
+/// Whether the disc lies south of the point.
 fn is_south(seen: &Vector, reach: u32) -> bool
     ensures { IsTrue result ↔ (pos reach <ℤ seen.now.y) }
 {
     i64::from(reach) < seen.y
 }
 
-/// Whether it lies north of it.
+/// Whether the disc lies north of the point.
 fn is_north(seen: &Vector, reach: u32) -> bool
     ensures { IsTrue result ↔ (seen.now.y <ℤ neg_ℤ (pos reach)) }
 {
     seen.y < -i64::from(reach)
 }
 
-/// Whether both discs about the centers of two arcs, their radii raised by `c`, lie on one side of a point: then so does the capsule.
+/// Whether both discs of two arcs, with radii raised by `c`, lie on the same side of a point: then the capsule does too.
 fn is_beside(a: &Arc, b: &Arc, x: &Point, c: u32) -> bool
     requires first_radius { a.now.radius ≤ ARC_MOST }
     requires second_radius { b.now.radius ≤ ARC_MOST }
@@ -114,7 +115,7 @@ pub(crate) fn is_in_capsule(edge: Edge, a: &Arc, b: &Arc, x: &Point, c: u32) -> 
     }
 }
 
-/// Whether the larger of two arcs, the second, does not hold the smaller one.
+/// Whether the second, larger disc does not contain the first one.
 fn is_apart(a: &Arc, b: &Arc) -> bool
     requires first_radius { a.now.radius ≤ ARC_MOST }
     requires second_radius { b.now.radius ≤ ARC_MOST }
@@ -125,8 +126,8 @@ fn is_apart(a: &Arc, b: &Arc) -> bool
     growth * growth < a.to_arc(b).square_length() as u64
 }
 
-/// Whether a point lies in the disc of the second of two arcs, which is not the smaller one, or in that of the first one where the second
-/// does not hold it: then it lies in their tapered capsule.
+/// Whether a point lies in the second, larger disc, or in the first one where the second does not contain it: then it lies in the
+/// tapered capsule.
 #[inline(always)]
 fn is_in_two_discs(a: &Arc, b: &Arc, x: &Point) -> bool
     requires first_radius { a.now.radius ≤ ARC_MOST }
@@ -137,7 +138,7 @@ fn is_in_two_discs(a: &Arc, b: &Arc, x: &Point) -> bool
     is_in_disc(Edge::Closed, b, x, 0) || (is_in_disc(Edge::Closed, a, x, 0) && is_apart(a, b))
 }
 
-/// Whether a point lies in the disc of one of two arcs, so that no more has to be asked of their capsule.
+/// Whether a point lies in the disc of one of two arcs, so that the capsule needs no further test.
 #[inline(always)]
 pub(crate) fn is_in_discs(a: &Arc, b: &Arc, x: &Point) -> bool
     requires near { IsNearBoth a.now b.now x.now }

@@ -1,10 +1,10 @@
-//! With or without its edge.
+//! Areas with or without their edge.
 
-/// Whether what bounds a surface is taken as part of it.
+/// Whether the edge of an area belongs to it.
 #[derive(Clone, Copy, Debug, PartialEq, Eq)]
 pub(crate) enum Edge {
     /// The edge belongs to it.
     Closed,
-    /// It ends before its edge.
+    /// The edge does not belong to it.
     Open,
 }

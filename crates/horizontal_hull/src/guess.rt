@@ -1,12 +1,12 @@
-//! A guess of how much higher than the horizontal surface the conical one is, by two arcs. It says nearly always what is found, so that
-//! little is asked; what is found does not rest on it.
+//! A floating-point guess of the height of the conical surface above the horizontal one, for two arcs. It is nearly always right and so
+//! saves tests; correctness does not depend on it.
 
 use crate::arc::{Arc, larger, smaller};
 use crate::sizes::{CONICAL_RISE, CONICAL_SLOPE};
 use grid_exact::{Point, Vector};
 use std::num::saturating_f64_to_u32;
 
-/// A way in floating-point numbers, which hold its parts and their products exactly.
+/// A vector in floating-point numbers, which hold its components and their products exactly.
 #[derive(Clone, Copy)]
 struct Way {
     x: f64,
@@ -14,7 +14,7 @@ struct Way {
 }
 
 impl Way {
-    /// The same way. Its parts fit 32 bits, from which they are converted in one step.
+    /// The same vector. Its components fit 32 bits, which are converted in one step.
     fn of(way: &Vector) -> Way {
         Way {
             x: f64::from(way.x as i32),
@@ -27,24 +27,24 @@ impl Way {
         self.x * self.x + self.y * self.y
     }
 
-    /// How far another way leads along it, times its length.
+    /// The component of another vector along this one, times this one's length.
     fn along(&self, seen: &Way) -> f64 {
         self.x * seen.x + self.y * seen.y
     }
 
-    /// How far that leads beside it, times its length.
+    /// The component of another vector at right angles to this one, times this one's length.
     fn across(&self, seen: &Way) -> f64 {
         (self.x * seen.y - self.y * seen.x).abs()
     }
 
-    /// How far its end is from its start.
+    /// The length of the vector.
     fn length(&self) -> f64 {
         self.square().sqrt()
     }
 }
 
-/// How far a point that is seen so from the first of two centers is beyond the arcs joined by their tangents, about. The second one lies so
-/// from the first, and its radius is so much greater.
+/// The approximate distance of a point outside two arcs joined by their tangents. `seen` leads from the first center to the point and
+/// `way` to the second center; `growth` is the second radius minus the first.
 fn beyond(way: &Way, seen: &Way, radius: f64, growth: f64) -> f64 {
     let square = way.square();
     let tangent = square - growth * growth;
@@ -69,7 +69,7 @@ fn beyond(way: &Way, seen: &Way, radius: f64, growth: f64) -> f64 {
     (across * root - growth * along) / square - radius
 }
 
-/// The guess for two arcs, whichever is the smaller; 0 within them.
+/// The guess for two arcs in either order; 0 within them.
 #[inline(always)]
 pub(crate) fn guess_rise(a: &Arc, b: &Arc, x: &Point) -> u32 {
     let first = smaller(a, b);
@@ -82,7 +82,7 @@ pub(crate) fn guess_rise(a: &Arc, b: &Arc, x: &Point) -> u32 {
     if beyond <= 0.0 {
         return 0;
     }
-    // to multiply is faster than to divide
+    // multiplying is faster than dividing
     let rise = beyond * (1.0 / f64::from(CONICAL_SLOPE));
     saturating_f64_to_u32(rise).min(CONICAL_RISE - 1) + 1
 }

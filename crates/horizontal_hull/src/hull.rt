@@ -27,13 +27,14 @@ use outline_boxes::{Bounds, Spot};
 use std::alloc::Global;
 use std::marker::Model;
 
-/// The horizontal and conical surfaces of an airport, 77.19(a) and (b), prepared for many points; seen as its arcs and its level.
+/// The horizontal and conical surfaces of an airport (77.19(a) and (b)), prepared for many points; contracts see it as its arcs and its
+/// level.
 ///
-/// 77.19 is for civil airports. Where the airport's category has no civil surfaces, there are no arcs: nothing is within, no cap is
-/// there, and no top is above either surface.
+/// 77.19 is for civil airports. Where the airport's category has no civil surfaces, there are no arcs: no point is within them, every cap
+/// is `Beyond`, and neither surface is exceeded.
 #[derive(Drop)]
 pub struct Hull {
-    /// The box outside which neither surface lies. It stands first, since each structure asks for it, and for more only where it has the
+    /// The box that contains both surfaces. It is stored first, since each structure reads it, and reads more only where it contains the
     /// structure's point.
     outer: Bounds,
     arcs: Arcs,
@@ -53,7 +54,7 @@ impl Model for Hull {
 }
 
 impl Hull {
-    /// The surfaces of an airport that keeps the limits of a register's airports; without arcs where its category has no civil surfaces.
+    /// The surfaces of an airport within the limits of the register; without arcs where its category has no civil surfaces.
     ///
     /// # Errors
     ///
@@ -71,8 +72,8 @@ impl Hull {
         })
     }
 
-    /// The least boxes of the horizontal and the conical surface: each holds the discs about the centers of all arcs, whose radii are as
-    /// much greater as the surface goes outward. `None` where the airport has no arcs, and so neither surface.
+    /// The least boxes of the horizontal and conical surfaces: each contains the discs about the centers of all arcs, with radii raised
+    /// by the extent of the surface. `None` where the airport has no arcs, and so neither surface.
     pub fn areas(&self) -> Option<HullAreas>
         ensures exact { MatchOption result (self.now.arcs ≡ []) (AreHullAreas self.now.arcs) }
         ensures covers { IfSome result (CoverHull self.now) }
@@ -80,15 +81,16 @@ impl Hull {
         areas(self.arcs.as_slice())
     }
 
-    /// Whether a point lies in the box outside which neither surface lies.
+    /// Whether a point lies in the box that contains both surfaces.
     fn reaches(&self, x: &Point) -> bool
         ensures close { IsTrue result → AreClose self.now.arcs x.now }
-        ensures all { (edge : Edge) (c : ℕ) → c ≤ CONICAL_RUN → Within edge self.now.arcs x.now c → IsTrue result }
+        ensures all { (edge : Edge) (c : ℕ) → c ≤ CONICAL_RUN →
+            Within edge self.now.arcs x.now c → IsTrue result }
     {
         self.outer.has(&Spot::of(x))
     }
 
-    /// Whether a point is at most `c` beyond the arcs joined by their tangents, or less than `c` without the edge.
+    /// Whether a point is at most `c` outside the arcs joined by their tangents, or less than `c` without the edge.
     fn is_within(&self, edge: Edge, x: &Point, c: u32) -> bool
         requires run { c ≤ CONICAL_RUN }
         ensures { result ≡ is_within_of edge self.now.arcs x.now c }
@@ -96,14 +98,15 @@ impl Hull {
         if !self.reaches(x) {
             return false;
         }
-        // First the triangles, which are asked faster.
+        // Triangles first, which are faster.
         if self.arcs.has_triangle(x) {
             return true;
         }
         is_in_some_capsule(edge, self.arcs.as_slice(), x, c)
     }
 
-    /// Whether a point is at most `c` beyond the arcs joined by their tangents, 77.19(a) and (b). At 0 the horizontal surface covers it.
+    /// Whether a point is at most `c` outside the arcs joined by their tangents, in tenths of a foot (77.19(a), (b)). At 0 the horizontal
+    /// surface covers it.
     pub fn within(&self, x: &Point, c: u32) -> bool
         requires run { c ≤ CONICAL_RUN }
         ensures exact { IsTrue result ↔ Within Edge.Closed self.now.arcs x.now c }
@@ -111,7 +114,7 @@ impl Hull {
         self.is_within(Edge::Closed, x, c)
     }
 
-    /// Whether a point is less than `c` beyond the arcs joined by their tangents, or in a triangle of their centers.
+    /// Whether a point is less than `c` outside the arcs joined by their tangents, or in a triangle of their centers.
     pub fn strictly_within(&self, x: &Point, c: u32) -> bool
         requires run { c ≤ CONICAL_RUN }
         ensures exact { IsTrue result ↔ Within Edge.Open self.now.arcs x.now c }
@@ -119,7 +122,7 @@ impl Hull {
         self.is_within(Edge::Open, x, c)
     }
 
-    /// The same at a point that the horizontal surface does not cover: no triangle of centers has it, so that only capsules are asked.
+    /// The same for a point that the horizontal surface does not cover: no triangle contains it, so only capsules are tested.
     fn is_within_beyond(&self, edge: Edge, x: &Point, c: u32) -> bool
         requires beyond { ¬ Within Edge.Closed self.now.arcs x.now 0 }
         requires run { c ≤ CONICAL_RUN }
@@ -131,15 +134,16 @@ impl Hull {
         is_in_some_capsule(edge, self.arcs.as_slice(), x, c)
     }
 
-    /// How much higher than the horizontal surface the least level at or above both surfaces is: 0 where the horizontal one covers the
+    /// The height above the horizontal surface of the least level at or above both surfaces: 0 where the horizontal surface covers the
     /// point, and `None` where neither does.
     fn rise(&self, x: &Point) -> Option<u32>
-        ensures { MatchOption result (¬ Within Edge.Closed self.now.arcs x.now CONICAL_RUN) (IsRise self.now.arcs x.now) }
+        ensures { MatchOption result (¬ Within Edge.Closed self.now.arcs x.now CONICAL_RUN)
+            (IsRise self.now.arcs x.now) }
     {
         if !self.reaches(x) {
             return None;
         }
-        // First the triangles, which are asked faster.
+        // Triangles first, which are faster.
         if self.arcs.has_triangle(x) {
             return Some(0);
         }
@@ -150,7 +154,7 @@ impl Hull {
         Some(rise)
     }
 
-    /// The least level at or above the conical surface, so much higher than the horizontal one.
+    /// The least level at or above the conical surface, which is `rise` above the horizontal surface.
     fn level_at(&self, x: &Point, rise: u32) -> i64
         requires rise { IsRise self.now.arcs x.now rise }
         ensures least { IsLeastConical self.now x.now result }
@@ -159,7 +163,7 @@ impl Hull {
         self.level + i64::from(rise)
     }
 
-    /// Where a point stands under the horizontal and the conical surface, 77.19(a) and (b). All other answers at the point follow from it.
+    /// The surface that covers a point, horizontal, conical or neither (77.19(a), (b)). The other results for the point follow from it.
     pub fn standing(&self, x: &Point) -> Standing
         ensures { IsStanding self.now x.now result }
     {
@@ -172,12 +176,13 @@ impl Hull {
         Standing::Conical(self.level_at(x, rise))
     }
 
-    /// The lowest whole level at or above the horizontal and the conical surface at a point that stands so, in tenths of a foot: 77.19(a)
-    /// and (b). `Beyond` where neither lies over it.
+    /// The lowest whole level at or above the horizontal and conical surfaces at a point with this standing, in tenths of a foot
+    /// (77.19(a), (b)). `Beyond` where neither covers it.
     #[tactic(auto, using(crate::proofs::Listed::cap_listed))]
     pub fn cap_at(&self, standing: &Standing) -> Cap
         ensures exact { (x : Point) → IsStanding self.now x standing.now → IsCap self.now x result }
-        ensures value { (x : Point) → IsStanding self.now x standing.now → result ≡ cap_of self.now x }
+        ensures value { (x : Point) → IsStanding self.now x standing.now →
+            result ≡ cap_of self.now x }
     {
         match standing {
             Standing::Horizontal => Cap::Level(self.level),
@@ -186,8 +191,8 @@ impl Hull {
         }
     }
 
-    /// The lowest whole level at or above the horizontal and the conical surface at a point, in tenths of a foot: 77.19(a) and (b).
-    /// `Beyond` where neither lies over it.
+    /// The lowest whole level at or above the horizontal and conical surfaces at a point, in tenths of a foot (77.19(a), (b)). `Beyond`
+    /// where neither covers it.
     pub fn cap(&self, x: &Point) -> Cap
         ensures exact { IsCap self.now x.now result }
         ensures value { result ≡ cap_of self.now x.now }
@@ -195,12 +200,14 @@ impl Hull {
         self.cap_at(&self.standing(x))
     }
 
-    /// How far `top` is above the horizontal surface at a point that stands so, in tenths of a foot: 77.19(a). `None` where it is not
-    /// above, and where the surface does not cover the point.
+    /// The excess of `top` over the horizontal surface at a point with this standing, in tenths of a foot (77.19(a)). `None` where it is
+    /// not above, or the surface does not cover the point.
     pub fn excess_horizontal_at(&self, standing: &Standing, top: i64) -> Option<u32>
         requires top { IsLevel top }
-        ensures exact { (x : Point) → IsStanding self.now x standing.now → IsExcess (horizontal self.now x) top result }
-        ensures value { (x : Point) → IsStanding self.now x standing.now → result ≡ horizontal_excess self.now x top }
+        ensures exact { (x : Point) → IsStanding self.now x standing.now →
+            IsExcess (horizontal self.now x) top result }
+        ensures value { (x : Point) → IsStanding self.now x standing.now →
+            result ≡ horizontal_excess self.now x top }
     {
         match standing {
             Standing::Horizontal => flat_excess(self.level, top),
@@ -209,8 +216,8 @@ impl Hull {
         }
     }
 
-    /// How far `top` is above the horizontal surface at a point, in tenths of a foot: 77.19(a). `None` where it is not above, and where
-    /// the surface does not cover the point.
+    /// The excess of `top` over the horizontal surface at a point, in tenths of a foot (77.19(a)). `None` where it is not above, or the
+    /// surface does not cover the point.
     pub fn excess_horizontal(&self, x: &Point, top: i64) -> Option<u32>
         requires top { IsLevel top }
         ensures exact { IsExcess (horizontal self.now x.now) top result }
@@ -222,8 +229,8 @@ impl Hull {
         self.excess_horizontal_at(&self.standing(x), top)
     }
 
-    /// How far `top` is above the conical surface, at a point that this covers, by the least whole level at or above it. The surface lies
-    /// at that level or less than one below it, so that only at the level itself the point has to be asked once more.
+    /// The excess of `top` over the conical surface at a point that it covers, from the least whole level at or above it. The surface
+    /// lies at that level or less than one below it, so only a top at the level itself needs another test of the point.
     fn excess_over_conical(&self, x: &Point, least: i64, top: i64) -> Option<u32>
         requires covers { ConicalCovers self.now x.now }
         requires least { IsLeastConical self.now x.now least }
@@ -231,7 +238,7 @@ impl Hull {
         ensures exact { IsExcess (conical self.now x.now) top result }
         ensures value { result ≡ conical_excess self.now x.now top }
     {
-        // First of all: that the hull's level is read tells the proof how large `least` can be.
+        // First of all: reading the hull's level gives the proof the bound of `least`.
         let rise = (least - self.level) as u32;
         if top < least {
             return None;
@@ -245,8 +252,8 @@ impl Hull {
         Some(0)
     }
 
-    /// How far `top` is above the conical surface at a point that stands so, in tenths of a foot, rounded down: 77.19(b). `None` where it
-    /// is not above, and where the surface does not cover the point.
+    /// The excess of `top` over the conical surface at a point with this standing, in tenths of a foot, rounded down (77.19(b)). `None`
+    /// where it is not above, or the surface does not cover the point.
     pub fn excess_conical_at(&self, x: &Point, standing: &Standing, top: i64) -> Option<u32>
         requires standing { IsStanding self.now x.now standing.now }
         requires top { IsLevel top }
@@ -259,8 +266,8 @@ impl Hull {
         }
     }
 
-    /// How far `top` is above the conical surface at a point, in tenths of a foot, rounded down: 77.19(b). `None` where it is not above,
-    /// and where the surface does not cover the point.
+    /// The excess of `top` over the conical surface at a point, in tenths of a foot, rounded down (77.19(b)). `None` where it is not
+    /// above, or the surface does not cover the point.
     pub fn excess_conical(&self, x: &Point, top: i64) -> Option<u32>
         requires top { IsLevel top }
         ensures exact { IsExcess (conical self.now x.now) top result }

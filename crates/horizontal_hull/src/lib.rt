@@ -1,5 +1,5 @@
-//! The horizontal and conical surfaces of an airport, 77.19(a) and (b): arcs about both ends of each runway's primary surface, joined by
-//! their common tangents, and what lies around them. Lengths, coordinates and levels are whole tenths of a foot.
+//! The horizontal and conical surfaces of an airport (77.19(a), (b)): arcs about both ends of each runway's primary surface, joined by
+//! their common tangents, and the ring around them. Lengths, coordinates and levels are whole tenths of a foot.
 #![tactic(auto)]
 
 mod arc;
@@ -19,6 +19,6 @@ mod standing;
 
 pub use areas::HullAreas;
 pub use hull::Hull;
-pub use laws::{cap_is, conical_excess_is, horizontal_excess_is};
+pub use laws::{cap_is, conical_excess_is, horizontal_excess_is, numbers};
 pub use sizes::{CONICAL_RISE, CONICAL_RUN, CONICAL_SLOPE, HORIZONTAL_RISE};
 pub use standing::Standing;

@@ -1,4 +1,4 @@
-//! How much higher than the horizontal surface the conical one is.
+//! The height of the conical surface above the horizontal one.
 
 ghost use Rattle.std.specs.Prelude.{◌∷◌, ◌+◌, ◌<◌, ◌≤◌};
 ghost use Rattle.std.specs.List.{list_any};
@@ -13,7 +13,7 @@ use crate::seen::Seen;
 use crate::sizes::{CONICAL_RISE, CONICAL_SLOPE};
 use grid_exact::Point;
 
-/// What is asked next of a search from `least` to `reached`: the guess, then the number below or above it, and then the middle.
+/// The next value tested in a search from `least` to `reached`: the guess, then the number below or above it, and then the middle.
 fn probe(least: u32, reached: u32, guess: u32) -> u32
     requires open { least < reached }
     ensures low { least ≤ result }
@@ -31,7 +31,7 @@ fn probe(least: u32, reached: u32, guess: u32) -> u32
     least + (reached - least) / 2
 }
 
-/// The least rise, below `most`, of the capsule of two arcs that has a point.
+/// The least rise, below `most`, at which the capsule of two arcs contains the point.
 #[inline(always)]
 fn rise_of_two(a: &Arc, b: &Arc, x: &Point, most: u32) -> u32
     requires near { IsNearBoth a.now b.now x.now }
@@ -41,7 +41,7 @@ fn rise_of_two(a: &Arc, b: &Arc, x: &Point, most: u32) -> u32
     if most == 0 {
         return 0;
     }
-    // First the discs, which are asked faster.
+    // Discs first, which are faster.
     if is_in_discs(a, b, x) {
         return 0;
     }
@@ -60,7 +60,7 @@ fn rise_of_two(a: &Arc, b: &Arc, x: &Point, most: u32) -> u32
     reached
 }
 
-/// The least rise, below `most`, of the capsules of an arc and each of others.
+/// The least rise, below `most`, at which the capsule of an arc and any one of the others contains the point.
 fn rise_with(a: &Arc, others: &[Arc], x: &Point, most: u32) -> u32
     requires close { AreClose (a.now ∷ others.now) x.now }
     requires most { most ≤ CONICAL_RISE + 1 }
@@ -73,12 +73,12 @@ fn rise_with(a: &Arc, others: &[Arc], x: &Point, most: u32) -> u32
     rise
 }
 
-/// The least rise of the capsules of some two arcs that has a point; more than the conical surface rises where none has it.
+/// The least rise at which the capsule of any two arcs contains the point; more than `CONICAL_RISE` where none does.
 pub(crate) fn least_rise(arcs: &[Arc], x: &Point) -> u32
     requires close { AreClose arcs.now x.now }
     ensures { IsLeastRise (λ k. some_two (in_risen x.now k) arcs.now) (CONICAL_RISE + 1) result }
 {
-    // An airport with one runway has but two.
+    // An airport with one runway has only two arcs.
     if let [a, b] = arcs {
         return rise_of_two(a, b, x, CONICAL_RISE + 1);
     }

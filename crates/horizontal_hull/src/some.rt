@@ -1,4 +1,4 @@
-//! Some two arcs of an airport.
+//! Tests over all pairs of an airport's arcs.
 
 ghost use Rattle.std.specs.Prelude.{◌≡◌, ◌∷◌, ◌≤◌};
 ghost use Rattle.std.specs.List.{list_any};
@@ -12,7 +12,7 @@ use crate::edge::Edge;
 use crate::sizes::CONICAL_RUN;
 use grid_exact::Point;
 
-/// Whether a point lies in the capsule of an arc and one of others, with radii raised by `c`.
+/// Whether a point lies in the capsule of an arc and any one of the others, with radii raised by `c`.
 fn is_in_capsule_with(edge: Edge, a: &Arc, others: &[Arc], x: &Point, c: u32) -> bool
     requires close { AreClose (a.now ∷ others.now) x.now }
     requires run { c ≤ CONICAL_RUN }
@@ -26,7 +26,7 @@ fn is_in_capsule_with(edge: Edge, a: &Arc, others: &[Arc], x: &Point, c: u32) ->
     false
 }
 
-/// Whether a point lies in the capsule of some two arcs with radii raised by `c`.
+/// Whether a point lies in the capsule of any two arcs with radii raised by `c`.
 pub(crate) fn is_in_some_capsule(edge: Edge, arcs: &[Arc], x: &Point, c: u32) -> bool
     requires close { AreClose arcs.now x.now }
     requires run { c ≤ CONICAL_RUN }

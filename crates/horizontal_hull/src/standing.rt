@@ -1,12 +1,12 @@
-//! Where a point stands.
+//! The surface over a point.
 
-/// Where a point stands under the horizontal and the conical surface of an airport, 77.19(a) and (b).
+/// The surface of an airport that covers a point: horizontal, conical or neither (77.19(a), (b)).
 #[derive(Clone, Copy, Debug, PartialEq, Eq)]
 pub enum Standing {
-    /// The horizontal surface lies over the point.
+    /// The horizontal surface covers the point.
     Horizontal,
-    /// The conical surface does; the least whole level at or above it, in tenths of a foot.
+    /// The conical surface covers it; the value is the least whole level at or above it, in tenths of a foot.
     Conical(i64),
-    /// Neither does.
+    /// Neither surface covers it.
     Beyond,
 }

@@ -1,4 +1,4 @@
--- Where the lines of a head end.
+-- The ends of a head's lines.
 use Rattle.std.specs.Prelude.{ℕ, ◌≡◌, ◌≢◌, ◌<◌, ◌+◌, ◌-◌, ◌==◌, ◌∷◌, ◌++◌, Bool, true, false, List, length, take, slice_index}
 use Rattle.std.specs.List.{count_by}
 use Rattle.httparse.specs.Grammar.{IsToken, AllPass, is_uri_byte}
@@ -9,17 +9,17 @@ use Rattle.http_heads.specs.declared.lines.TheConstants.{LINES}
 abbrev pub is_feed : ℕ → Bool
 is_feed b = b == 10
 
--- how many lines end in the first bytes
+-- the number of line feeds in the first bytes
 abbrev pub feeds_before : List ℕ → ℕ → ℕ
 feeds_before bytes at = count_by is_feed (take at bytes)
 
--- the byte is the first that is no line's end
+-- the index of the first byte that is neither CR nor LF
 pub record IsFirstVisible (bytes : List ℕ) (at : ℕ) : Type 0 where
   pub within : at < length bytes
   pub visible : is_newline (slice_index bytes at) ≡ false
   pub earlier : (k : ℕ) → k < at → is_newline (slice_index bytes k) ≡ true
 
--- a byte stands behind the end of the line after which no field may begin
+-- the index after the start line and the greatest number of fields, where a byte is
 pub record IsBehind (bytes : List ℕ) (at : ℕ) : Type 0 where
   pub within : at < length bytes
   pub feeds : feeds_before bytes at ≡ LINES
@@ -33,7 +33,7 @@ pub record IsFirstOther (test : ℕ → Bool) (text : List ℕ) (at : ℕ) : Typ
   pub fails : test (slice_index text at) ≡ false
   pub earlier : (k : ℕ) → k < at → test (slice_index text k) ≡ true
 
--- each CR before the place has an LF behind it
+-- each CR before the index is followed by LF
 abbrev pub HasWholeEnds : List ℕ → ℕ → Type 0
 HasWholeEnds bytes start = (k : ℕ) → k < start → slice_index bytes k ≡ 13 → slice_index bytes (k + 1) ≡ 10
 

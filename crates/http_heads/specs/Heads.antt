@@ -1,4 +1,4 @@
--- When the bytes of a request's head are a whole head, and when they are refused before that.
+-- When a request's bytes are a whole head, and when they are refused before that.
 use Rattle.std.specs.Prelude.{ℕ, ◌≡◌, ◌≢◌, ◌≤◌, ◌<◌, ◌⊎◌, List, [], ◌∷◌, ◌++◌, length}
 use Rattle.std.specs.List.{flat_map}
 use Rattle.httparse.specs.Grammar.{RequestHead, IsRequestHead, ReadsRequest, EndsInTarget, print_blank, print_version, print_end, print_field}
@@ -12,14 +12,14 @@ use Rattle.http_heads.specs.declared.decision.Decision.TheVariants as decision
 abbrev pub IsHead : List ℕ → RequestHead → Type 0
 IsHead bytes head = ReadsRequest bytes head []
 
--- a head's bytes up to the empty line that ends it
+-- a head's bytes without the empty line that ends it
 abbrev pub open_head : RequestHead → List ℕ
 open_head h =
     print_blank h.blank
     ++ h.method ++ 32 ∷ h.target ++ 32 ∷ print_version h.minor ++ print_end h.line_end
     ++ flat_map print_field h.fields
 
--- the bytes are as many whole fields as a head may have, after their start line, and then a byte other than CR and LF
+-- after their start line the bytes have the greatest number of whole fields, and then a byte other than CR and LF
 pub record IsCrowded (bytes : List ℕ) : Type 0 where
   pub head : RequestHead
   pub byte : ℕ
@@ -29,11 +29,11 @@ pub record IsCrowded (bytes : List ℕ) : Type 0 where
   pub no_feed : byte ≢ 10
   pub bytes_are : bytes ≡ open_head head ++ byte ∷ []
 
--- a whole head with at most so many fields as a head may have
+-- a whole head with at most the greatest number of fields
 abbrev pub IsGood : List ℕ → Type 0
 IsGood bytes = (h : RequestHead) × IsHead bytes h × (length h.fields ≤ MOST_FIELDS)
 
--- the most fields and a further one begun, or the most bytes and no whole head
+-- the greatest number of fields and the beginning of a further one, or the greatest size without a whole head
 abbrev pub IsTooLarge : List ℕ → Type 0
 IsTooLarge bytes = IsCrowded bytes ⊎ ((length bytes ≡ HEAD_LIMIT) × (IsGood bytes → ⊥))
 
@@ -58,11 +58,11 @@ pub record RefusesMalformed (bytes : List ℕ) : Type 0 where
   pub hopeless : IsHopeless front
   pub first : (q r : List ℕ) → front ≡ q ++ r → (IsTooLarge q → ⊥) × (IsGood q → ⊥)
 
--- of no prefix anything is known yet
+-- no prefix of the bytes is decided yet
 pub record IsOpen (bytes : List ℕ) : Type 0 where
   pub none : (q r : List ℕ) → bytes ≡ q ++ r → (IsTooLarge q → ⊥) × (IsHopeless q → ⊥) × (IsGood q → ⊥)
 
--- what is known of the bytes of a head
+-- the decision on the bytes of a head
 abbrev pub Decides : List ℕ → List HeaderSpan → Decision → Type 0
 Decides bytes headers (decision.Whole spans) =
     IsRequestWithin bytes headers spans
@@ -71,7 +71,7 @@ Decides bytes headers decision.Wanting = IsOpen bytes
 Decides bytes headers decision.TooLarge = RefusesLarge bytes
 Decides bytes headers decision.Malformed = RefusesMalformed bytes
 
--- the bytes are refused for this
+-- the bytes are refused with this decision
 abbrev pub Refuses : List ℕ → Decision → Type 0
 Refuses bytes decision.TooLarge = RefusesLarge bytes
 Refuses bytes decision.Malformed = RefusesMalformed bytes

@@ -1,4 +1,4 @@
-//! What is known of a request's head whose bytes come bit by bit.
+//! Decides on the head of a request while its bytes arrive.
 
 ghost use Rattle.std.specs.Prelude.{◌≡◌, ◌≤◌, ◌<◌, ℕ, List, true, false, length, ◌++◌, take, ◌∷◌, []};
 ghost use Rattle.http_heads.specs.Heads.{Decides, Refuses, IsCrowded, IsHead};
@@ -10,31 +10,33 @@ use crate::target::ends_in_target;
 use httparse::spans::{EMPTY_HEADER_SPAN, HeaderSpan, RequestSpans, parse_request};
 use httparse::{Error, Status};
 
-/// A head has at most so many fields.
+/// Most header fields accepted.
 pub const MOST_FIELDS: usize = 64;
 
-/// A head has at most so many bytes, up to and with its empty line.
+/// The greatest size of a head in bytes, with its final empty line.
 pub const HEAD_LIMIT: usize = 16_384;
 
-/// What is decided on the bytes of a head that have come so far.
+/// The decision on the bytes of a head so far.
 #[derive(Clone, Copy, Debug, PartialEq, Eq)]
 pub enum Decision {
-    /// A whole head is at the front. The spans say where its parts stand, and how many bytes it has.
+    /// The bytes begin with a whole head. The spans give the positions of its parts and its size in bytes.
     Whole(RequestSpans),
-    /// More bytes are wanted.
+    /// More bytes are needed.
     Wanting,
-    /// It has more than [`MOST_FIELDS`] fields or [`HEAD_LIMIT`] bytes: it is refused with 431.
+    /// The head has more than [`MOST_FIELDS`] fields or [`HEAD_LIMIT`] bytes: refused with 431.
     TooLarge,
-    /// It can no longer become a head: it is refused with 400.
+    /// The bytes can no longer become a head: refused with 400.
     Malformed,
 }
 
-/// Whether the bytes up to a place are a head, with a line feed in place of the byte there. The byte is put back.
+/// Whether the bytes up to `at` are a head if the byte there is replaced by a line feed. The byte is restored.
 fn closes_at(bytes: &mut [u8], at: usize) -> bool
     requires { at < length bytes.old }
     ensures same { bytes.new ≡ bytes.old }
-    ensures yes { result ≡ true → (h : RequestHead) × IsHead (take at bytes.old ++ 10 ∷ []) h × (length h.fields ≡ MOST_FIELDS) }
-    ensures no { result ≡ false → (h : RequestHead) → IsHead (take at bytes.old ++ 10 ∷ []) h → length h.fields ≡ MOST_FIELDS → ⊥ }
+    ensures yes { result ≡ true → (h : RequestHead) × IsHead (take at bytes.old ++ 10 ∷ []) h ×
+        (length h.fields ≡ MOST_FIELDS) }
+    ensures no { result ≡ false → (h : RequestHead) → IsHead (take at bytes.old ++ 10 ∷ []) h
+        → length h.fields ≡ MOST_FIELDS → ⊥ }
 {
     let byte = bytes[at];
     bytes[at] = b'\n';
@@ -43,7 +45,7 @@ fn closes_at(bytes: &mut [u8], at: usize) -> bool
     is_full
 }
 
-/// Whether as many fields as a head may have, and a byte that begins a further one, are at the front. The bytes stay.
+/// Whether the bytes begin with [`MOST_FIELDS`] fields and the first byte of a further one. The bytes are restored.
 fn is_crowded(bytes: &mut [u8]) -> bool
     ensures same { bytes.new ≡ bytes.old }
     ensures yes { result ≡ true → (q r : List ℕ) × (bytes.old ≡ q ++ r) × IsCrowded q }
@@ -63,7 +65,7 @@ fn is_crowded(bytes: &mut [u8]) -> bool
     }
 }
 
-/// What fewer bytes than [`HEAD_LIMIT`] are.
+/// Decides on fewer bytes than [`HEAD_LIMIT`].
 fn judge(bytes: &mut [u8], headers: &mut [HeaderSpan; MOST_FIELDS]) -> Decision
     requires short { length bytes.old < HEAD_LIMIT }
     ensures same { bytes.new ≡ bytes.old }
@@ -92,10 +94,11 @@ fn judge(bytes: &mut [u8], headers: &mut [HeaderSpan; MOST_FIELDS]) -> Decision
     }
 }
 
-/// What [`HEAD_LIMIT`] or more bytes are that begin with no head within the limits.
+/// Decides on [`HEAD_LIMIT`] or more bytes that do not begin with a head within the limits.
 fn judge_long(bytes: &mut [u8]) -> Decision
     requires long { HEAD_LIMIT ≤ length bytes.old }
-    requires none { (h : RequestHead) (rest : List ℕ) → ReadsRequest bytes.old h rest → length h.fields ≤ MOST_FIELDS → length (print_request h) ≤ HEAD_LIMIT → ⊥ }
+    requires none { (h : RequestHead) (rest : List ℕ) → ReadsRequest bytes.old h rest
+        → length h.fields ≤ MOST_FIELDS → length (print_request h) ≤ HEAD_LIMIT → ⊥ }
     ensures same { bytes.new ≡ bytes.old }
     ensures refused { Refuses bytes.old result }
 {
@@ -109,8 +112,8 @@ fn judge_long(bytes: &mut [u8]) -> Decision
     }
 }
 
-/// Decides on all bytes that have come since the request began. The bytes stay as they are. Where a whole head is at
-/// the front, `headers` has the places of its fields.
+/// Decides on all bytes since the request began. The bytes are unchanged afterwards. Where they begin with a whole head,
+/// `headers` gets the positions of its fields.
 pub fn decide(bytes: &mut [u8], headers: &mut [HeaderSpan; MOST_FIELDS]) -> Decision
     ensures same { bytes.new ≡ bytes.old }
     ensures decides { Decides bytes.old headers.new result }

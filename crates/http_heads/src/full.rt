@@ -1,4 +1,4 @@
-//! Whether bytes are a head with as many fields as a head may have.
+//! Tests for a head with the greatest number of fields.
 
 ghost use Rattle.std.specs.Prelude.{◌≡◌, ℕ, true, false, length};
 ghost use Rattle.httparse.specs.Grammar.{RequestHead};
@@ -10,8 +10,10 @@ use httparse::spans::{EMPTY_HEADER_SPAN, parse_request};
 
 /// Whether the bytes are a whole head with [`MOST_FIELDS`] fields.
 pub(crate) fn is_full_head(bytes: &[u8]) -> bool
-    ensures yes { result ≡ true → (h : RequestHead) × IsHead bytes.now h × (length h.fields ≡ MOST_FIELDS) }
-    ensures no { result ≡ false → (h : RequestHead) → IsHead bytes.now h → length h.fields ≡ MOST_FIELDS → ⊥ }
+    ensures yes { result ≡ true → (h : RequestHead) × IsHead bytes.now h × (length h.fields
+        ≡ MOST_FIELDS) }
+    ensures no { result ≡ false → (h : RequestHead) → IsHead bytes.now h
+        → length h.fields ≡ MOST_FIELDS → ⊥ }
 {
     let mut headers = [EMPTY_HEADER_SPAN; MOST_FIELDS];
     match parse_request(bytes, &mut headers) {

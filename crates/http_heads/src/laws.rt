@@ -5,9 +5,12 @@ ghost use Rattle.httparse.specs.Grammar.{RequestHead, ReadsRequest, print_reques
 ghost use Rattle.http_heads.specs.Heads.{RefusesLarge, RefusesMalformed};
 ghost use Rattle.http_heads.specs.declared.decision.TheConstants.{HEAD_LIMIT, MOST_FIELDS};
 
-/// No bytes are both too large and malformed, and none that begin with a head within the limits are either.
+/// No bytes are both too large and malformed, and bytes that begin with a head within the limits are neither.
 pub fn one_outcome()
     ensures refused { (bytes : List ℕ) → RefusesLarge bytes → RefusesMalformed bytes → ⊥ }
-    ensures good { (bytes : List ℕ) (h : RequestHead) (rest : List ℕ) → ReadsRequest bytes h rest → length h.fields ≤ MOST_FIELDS → length (print_request h) ≤ HEAD_LIMIT → RefusesLarge bytes → ⊥ }
-    ensures well { (bytes : List ℕ) (h : RequestHead) (rest : List ℕ) → ReadsRequest bytes h rest → length h.fields ≤ MOST_FIELDS → RefusesMalformed bytes → ⊥ }
+    ensures good { (bytes : List ℕ) (h : RequestHead) (rest : List ℕ) → ReadsRequest bytes h rest
+        → length h.fields ≤ MOST_FIELDS → length (print_request h) ≤ HEAD_LIMIT
+        → RefusesLarge bytes → ⊥ }
+    ensures well { (bytes : List ℕ) (h : RequestHead) (rest : List ℕ) → ReadsRequest bytes h rest
+        → length h.fields ≤ MOST_FIELDS → RefusesMalformed bytes → ⊥ }
 {}

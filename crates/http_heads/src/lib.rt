@@ -1,4 +1,4 @@
-//! The head of an HTTP request, decided on as its bytes come. A length is in bytes.
+//! The head of an HTTP request, decided while its bytes arrive. Lengths are in bytes.
 #![tactic(auto)]
 
 mod decision;
@@ -9,6 +9,3 @@ mod target;
 
 pub use decision::{Decision, HEAD_LIMIT, MOST_FIELDS, decide};
 pub use laws::one_outcome;
-
-#[cfg(test)]
-mod tests;

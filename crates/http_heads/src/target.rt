@@ -1,4 +1,4 @@
-//! Whether a request's bytes end inside its target.
+//! Tests whether a request's bytes end inside its target.
 
 ghost use Rattle.std.specs.Prelude.{◌≡◌, ◌≢◌, ◌<◌, ◌+◌, ℕ, List, ◌∷◌, ◌++◌, IfSome, IfNone, true, false, length, slice_index};
 ghost use Rattle.httparse.specs.Grammar.{EndsInTarget, IsToken, AllPass, is_uri_byte, is_token_byte};
@@ -7,10 +7,11 @@ ghost use Rattle.http_heads.specs.Feeds.{IsFirstOther, HasWholeEnds, IsOpenTarge
 use crate::lines::first_visible;
 use httparse::{is_method_token, is_uri_token};
 
-/// Where the first byte stands that is no byte of a method.
+/// The index of the first byte that cannot stand in a method.
 fn first_other(text: &[u8]) -> Option<usize>
     ensures first { IfSome result (λ at. IsFirstOther is_token_byte text.now at) }
-    ensures none { IfNone result ((k : ℕ) → k < length text.now → is_token_byte (slice_index text.now k) ≡ true) }
+    ensures none { IfNone result ((k : ℕ) → k < length text.now
+        → is_token_byte (slice_index text.now k) ≡ true) }
 {
     for at in 0..text.len() {
         if !is_method_token(text[at]) {
@@ -22,7 +23,8 @@ fn first_other(text: &[u8]) -> Option<usize>
 
 /// Whether each byte may stand in a target.
 fn is_all_uri(text: &[u8]) -> bool
-    ensures yes { result ≡ true → (k : ℕ) → k < length text.now → is_uri_byte (slice_index text.now k) ≡ true }
+    ensures yes { result ≡ true → (k : ℕ) → k < length text.now
+        → is_uri_byte (slice_index text.now k) ≡ true }
     ensures no { result ≡ false → AllPass is_uri_byte text.now → ⊥ }
 {
     for byte in text {
@@ -53,7 +55,7 @@ fn is_open_target(text: &[u8]) -> bool
     }
 }
 
-/// Whether each carriage return before a place has a line feed behind it.
+/// Whether each carriage return before an index is followed by a line feed.
 fn has_whole_ends(bytes: &[u8], start: usize) -> bool
     requires { start < length bytes.now }
     ensures yes { result ≡ true → HasWholeEnds bytes.now start }
@@ -69,7 +71,7 @@ fn has_whole_ends(bytes: &[u8], start: usize) -> bool
     true
 }
 
-//// Whether the bytes end inside the target.
+/// Whether the bytes end inside the target.
 pub(crate) fn ends_in_target(bytes: &[u8]) -> bool
     ensures yes { result ≡ true → EndsInTarget bytes.now }
     ensures no { result ≡ false → EndsInTarget bytes.now → ⊥ }

@@ -6,7 +6,7 @@ use Rattle.http_heads.specs.Heads.{IsOpen}
 use Rattle.http_heads.proofs.LawFacts.{refused_once, good_not_large, good_not_malformed}
 use Rattle.http_messages.specs.declared.request.Incoming.TheVariants as incoming
 use Rattle.http_messages.specs.Frames.{Frame, Body, Refused, frame_of}
-use Rattle.http_messages.specs.Messages.{BeginsWith, IsMessage, EndsInBody, Comes}
+use Rattle.http_messages.specs.Messages.{BeginsWith, IsMessage, EndsInBody, IsRefused, Comes}
 use Rattle.http_messages.proofs.MessageFacts.{head_some}
 
 same_start : (stream : List ℕ) (h k : RequestHead) (r q : List ℕ) (f e : Frame) → BeginsWith stream h r f → BeginsWith stream k q e
@@ -51,13 +51,16 @@ pub some : (stream m t b left : List ℕ) (c : Bool) → IsMessage stream m t b 
 some stream m t b left c x =
     omega (arith, ap length x.begins.reads.1, length-append (print_request x.head) (b ++ left), head_some x.head)
 
+-- of no front of an open stream anything is known, so none is a whole head
+not_open : (stream rest : List ℕ) (h : RequestHead) (f : Frame) → BeginsWith stream h rest f → IsOpen stream → ⊥
+not_open stream rest h f x opened =
+    (opened.none (print_request h) rest x.reads.1).2 (h, (x.reads.0, sym (append-nil _)), x.few)
+
 pub whole : (stream m t b left after : List ℕ) (c : Bool) → IsMessage stream m t b c left → Comes stream incoming.Truncated after → ⊥
 whole stream m t b left after c x y = cut y.1
   where
     cut : IsOpen stream ⊎ EndsInBody stream → ⊥
-    cut (inl opened) =
-        (opened.none (print_request x.head) (b ++ left) x.begins.reads.1).2
-        (x.head, (x.begins.reads.0, sym (append-nil _)), x.begins.few)
+    cut (inl opened) = not_open stream (b ++ left) x.head (Body (length b)) x.begins opened
     cut (inr ends) =
         let same = same_start stream x.head ends.head _ _ _ _ x.begins ends.begins in
         omega (arith, ends.short, same_size (length b) ends.size same.2, ap length same.1, length-append b left)
@@ -71,6 +74,22 @@ good stream m t b left after c status x (inr (inl y)) =
 good stream m t b left after c status x (inr (inr y)) =
     let same = same_start stream x.head y.0 _ _ _ _ x.begins y.2 in
     other_frame (length b) status same.2
+
+pub cut_not_refused : (stream left after : List ℕ) (status : ℕ) → Comes stream incoming.Truncated left
+    → Comes stream (incoming.Refused status) after → ⊥
+cut_not_refused stream left after status x y = cases x.1 y
+  where
+    cases : IsOpen stream ⊎ EndsInBody stream → IsRefused stream status → ⊥
+    cases (inl opened) (inl y) = (opened.none y.1.front y.1.rest y.1.parts).0 y.1.large
+    cases (inl opened) (inr (inl y)) = (opened.none y.1.front y.1.rest y.1.parts).1 y.1.hopeless
+    cases (inl opened) (inr (inr y)) = not_open stream y.1 y.0 (Refused status) y.2 opened
+    cases (inr ends) (inl y) =
+        good_not_large stream ends.head ends.rest ends.begins.reads ends.begins.few ends.begins.small y.1
+    cases (inr ends) (inr (inl y)) =
+        good_not_malformed stream ends.head ends.rest ends.begins.reads ends.begins.few y.1
+    cases (inr ends) (inr (inr y)) =
+        let same = same_start stream ends.head y.0 _ _ _ _ ends.begins y.2 in
+        other_frame ends.size status same.2
 
 pub one_status : (stream left after : List ℕ) (n k : ℕ) → Comes stream (incoming.Refused n) left → Comes stream (incoming.Refused k) after → n ≡ k
 one_status stream left after n k (inl x) (inl y) = x.0 ∙ sym y.0

@@ -1,4 +1,4 @@
--- For proofs alone: how often a name stands in a head, and the code's words for the definition's.
+-- For proofs alone: the number of fields with a name, and the code's types against the definition's.
 use Rattle.std.specs.Prelude.{ℕ, ◌≡◌, ◌≤◌, List, [], ◌∷◌}
 use Rattle.httparse.specs.Spans.{header_bytes}
 use Rattle.httparse.specs.declared.spans.HeaderSpan.{HeaderSpan}
@@ -9,19 +9,19 @@ use Rattle.http_messages.specs.declared.frame.TheConstants.{BODY_LIMIT}
 use Rattle.http_messages.specs.declared.frame.Count.{Count}
 use Rattle.http_messages.specs.declared.frame.Count.TheVariants as counts
 
--- the values of a name are so many
+-- the number of values of a name: none, one, or several
 abbrev pub Counts : List ℕ → List (List ℕ) → Count → Type 0
 Counts bytes values counts.Nothing = values ≡ []
 Counts bytes values (counts.Once h) = values ≡ (header_bytes bytes h).1 ∷ []
 Counts bytes values counts.Often = (v w : List ℕ) × (more : List (List ℕ)) × (values ≡ v ∷ w ∷ more)
 
--- of the one field, where there is one
+-- a fact on the only field, where there is just one
 abbrev pub IfOnce : Count → (HeaderSpan → Type 0) → Type 0
 IfOnce counts.Nothing P = Unit {0}
 IfOnce (counts.Once h) P = P h
 IfOnce counts.Often P = Unit {0}
 
--- the code's answer is the definition's
+-- the code's result is the definition's
 abbrev pub IsFrame : Framing → Frame → Type 0
 IsFrame (framings.Body n) (Body m) = n ≡ m
 IsFrame (framings.Refused n) (Refused m) = n ≡ m

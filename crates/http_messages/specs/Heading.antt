@@ -1,4 +1,4 @@
--- For proofs alone: what the next head of a stream is, with the bytes that are held then.
+-- For proofs alone: the next head of a stream, with the bytes held then.
 use Rattle.std.specs.Prelude.{ℕ, ◌≤◌, List, length, Option}
 use Rattle.std.specs.Io.KnownBytes.{IsAtEnd}
 use Rattle.httparse.specs.Grammar.{RequestHead}
@@ -9,7 +9,7 @@ use Rattle.http_heads.specs.declared.decision.TheConstants.{HEAD_LIMIT, MOST_FIE
 use Rattle.http_messages.specs.declared.held.HeadEnd.{HeadEnd}
 use Rattle.http_messages.specs.declared.held.HeadEnd.TheVariants as ended
 
--- what is known of the held bytes
+-- the decision on the held bytes
 abbrev pub HeadComes : Option (List ℕ) → List ℕ → List HeaderSpan → HeadEnd → Type 0
 HeadComes left bytes headers (ended.Whole spans) =
     IsRequestWithin bytes headers spans
@@ -19,7 +19,7 @@ HeadComes left bytes headers ended.Malformed = RefusesMalformed bytes
 HeadComes left bytes headers ended.End = IsAtEnd left × IsOpen bytes
 HeadComes left bytes headers (ended.Failed why) = Unit {0}
 
--- a fact, unless no more bytes come
+-- a fact, unless the read failed
 abbrev pub UnlessFailed : HeadEnd → Type 0 → Type 0
 UnlessFailed (ended.Failed why) P = Unit {0}
 UnlessFailed (ended.Whole spans) P = P

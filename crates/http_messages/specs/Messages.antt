@@ -1,4 +1,4 @@
--- The messages of a stream: what stands at its front, and what is left behind it.
+-- The messages of a stream: the message at its front, and the bytes after it.
 use Rattle.std.specs.Prelude.{ℕ, ◌≡◌, ◌≤◌, ◌<◌, ◌+◌, ◌-◌, ◌⊎◌, Bool, List, [], ◌++◌, length, Option, Some, None}
 use Rattle.std.specs.Io.KnownBytes.{prepend_known}
 use Rattle.httparse.specs.Grammar.{RequestHead, ReadsRequest, print_request}
@@ -12,7 +12,7 @@ use Rattle.http_messages.specs.declared.request.Incoming.TheVariants as incoming
 use Rattle.http_messages.specs.declared.status.TheConstants.{HEAD_TOO_LARGE, MALFORMED}
 use Rattle.http_messages.specs.Frames.{Frame, Body, Refused, frame_of, asks_close}
 
--- a stream begins with a head within the limits, whose fields say this of its body
+-- a stream begins with a head within the limits, whose fields give this frame of its body
 pub record BeginsWith (stream : List ℕ) (head : RequestHead) (rest : List ℕ) (frame : Frame) : Type 0 where
   pub reads : ReadsRequest stream head rest
   pub few : length head.fields ≤ MOST_FIELDS
@@ -27,7 +27,7 @@ pub record IsMessage (stream method target body : List ℕ) (close : Bool) (left
   pub target_is : target ≡ head.target
   pub close_is : close ≡ asks_close head
 
--- a stream ends inside the body that its head tells
+-- a stream ends inside the body that its head announces
 pub record EndsInBody (stream : List ℕ) : Type 0 where
   pub head : RequestHead
   pub rest : List ℕ
@@ -48,7 +48,7 @@ abbrev pub IsRefused : List ℕ → ℕ → Type 0
 IsRefused stream status =
     ((status ≡ HEAD_TOO_LARGE) × RefusesLarge stream) ⊎ ((status ≡ MALFORMED) × RefusesMalformed stream) ⊎ RefusesFields stream status
 
--- what comes next in a stream, and what is left of it then
+-- the next message of a stream, and the bytes left after it
 abbrev pub Comes : List ℕ → Incoming → List ℕ → Type 0
 Comes stream (incoming.Request method target body close) left = IsMessage stream method target body close left
 Comes stream incoming.Closed left = (stream ≡ []) × (left ≡ [])
@@ -58,7 +58,7 @@ Comes stream incoming.ReadFault left = Unit {0}
 Comes stream incoming.Long left = Unit {0}
 Comes stream incoming.NoMemory left = Unit {0}
 
--- nothing is said of a stream that could not be read on
+-- nothing is known of a stream after a failed read
 abbrev pub IsBroken : Incoming → Type 0
 IsBroken (incoming.Request method target body close) = ⊥
 IsBroken incoming.Closed = ⊥
@@ -68,21 +68,21 @@ IsBroken incoming.ReadFault = Unit {0}
 IsBroken incoming.Long = Unit {0}
 IsBroken incoming.NoMemory = Unit {0}
 
--- the same, where the source tells
+-- as above, where the bytes of the source are known
 abbrev pub GivesMessage : Option (List ℕ) → Option (List ℕ) → Incoming → Type 0
 GivesMessage None after i = Unit {0}
 GivesMessage (Some stream) None i = IsBroken i
 GivesMessage (Some stream) (Some left) i = Comes stream i left
 
--- the bytes that are still to come, where the source tells
-abbrev pub unread : Held → Option (List ℕ) → Option (List ℕ)
-unread held left = prepend_known held.bytes.items left
+-- the bytes that are still to come, where known
+abbrev pub unread_of : Held → Option (List ℕ) → Option (List ℕ)
+unread_of held left = prepend_known held.bytes.items left
 
--- at most so many bytes are still handed out: those that are held, and what may still be read before the limit is met
+-- the greatest number of bytes still to use: those that are held, and those that may be read before the limit is reached
 abbrev pub most_left : Held → ℕ
 most_left held = length held.bytes.items + (INPUT_LIMIT + READ_SIZE - held.taken)
 
--- each message takes a byte at least of those that are still handed out
+-- each message uses at least one of the bytes still to use
 abbrev pub Turns : ℕ → ℕ → Incoming → Type 0
 Turns before after (incoming.Request method target body close) = after < before
 Turns before after incoming.Closed = Unit {0}

@@ -1,4 +1,4 @@
--- For proofs alone: what a whole head says of its request.
+-- For proofs alone: the meaning of a whole head.
 use Rattle.std.specs.Prelude.{◌≡◌}
 use Rattle.httparse.specs.Grammar.{RequestHead}
 use Rattle.http_messages.specs.declared.said.Head.{Head}
@@ -6,14 +6,14 @@ use Rattle.http_messages.specs.declared.said.HeadRead.{HeadRead}
 use Rattle.http_messages.specs.declared.said.HeadRead.TheVariants as reads
 use Rattle.http_messages.specs.Frames.{Body, Refused, frame_of, asks_close}
 
--- the code's words for a head
+-- the head's meaning in the code's types
 pub record Says (said : Head) (head : RequestHead) : Type 0 where
   pub method_is : said.method ≡ head.method
   pub target_is : said.target ≡ head.target
   pub framed : frame_of head ≡ Body said.size
   pub close_is : said.close ≡ asks_close head
 
--- the same, or the status that its fields are refused with
+-- the same, or the status with which its fields are refused
 abbrev pub SaysOr : HeadRead → RequestHead → Type 0
 SaysOr (reads.Head said) head = Says said head
 SaysOr (reads.Refused status) head = frame_of head ≡ Refused status

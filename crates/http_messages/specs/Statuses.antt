@@ -1,4 +1,4 @@
--- A refusal has a status of HTTP.
+-- Every refusal has a status code of HTTP.
 use Rattle.http.specs.StatusCode.{IsStatusCode}
 use Rattle.http_messages.specs.declared.frame.Framing.{Framing}
 use Rattle.http_messages.specs.declared.frame.Framing.TheVariants as framings

@@ -1,4 +1,4 @@
-//! How long a request's body is, by the fields of its head.
+//! The length of a request's body, from the fields of its head.
 
 ghost use Rattle.std.specs.Prelude.{◌≡◌, ◌≤◌, ◌<◌, ℕ, List, Some, None, All, IfSome, IfNone, ◌+◌, ◌∷◌, [], drop, get_or, slice_index, length, take, map, true, false};
 ghost use Rattle.std.specs.List.{list_any};
@@ -11,19 +11,19 @@ use crate::number::length_of;
 use crate::status::{BODY_TOO_LARGE, LENGTH_WANTED, MALFORMED, NO_TRANSFER_ENCODING};
 use httparse::spans::HeaderSpan;
 
-/// A body has at most so many bytes.
+/// The greatest size of a body in bytes: 1 MiB.
 pub const BODY_LIMIT: u64 = 1_048_576;
 
-/// How long a body is, or why a request is refused.
+/// The size of a body, or the refusal of the request.
 #[derive(Clone, Copy, Debug, PartialEq, Eq)]
 pub(crate) enum Framing {
-    /// The body has so many bytes.
+    /// The body has this many bytes.
     Body(usize),
     /// The request is refused with this status.
     Refused(u16),
 }
 
-/// Whether a field has this name, whatever the case of its letters.
+/// Whether a field has this name, ignoring case.
 pub(crate) fn is_called(bytes: &[u8], header: HeaderSpan, name: &[u8]) -> bool
     requires { IsHeaderWithin (length bytes.now) header }
     ensures { result ≡ is_called name.now (header_bytes bytes.now header) }
@@ -36,11 +36,15 @@ pub(crate) fn is_called(bytes: &[u8], header: HeaderSpan, name: &[u8]) -> bool
 fn first_field(bytes: &[u8], headers: &[HeaderSpan], name: &[u8]) -> Option<usize>
     requires { All (IsHeaderWithin (length bytes.now)) headers.now }
     ensures within { IfSome result (λ at. at < length headers.now) }
-    ensures first { IfSome result (λ at. (d : HeaderSpan) → values name.now (map (header_bytes bytes.now) headers.now)
-        ≡ (header_bytes bytes.now (get_or headers.now at d)).1 ∷ values name.now (map (header_bytes bytes.now) (drop (at + 1) headers.now))) }
+    ensures first { IfSome result (λ at. (d : HeaderSpan)
+        → values name.now (map (header_bytes bytes.now) headers.now)
+        ≡ (header_bytes bytes.now (get_or headers.now at d)).1 ∷ values name.now
+        (map (header_bytes bytes.now) (drop (at + 1) headers.now))) }
     ensures none { IfNone result (values name.now (map (header_bytes bytes.now) headers.now) ≡ []) }
-    ensures any { IfNone result (list_any (is_called name.now) (map (header_bytes bytes.now) headers.now) ≡ false) }
-    ensures some { IfSome result (λ at. list_any (is_called name.now) (map (header_bytes bytes.now) headers.now) ≡ true) }
+    ensures any { IfNone result (list_any (is_called name.now)
+        (map (header_bytes bytes.now) headers.now) ≡ false) }
+    ensures some { IfSome result (λ at. list_any (is_called name.now)
+        (map (header_bytes bytes.now) headers.now) ≡ true) }
 {
     for at in 0..headers.len() {
         if is_called(bytes, headers[at], name) {
@@ -50,22 +54,23 @@ fn first_field(bytes: &[u8], headers: &[HeaderSpan], name: &[u8]) -> Option<usiz
     None
 }
 
-/// How often a name stands in a head.
+/// The fields of a name: none, one, or several.
 #[derive(Clone, Copy, Debug, PartialEq, Eq)]
 enum Count {
-    /// In no field.
+    /// No field has the name.
     Nothing,
-    /// In this field alone.
+    /// Only this field has the name.
     Once(HeaderSpan),
-    /// In two fields or more.
+    /// Two fields or more have the name.
     Often,
 }
 
-/// How often a name stands in a head.
+/// Counts the fields of a name in a head.
 fn values_of(bytes: &[u8], headers: &[HeaderSpan], name: &[u8]) -> Count
     requires { All (IsHeaderWithin (length bytes.now)) headers.now }
     ensures within { IfOnce result (IsHeaderWithin (length bytes.now)) }
-    ensures counts { Counts bytes.now (values name.now (map (header_bytes bytes.now) headers.now)) result }
+    ensures counts { Counts bytes.now (values name.now
+        (map (header_bytes bytes.now) headers.now)) result }
 {
     match first_field(bytes, headers, name) {
         Some(at) => {
@@ -79,7 +84,7 @@ fn values_of(bytes: &[u8], headers: &[HeaderSpan], name: &[u8]) -> Count
     }
 }
 
-/// By the one value of Content-Length.
+/// The frame from the only value of Content-Length.
 fn by_value(value: &[u8]) -> Framing
     ensures frame { IsFrame result (by_length value.now) }
     ensures small { IsSmall result }
@@ -96,7 +101,7 @@ fn by_value(value: &[u8]) -> Framing
     }
 }
 
-/// How long the body is of a request with these fields, or why the request is refused.
+/// The size of the body of a request with these fields, or the refusal of the request.
 pub(crate) fn frame_of(bytes: &[u8], headers: &[HeaderSpan], is_post: bool) -> Framing
     requires { All (IsHeaderWithin (length bytes.now)) headers.now }
     ensures frame { IsFrame result (frame is_post (map (header_bytes bytes.now) headers.now)) }

@@ -1,4 +1,4 @@
-//! What a whole head says of its request.
+//! Reads the meaning of a whole head.
 
 ghost use Rattle.std.specs.Prelude.{◌≡◌, ◌≢◌, ◌≤◌, ◌&&◌, ◌||◌, ◌==◌, bytes_eq, codes, length, map, take, All, List, ℕ, true, false};
 ghost use Rattle.std.specs.List.{list_any};
@@ -16,7 +16,7 @@ use http::Method;
 use httparse::spans::{HeaderSpan, RequestSpans};
 use std::alloc::Global;
 
-/// Whether a field asks that the session ends.
+/// Whether the field is `Connection: close`.
 fn is_close(bytes: &[u8], header: HeaderSpan) -> bool
     requires { IsHeaderWithin (length bytes.now) header }
     ensures { result ≡ is_close (header_bytes bytes.now header) }
@@ -24,7 +24,7 @@ fn is_close(bytes: &[u8], header: HeaderSpan) -> bool
     is_called(bytes, header, b"connection") && header.value.of(bytes).eq_ignore_ascii_case(b"close")
 }
 
-/// Whether a field of these asks that the session ends.
+/// Whether one of the fields is `Connection: close`.
 #[tactic(auto, using(crate::proofs::FrameFacts::any_at, crate::proofs::FrameFacts::any_none))]
 fn has_close(bytes: &[u8], headers: &[HeaderSpan]) -> bool
     requires { All (IsHeaderWithin (length bytes.now)) headers.now }
@@ -47,11 +47,12 @@ fn fields_of(headers: &[HeaderSpan], spans: RequestSpans) -> &[HeaderSpan]
     fields
 }
 
-/// How long the body is.
+/// The size of the body.
 #[tactic(auto, using(crate::proofs::SaidFacts::fields_fit, crate::proofs::SaidFacts::framed))]
 fn framing(bytes: &[u8], headers: &[HeaderSpan], spans: RequestSpans) -> Framing
     requires { IsRequestWithin bytes.now headers.now spans }
-    ensures frame { (head : RequestHead) → IsRequestAt bytes.now headers.now spans head → IsFrame result (frame_of head) }
+    ensures frame { (head : RequestHead) → IsRequestAt bytes.now headers.now spans head
+        → IsFrame result (frame_of head) }
     ensures small { IsSmall result }
     ensures status { HasFrameStatus result }
 {
@@ -63,12 +64,13 @@ fn framing(bytes: &[u8], headers: &[HeaderSpan], spans: RequestSpans) -> Framing
 #[tactic(auto, using(crate::proofs::SaidFacts::fields_fit, crate::proofs::SaidFacts::closes_is))]
 fn closes(bytes: &[u8], headers: &[HeaderSpan], spans: RequestSpans) -> bool
     requires { IsRequestWithin bytes.now headers.now spans }
-    ensures { (head : RequestHead) → IsRequestAt bytes.now headers.now spans head → result ≡ asks_close head }
+    ensures { (head : RequestHead) → IsRequestAt bytes.now headers.now spans head
+        → result ≡ asks_close head }
 {
     spans.version == 0 || has_close(bytes, fields_of(headers, spans))
 }
 
-/// What a whole head says.
+/// The meaning of a whole head: method, target, body size, and whether the session ends.
 #[tactic(auto, using(crate::proofs::SaidFacts::framed_refused, crate::proofs::SaidFacts::says))]
 pub(crate) fn read_head(
     alloc: Global,
@@ -77,12 +79,13 @@ pub(crate) fn read_head(
     spans: RequestSpans,
 ) -> HeadRead
     requires { IsRequestWithin bytes.now headers.now spans }
-    ensures says { (head : RequestHead) → IsRequestAt bytes.now headers.now spans head → SaysOr result head }
+    ensures says { (head : RequestHead) → IsRequestAt bytes.now headers.now spans head
+        → SaysOr result head }
     ensures status { HasHeadStatus result }
 {
     match framing(bytes, headers, spans) {
         Framing::Body(size) => {
-            // A method of a head is a token: memory alone can be wanting.
+            // The method of a head is always a token: the only error is lack of memory.
             let Ok(method) = Method::from_bytes(alloc, spans.method.of(bytes)) else {
                 return HeadRead::NoMemory;
             };

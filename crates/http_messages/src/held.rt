@@ -1,4 +1,4 @@
-//! The bytes of a stream that were read and not used.
+//! The bytes of a stream that were read and not yet used.
 
 ghost use Rattle.std.specs.Prelude.{◌≡◌, ◌≤◌, ◌<◌, ◌+◌, ◌-◌, List, ℕ, [], IfOk, IsErrOf, length, true, false, drop};
 ghost use Rattle.std.specs.Io.KnownBytes.{Keeps, IsAtEnd, prepend_known};
@@ -14,36 +14,36 @@ use httparse::spans::{HeaderSpan, RequestSpans};
 use oe_http::{INPUT_LIMIT, Source};
 use std::alloc::Global;
 
-/// At most so many bytes are taken in one read.
+/// The greatest number of bytes in one read.
 const READ_SIZE: usize = 4_096;
 
-/// Why no more bytes come.
+/// Why no more bytes can be read.
 #[derive(Clone, Copy, Debug, PartialEq, Eq)]
 pub(crate) enum ReadEnd {
-    /// The source has failed.
+    /// The source failed.
     Fault,
-    /// [`INPUT_LIMIT`] bytes were read, and more are wanted.
+    /// [`INPUT_LIMIT`] bytes were read, and more are needed.
     Long,
     /// Memory was refused.
     NoMemory,
 }
 
-/// What the next head is.
+/// The next head of a stream.
 #[derive(Clone, Copy, Debug, PartialEq, Eq)]
 pub(crate) enum HeadEnd {
     /// A whole head is held.
     Whole(RequestSpans),
-    /// It has too many fields or bytes.
+    /// The head has too many fields or bytes.
     TooLarge,
     /// The bytes are no head.
     Malformed,
-    /// The end came inside the head, or before it.
+    /// The input ended inside the head, or before it.
     End,
-    /// No more bytes come.
+    /// No more bytes can be read.
     Failed(ReadEnd),
 }
 
-/// The bytes that were read from a source and not used, and how many were read.
+/// The bytes that were read from a source and not yet used, and the number of bytes read.
 #[derive(Drop)]
 pub struct Held {
     pub(crate) bytes: Vec<u8>,
@@ -64,12 +64,15 @@ impl Held {
     }
 }
 
-/// Reads one more block. Answers whether a byte came.
+/// Reads one more block. Returns whether any byte was read.
 fn read_more<S: Source>(link: &mut S, held: &mut Held) -> Result<bool, ReadEnd>
-    ensures kept { IfOk result (λ _. Keeps (prepend_known held.old.bytes.items (S.left link.old)) (prepend_known held.new.bytes.items (S.left link.new))) }
-    ensures balance { IfOk result (λ _. length held.new.bytes.items + held.old.taken ≡ length held.old.bytes.items + held.new.taken) }
+    ensures kept { IfOk result (λ _. Keeps (prepend_known held.old.bytes.items (S.left link.old))
+        (prepend_known held.new.bytes.items (S.left link.new))) }
+    ensures balance { IfOk result (λ _. length held.new.bytes.items + held.old.taken
+        ≡ length held.old.bytes.items + held.new.taken) }
     ensures end { IfOk result (λ came. came ≡ false → IsAtEnd (S.left link.new)) }
-    ensures same { IfOk result (λ came. came ≡ false → held.new.bytes.items ≡ held.old.bytes.items) }
+    ensures same { IfOk result (λ came. came ≡ false
+        → held.new.bytes.items ≡ held.old.bytes.items) }
     ensures turns { IfOk result (λ came. came ≡ true → held.old.taken < held.new.taken) }
     ensures beside { S.beside link.new ≡ S.beside link.old }
     ensures later { S.faults link.old ≤ S.faults link.new }
@@ -95,7 +98,7 @@ fn read_more<S: Source>(link: &mut S, held: &mut Held) -> Result<bool, ReadEnd>
     }
 }
 
-/// What the held bytes are.
+/// The decision on the held bytes.
 fn look(held: &mut Held, headers: &mut [HeaderSpan; MOST_FIELDS]) -> Decision
     ensures bytes { held.new.bytes.items ≡ held.old.bytes.items }
     ensures taken { held.new.taken ≡ held.old.taken }
@@ -104,21 +107,25 @@ fn look(held: &mut Held, headers: &mut [HeaderSpan; MOST_FIELDS]) -> Decision
     decide(&mut held.bytes, headers)
 }
 
-/// Reads until the next head is decided, whatever way the reads cut it.
+/// Reads until the next head is decided, however the reads split it.
 #[tactic(auto, using(crate::proofs::HeldFacts::keeps_on, oe_http::proofs::LineFacts::fell_none, oe_http::proofs::LineFacts::fell_on))]
 pub(crate) fn next_head<S: Source>(
     link: &mut S,
     held: &mut Held,
     headers: &mut [HeaderSpan; MOST_FIELDS],
 ) -> HeadEnd
-    ensures kept { UnlessFailed result (Keeps (prepend_known held.old.bytes.items (S.left link.old)) (prepend_known held.new.bytes.items (S.left link.new))) }
-    ensures balance { UnlessFailed result (length held.new.bytes.items + held.old.taken ≡ length held.old.bytes.items + held.new.taken) }
+    ensures kept { UnlessFailed result (Keeps
+        (prepend_known held.old.bytes.items (S.left link.old))
+        (prepend_known held.new.bytes.items (S.left link.new))) }
+    ensures balance { UnlessFailed result (length held.new.bytes.items + held.old.taken
+        ≡ length held.old.bytes.items + held.new.taken) }
     ensures decides { HeadComes (S.left link.new) held.new.bytes.items headers.new result }
     ensures beside { S.beside link.new ≡ S.beside link.old }
     ensures later { S.faults link.old ≤ S.faults link.new }
     ensures more { held.old.taken ≤ held.new.taken }
     ensures took { FellBy (held.new.taken - held.old.taken) (S.left link.old) (S.left link.new) }
-    ensures fault { result ≡ HeadEnd.Failed ReadEnd.Fault → Rose (S.faults link.old) (S.faults link.new) }
+    ensures fault { result ≡ HeadEnd.Failed ReadEnd.Fault
+        → Rose (S.faults link.old) (S.faults link.new) }
     ensures long { result ≡ HeadEnd.Failed ReadEnd.Long → INPUT_LIMIT ≤ held.new.taken }
 {
     loop {
@@ -135,12 +142,14 @@ pub(crate) fn next_head<S: Source>(
     }
 }
 
-/// Reads until so many bytes are held. Answers whether they are: else the end has come.
+/// Reads until this many bytes are held. Returns whether they are: if not, the input has ended.
 #[tactic(auto, using(crate::proofs::HeldFacts::keeps_on, oe_http::proofs::LineFacts::fell_none, oe_http::proofs::LineFacts::fell_on))]
 pub(crate) fn hold<S: Source>(link: &mut S, held: &mut Held, len: usize) -> Result<bool, ReadEnd>
-    ensures kept { IfOk result (λ _. Keeps (prepend_known held.old.bytes.items (S.left link.old)) (prepend_known held.new.bytes.items (S.left link.new))) }
+    ensures kept { IfOk result (λ _. Keeps (prepend_known held.old.bytes.items (S.left link.old))
+        (prepend_known held.new.bytes.items (S.left link.new))) }
     ensures whole { IfOk result (λ is_whole. is_whole ≡ true → len ≤ length held.new.bytes.items) }
-    ensures balance { IfOk result (λ _. length held.new.bytes.items + held.old.taken ≡ length held.old.bytes.items + held.new.taken) }
+    ensures balance { IfOk result (λ _. length held.new.bytes.items + held.old.taken
+        ≡ length held.old.bytes.items + held.new.taken) }
     ensures end { IfOk result (λ is_whole. is_whole ≡ false → IsAtEnd (S.left link.new)) }
     ensures short { IfOk result (λ is_whole. is_whole ≡ false → length held.new.bytes.items < len) }
     ensures beside { S.beside link.new ≡ S.beside link.old }

@@ -1,4 +1,4 @@
-//! HTTP requests of a stream, and responses. A length is in bytes.
+//! Reads HTTP requests from a stream, and writes responses. Lengths are in bytes.
 #![tactic(auto)]
 
 mod frame;

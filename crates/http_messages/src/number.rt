@@ -1,4 +1,4 @@
-//! The number in a Content-Length.
+//! The value of a Content-Length.
 
 ghost use Rattle.std.specs.Prelude.{◌≡◌, ◌≤◌, ◌<◌, true, false, IfSome, IfNone, length};
 ghost use Rattle.std.specs.Str.Parse.{digits_value};
@@ -6,7 +6,7 @@ ghost use Rattle.std.specs.List.{list_all};
 ghost use Rattle.std.specs.Char.{is_ascii_digit};
 ghost use Rattle.http_messages.specs.Frames.{is_length};
 
-/// A Content-Length has at most so many digits.
+/// Most digits of a Content-Length accepted.
 const MOST_DIGITS: usize = 10;
 
 /// Whether each byte is a digit.
@@ -21,7 +21,7 @@ fn is_all_digits(text: &[u8]) -> bool
     true
 }
 
-/// The number that [`MOST_DIGITS`] digits or fewer write.
+/// The value of at most [`MOST_DIGITS`] digits.
 fn number_of(text: &[u8]) -> u64
     requires few { length text.now ≤ MOST_DIGITS }
     requires digits { list_all is_ascii_digit text.now ≡ true }
@@ -34,7 +34,7 @@ fn number_of(text: &[u8]) -> u64
     total
 }
 
-/// The number of one to [`MOST_DIGITS`] digits.
+/// Parses a Content-Length: 1 to [`MOST_DIGITS`] digits.
 pub(crate) fn length_of(text: &[u8]) -> Option<u64>
     ensures some { IfSome result (λ n. n ≡ digits_value 10 text.now) }
     ensures good { IfSome result (λ n. is_length text.now ≡ true) }

@@ -1,4 +1,4 @@
-//! The next request of a stream.
+//! Reads the next request of a stream.
 
 ghost use Rattle.std.specs.Prelude.{◌≡◌, ◌≤◌, ◌<◌, ◌+◌, ◌-◌, List, ℕ, length};
 ghost use Rattle.oe_http.specs.Causes.{Rose};
@@ -7,7 +7,7 @@ ghost use Rattle.oe_http.specs.declared.lines.TheConstants.{INPUT_LIMIT};
 ghost use Rattle.httparse.specs.Grammar.{RequestHead};
 ghost use Rattle.httparse.specs.Spans.{IsRequestAt, IsRequestWithin};
 ghost use Rattle.http_heads.specs.declared.decision.TheConstants.{HEAD_LIMIT};
-ghost use Rattle.http_messages.specs.Messages.{GivesMessage, IsBroken, Turns, most_left, unread};
+ghost use Rattle.http_messages.specs.Messages.{GivesMessage, IsBroken, Turns, most_left, unread_of};
 ghost use Rattle.http_messages.specs.Statuses.{HasStatus};
 ghost use Rattle.http_messages.specs.Given.{HoldsSaid, IsGiven};
 
@@ -22,35 +22,35 @@ use httparse::spans::{EMPTY_HEADER_SPAN, HeaderSpan, RequestSpans};
 use oe_http::Source;
 use std::alloc::Global;
 
-/// What comes next on a link.
+/// The next message on a link.
 #[derive(Drop, Debug)]
 pub enum Incoming {
     /// A request.
     Request {
         /// Its method.
         method: Method,
-        /// Its target, as it stands in its head.
+        /// Its target, undecoded.
         target: Bytes,
         /// Its body.
         body: Bytes,
-        /// Whether the session ends after the reply to it.
+        /// Whether the session ends after its response.
         close: bool,
     },
-    /// The end, and no byte before it.
+    /// The input ended before any byte of a request.
     Closed,
-    /// The end inside a head or a body.
+    /// The input ended inside a head or a body.
     Truncated,
     /// Bytes that are refused with this status.
     Refused(u16),
-    /// The source has failed.
+    /// The source failed.
     ReadFault,
-    /// [`oe_http::INPUT_LIMIT`] bytes were read, and more are wanted.
+    /// [`oe_http::INPUT_LIMIT`] bytes were read, and more are needed.
     Long,
     /// Memory was refused.
     NoMemory,
 }
 
-/// The same, of a read that gave no more bytes.
+/// The message for a read that failed.
 fn broken(end: ReadEnd) -> Incoming
     ensures broken { IsBroken result }
     ensures status { HasStatus result }
@@ -64,7 +64,7 @@ fn broken(end: ReadEnd) -> Incoming
     }
 }
 
-/// Hands out the request whose head is read and whose body is held.
+/// Returns the request whose head was read and whose body is held.
 fn give(alloc: Global, held: &mut Held, head: Head, len: usize) -> Incoming
     requires { len + head.size ≤ length held.old.bytes.items }
     ensures given { IsGiven head held.old.bytes.items len result held.new.bytes.items }
@@ -88,7 +88,7 @@ fn give(alloc: Global, held: &mut Held, head: Head, len: usize) -> Incoming
     }
 }
 
-/// The request whose head is read, when its body has come.
+/// Reads the body of the request whose head was read.
 #[tactic(auto, using(crate::proofs::MessageFacts::gives_request, crate::proofs::MessageFacts::gives_cut, crate::proofs::MessageFacts::gives_broken))]
 fn take_body<S: Source>(
     alloc: Global,
@@ -98,7 +98,8 @@ fn take_body<S: Source>(
     len: usize,
 ) -> Incoming
     requires { HoldsSaid held.old.bytes.items head len }
-    ensures gives { GivesMessage (unread held.old (S.left link.old)) (unread held.new (S.left link.new)) result }
+    ensures gives { GivesMessage (unread_of held.old (S.left link.old))
+        (unread_of held.new (S.left link.new)) result }
     ensures turns { Turns (most_left held.old) (most_left held.new) result }
     ensures status { HasStatus result }
     ensures beside { S.beside link.new ≡ S.beside link.old }
@@ -115,7 +116,7 @@ fn take_body<S: Source>(
     }
 }
 
-/// The request whose head is held, when its body has come.
+/// Reads the body of the request whose head is held.
 #[tactic(auto, using(crate::proofs::MessageFacts::gives_refused, crate::proofs::MessageFacts::holds_said, crate::proofs::MessageFacts::gives_broken))]
 fn take_request<S: Source>(
     alloc: Global,
@@ -125,8 +126,10 @@ fn take_request<S: Source>(
     spans: RequestSpans,
 ) -> Incoming
     requires within { IsRequestWithin held.old.bytes.items headers.now spans }
-    requires whole { (head : RequestHead) × IsRequestAt held.old.bytes.items headers.now spans head × (length head.fields ≤ MOST_FIELDS) × (spans.len ≤ HEAD_LIMIT) }
-    ensures gives { GivesMessage (unread held.old (S.left link.old)) (unread held.new (S.left link.new)) result }
+    requires whole { (head : RequestHead) × IsRequestAt held.old.bytes.items headers.now spans head
+        × (length head.fields ≤ MOST_FIELDS) × (spans.len ≤ HEAD_LIMIT) }
+    ensures gives { GivesMessage (unread_of held.old (S.left link.old))
+        (unread_of held.new (S.left link.new)) result }
     ensures turns { Turns (most_left held.old) (most_left held.new) result }
     ensures status { HasStatus result }
     ensures beside { S.beside link.new ≡ S.beside link.old }
@@ -143,11 +146,12 @@ fn take_request<S: Source>(
     }
 }
 
-/// The next request of a link. `held` keeps what was read and belongs to later requests. A body is read once, and its
-/// head is not looked at again while it comes.
+/// Reads the next request of a link. `held` keeps the bytes that belong to later requests. A body is read once, and its
+/// head is not parsed again while the body arrives.
 #[tactic(auto, using(crate::proofs::MessageFacts::gives_on, crate::proofs::MessageFacts::gives_broken, crate::proofs::MessageFacts::turns_broken))]
 pub fn next_request<S: Source>(alloc: Global, link: &mut S, held: &mut Held) -> Incoming
-    ensures gives { GivesMessage (unread held.old (S.left link.old)) (unread held.new (S.left link.new)) result }
+    ensures gives { GivesMessage (unread_of held.old (S.left link.old))
+        (unread_of held.new (S.left link.new)) result }
     ensures turns { Turns (most_left held.old) (most_left held.new) result }
     ensures status { HasStatus result }
     ensures beside { S.beside link.new ≡ S.beside link.old }

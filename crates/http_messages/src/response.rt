@@ -1,4 +1,4 @@
-//! A response, written whole.
+//! Writes whole responses.
 
 ghost use Rattle.std.specs.Prelude.{◌≡◌, ◌≤◌, ◌<◌, List, ℕ, [], ◌++◌, OnOk, OnErr, IfOk, IsErrOf, length, unwrap_or};
 ghost use Rattle.std.specs.Io.KnownBytes.{Appends, Keeps};
@@ -15,13 +15,13 @@ use std::alloc::{AllocError, Global};
 /// Why a response was not written whole.
 #[derive(Clone, Copy, Debug, PartialEq, Eq)]
 pub enum SendErr {
-    /// The sink has failed.
+    /// The sink failed.
     WriteFault,
     /// Memory was refused.
     NoMemory,
 }
 
-/// The line that names the one method of a route.
+/// The `Allow` line with the one method of a route.
 fn allow_text(allow: Option<bool>) -> &'static str
     ensures { result.now ≡ allow_line allow }
 {
@@ -32,7 +32,7 @@ fn allow_text(allow: Option<bool>) -> &'static str
     }
 }
 
-/// The line that tells that the session ends.
+/// The `Connection: close` line.
 fn close_text(close: bool) -> &'static str
     ensures { result.now ≡ close_line close }
 {
@@ -91,12 +91,12 @@ fn text_of(
     Ok(text)
 }
 
-/// Writes a response. `allow` is given for a route with another method, which is GET where it holds true, and else POST.
-/// `close` tells that the session ends after it.
+/// Writes a response. `allow` is given where the route has another method: GET where it is true, else POST.
+/// `close` says that the session ends after it.
 ///
 /// # Errors
 ///
-/// `WriteFault` where the sink fails: a front of the response was then written. `NoMemory` where memory was refused:
+/// `WriteFault` where the sink fails: a front of the response was then written. `NoMemory` where memory ran out:
 /// nothing was written.
 pub fn write_response<O: Sink>(
     alloc: Global,
@@ -107,12 +107,16 @@ pub fn write_response<O: Sink>(
     close: bool,
 ) -> Result<(), SendErr>
     requires { IsStatusCode status }
-    ensures ok { OnOk result (Sent (O.held link.old) (O.held link.new) (response_text status allow body.now close) []) }
-    ensures fault { IsErrOf result SendErr.WriteFault → (rest : List ℕ) × Sent (O.held link.old) (O.held link.new) (response_text status allow body.now close) rest }
+    ensures ok { OnOk result (Sent (O.held link.old) (O.held link.new)
+        (response_text status allow body.now close) []) }
+    ensures fault { IsErrOf result SendErr.WriteFault
+        → (rest : List ℕ) × Sent (O.held link.old) (O.held link.new)
+        (response_text status allow body.now close) rest }
     ensures memory { IsErrOf result SendErr.NoMemory → Keeps (O.held link.old) (O.held link.new) }
     ensures beside { O.beside link.new ≡ O.beside link.old }
     ensures later { O.faults link.old ≤ O.faults link.new }
-    ensures cause { IsErrOf result SendErr.WriteFault → Rose (O.faults link.old) (O.faults link.new) }
+    ensures cause { IsErrOf result SendErr.WriteFault
+        → Rose (O.faults link.old) (O.faults link.new) }
 {
     match text_of(alloc, status, allow, body, close) {
         Ok(text) => match write_whole(link, &text) {

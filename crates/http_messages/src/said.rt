@@ -1,4 +1,4 @@
-//! What a head says, in the program's words.
+//! The meaning of a head, in the program's types.
 
 ghost use Rattle.std.specs.Prelude.{◌≤◌};
 ghost use Rattle.http_messages.specs.declared.frame.TheConstants.{BODY_LIMIT};
@@ -6,22 +6,22 @@ ghost use Rattle.http_messages.specs.declared.frame.TheConstants.{BODY_LIMIT};
 use grid_exact::Bytes;
 use http::Method;
 
-/// What a head says.
+/// The meaning of a head.
 #[derive(Drop)]
 pub(crate) struct Head {
     pub(crate) method: Method,
     pub(crate) target: Bytes,
-    /// The body has so many bytes.
+    /// The size of the body in bytes.
     pub(crate) size: usize,
-    /// The session ends after the reply.
+    /// Whether the session ends after the response.
     pub(crate) close: bool,
     ghost fits: { size ≤ BODY_LIMIT },
 }
 
-/// What came of reading a head.
+/// The result of reading a head.
 #[derive(Drop)]
 pub(crate) enum HeadRead {
-    /// It says this.
+    /// The head was read.
     Head(Head),
     /// Its fields are refused with this status.
     Refused(u16),

@@ -1,4 +1,4 @@
--- What the router finds.
+-- The result of the router's search.
 use Rattle.std.specs.Prelude.{ℕ, ◌≡◌, ◌<◌, All, List, Some, option_map}
 use Rattle.matchit.specs.Seek.{first}
 use Rattle.matchit.specs.Rows.{RowsOf}

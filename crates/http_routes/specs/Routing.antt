@@ -1,4 +1,4 @@
--- What a request comes to.
+-- The result of routing a request.
 use Rattle.std.specs.Prelude.{ℕ, ◌≡◌, ◌≢◌, List, IsUtf8}
 use Rattle.http_routes.specs.declared.places.Place.{Place}
 use Rattle.http_routes.specs.declared.routes.Routed.{Routed}
@@ -6,12 +6,12 @@ use Rattle.http_routes.specs.declared.routes.Routed.TheVariants as routed
 use Rattle.http_routes.specs.Targets.{IsTarget, is_read, method_of}
 use Rattle.http_routes.specs.Records.{IsRecord}
 
--- the target is text and leads to this place, with this name
+-- the target is UTF-8 and leads to this place, with this name
 pub record LeadsTo (target : List ℕ) (place : Place) (name : List ℕ) : Type 0 where
   pub text : IsUtf8 target
   pub target_is : IsTarget place name target
 
--- what a request of this method, target and body comes to
+-- the result of routing a request with this method, target and body
 abbrev pub IsRouted : List ℕ → List ℕ → List ℕ → Routed → Type 0
 IsRouted method target body (routed.Record bytes) =
     (place : Place) × (name : List ℕ) × LeadsTo target place name × (method ≡ method_of place) × IsRecord place name body bytes

@@ -16,7 +16,7 @@ prefix places.Report = codes "/report/"
 prefix places.Record = codes "/record"
 prefix places.Review = codes "/review"
 
--- what stands behind them
+-- the text after the prefix
 abbrev pub IsTail : Place → List ℕ → Type 0
 IsTail places.Record tail = tail ≡ []
 IsTail places.Review tail = tail ≡ []
@@ -28,7 +28,7 @@ IsTail places.Report tail = IsName tail
 abbrev pub IsTarget : Place → List ℕ → List ℕ → Type 0
 IsTarget place name target = IsTail place name × (target ≡ prefix place ++ name)
 
--- the place is asked for, and not written to
+-- the method of the place is GET
 abbrev pub is_read : Place → Bool
 is_read places.Record = false
 is_read places.Review = true
@@ -36,6 +36,6 @@ is_read places.Case = true
 is_read places.Airfield = true
 is_read places.Report = true
 
--- the method that the place has
+-- the method of the place
 abbrev pub method_of : Place → List ℕ
 method_of place = if is_read place then codes "GET" else codes "POST"

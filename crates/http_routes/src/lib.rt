@@ -1,4 +1,4 @@
-//! The routes of HTTP requests, and the record that each request stands for.
+//! The routes of HTTP requests, and the record for each request.
 #![tactic(auto)]
 
 mod places;
@@ -6,6 +6,3 @@ mod records;
 mod routes;
 
 pub use routes::{Routed, Routes};
-
-#[cfg(test)]
-mod tests;

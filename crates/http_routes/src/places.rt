@@ -1,22 +1,22 @@
-//! The places that targets lead to.
+//! The places that routes lead to.
 
 ghost use Rattle.std.specs.Prelude.{◌≡◌, ◌≢◌, ◌++◌, true, false, List, ℕ};
 ghost use Rattle.http_routes.specs.Targets.{IsName, IsTarget, is_read, method_of};
 
 use http::Method;
 
-/// Where a target leads.
+/// The place that a target leads to.
 #[derive(Clone, Copy, Debug, PartialEq, Eq)]
 pub(crate) enum Place {
-    /// A record is posted.
+    /// `/record`: a record is posted.
     Record,
-    /// The marked cases are asked for.
+    /// `/review`: the marked cases.
     Review,
-    /// A case is asked for, by its number.
+    /// `/case/{n}`: a case, by its number.
     Case,
-    /// An airfield is asked for, by its identifier.
+    /// `/airfield/{id}`: an airfield, by its name.
     Airfield,
-    /// A report is asked for, by its name.
+    /// `/report/{name}`: a report, by its name.
     Report,
 }
 
@@ -36,10 +36,12 @@ fn is_name(name: &[u8]) -> bool
     true
 }
 
-/// Whether a target is a prefix and then a name.
+/// Whether a target is the prefix followed by a name.
 fn has_name(target: &[u8], prefix: &[u8]) -> bool
-    ensures yes { result ≡ true → (name : List ℕ) × IsName name × (target.now ≡ prefix.now ++ name) }
-    ensures no { result ≡ false → (name : List ℕ) → IsName name → target.now ≡ prefix.now ++ name → ⊥ }
+    ensures yes { result ≡ true → (name : List ℕ) × IsName name × (target.now
+        ≡ prefix.now ++ name) }
+    ensures no { result ≡ false → (name : List ℕ) → IsName name → target.now ≡ prefix.now ++ name
+        → ⊥ }
 {
     if target.len() < prefix.len() {
         return false;
@@ -65,7 +67,7 @@ pub(crate) fn leads_to(target: &[u8], place: Place) -> bool
     }
 }
 
-/// Whether the method of a place is GET. Else it is POST.
+/// Whether the method of a place is GET; if not it is POST.
 pub(crate) fn is_read(place: Place) -> bool
     ensures { result ≡ is_read place }
 {
@@ -78,7 +80,7 @@ pub(crate) fn is_read(place: Place) -> bool
     }
 }
 
-/// Whether a method is the one that a place has.
+/// Whether a method is that of the place.
 pub(crate) fn is_allowed(place: Place, method: &Method) -> bool
     ensures yes { result ≡ true → method.now ≡ method_of place }
     ensures no { result ≡ false → method.now ≢ method_of place }

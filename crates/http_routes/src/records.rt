@@ -1,4 +1,4 @@
-//! The record that a request stands for.
+//! The record for a request.
 
 ghost use Rattle.std.specs.Prelude.{◌≡◌, ◌++◌, ◌≤◌, List, ℕ, IfOk, length, drop};
 ghost use Rattle.http_routes.specs.Targets.{IsTarget};
@@ -8,7 +8,7 @@ use crate::places::Place;
 use grid_exact::{Bytes, NoMemory};
 use std::alloc::Global;
 
-/// A body without the line feed that ends it, and without a carriage return before that.
+/// A body without a line feed at its end, and without a carriage return before that.
 #[tactic(auto, using(crate::proofs::EndFacts::with_both, crate::proofs::EndFacts::with_feed, crate::proofs::EndFacts::with_none))]
 fn without_end(body: &[u8]) -> &[u8]
     ensures { IsWithoutEnd body.now result.now }
@@ -22,11 +22,12 @@ fn without_end(body: &[u8]) -> &[u8]
     }
 }
 
-/// A word and the name that stands in a target behind so many bytes.
+/// A word, and the name in a target after the prefix.
 #[tactic(auto, using(crate::proofs::RouteFacts::name_is, crate::proofs::RouteFacts::prefix_fits))]
 fn named(alloc: Global, word: &[u8], target: &[u8], prefix: &[u8]) -> Result<Bytes, NoMemory>
     requires { (name : List ℕ) × (target.now ≡ prefix.now ++ name) }
-    ensures { IfOk result (λ bytes. (name : List ℕ) → target.now ≡ prefix.now ++ name → bytes ≡ word.now ++ name) }
+    ensures { IfOk result (λ bytes. (name : List ℕ) → target.now ≡ prefix.now ++ name
+        → bytes ≡ word.now ++ name) }
 {
     let (_, name) = target.split_at(prefix.len());
     let mut record = word.to_vec(alloc)?;
@@ -34,7 +35,7 @@ fn named(alloc: Global, word: &[u8], target: &[u8], prefix: &[u8]) -> Result<Byt
     Ok(Bytes::from_vec(record))
 }
 
-/// The record that a request for a place stands for.
+/// The record for a request to a place.
 ///
 /// # Errors
 ///
@@ -46,7 +47,8 @@ pub(crate) fn record_of(
     body: &[u8],
 ) -> Result<Bytes, NoMemory>
     requires { (name : List ℕ) × IsTarget place name target.now }
-    ensures { IfOk result (λ bytes. (name : List ℕ) → IsTarget place name target.now → IsRecord place name body.now bytes) }
+    ensures { IfOk result (λ bytes. (name : List ℕ) → IsTarget place name target.now
+        → IsRecord place name body.now bytes) }
 {
     match place {
         Place::Record => Bytes::from_slice(alloc, without_end(body)),

@@ -1,4 +1,4 @@
-//! The routes, and what a request comes to by them.
+//! The routes of the desk, and routing requests by them.
 
 ghost use Rattle.std.specs.Prelude.{◌≡◌, IsUtf8, ℕ, List, IfSome, IfNone};
 ghost use Rattle.http_routes.specs.Targets.{IsTarget};
@@ -12,14 +12,14 @@ use http::Method;
 use matchit::Router;
 use std::alloc::Global;
 
-/// What a request comes to.
+/// The result of routing a request.
 #[derive(Drop, Debug)]
 pub enum Routed {
-    /// It stands for this record.
+    /// The record for the request.
     Record(Bytes),
-    /// No route has its target: 404.
+    /// No route has the target: 404.
     NotFound,
-    /// Its target has a route with another method: 405. That method is GET where `get` is true, and else POST.
+    /// A route with another method has the target: 405. The route's method is GET where `get` is true, else POST.
     NotAllowed {
         /// Whether the route's method is GET.
         get: bool,
@@ -48,7 +48,7 @@ impl Routes {
         }
     }
 
-    /// The same, with the router's own errors.
+    /// Builds the routes; the errors are the router's own.
     fn build(alloc: Global) -> Result<Routes, matchit::InsertError> {
         let mut router = Router::new(alloc);
         router.insert("/record", Place::Record)?;
@@ -59,10 +59,12 @@ impl Routes {
         Ok(Routes { router })
     }
 
-    /// Where a target leads. One that is no UTF-8 leads nowhere.
+    /// The place that a target leads to. One that is not UTF-8 leads nowhere.
     fn locate(&self, target: &[u8]) -> Option<Place>
-        ensures found { IfSome result (λ place. IsUtf8 target.now × ((name : List ℕ) × IsTarget place name target.now)) }
-        ensures none { IfNone result (IsUtf8 target.now → (place : Place) (name : List ℕ) → IsTarget place name target.now → ⊥) }
+        ensures found { IfSome result (λ place. IsUtf8 target.now
+            × ((name : List ℕ) × IsTarget place name target.now)) }
+        ensures none { IfNone result (IsUtf8 target.now → (place : Place) (name : List ℕ)
+            → IsTarget place name target.now → ⊥) }
     {
         match str::from_utf8(target) {
             Ok(text) => match self.router.at(text) {
@@ -79,8 +81,8 @@ impl Routes {
         }
     }
 
-    /// What a request of this method, target and body comes to. The target is taken as it stands, with nothing
-    /// decoded. The record of a body is the body without the line feed that ends it, if one does, and without a
+    /// Routes a request with this method, target and body. The target is matched as it stands, without
+    /// decoding. The record of a body is the body without a line feed at its end, and without a
     /// carriage return before that.
     pub fn find(&self, alloc: Global, method: &Method, target: &[u8], body: &[u8]) -> Routed
         ensures { IsRouted method.now target.now body.now result }

@@ -10,8 +10,8 @@ use Rattle.http_messages.specs.declared.request.Incoming.TheVariants as incoming
 use Rattle.http_messages.specs.declared.status.TheConstants.{NO_MEMORY}
 use Rattle.http_session.specs.Machine.{Asked, Asks, Reply, Step, Exchange, texts, exchange_text, reply_text, refusal_text, StaysOpen, ClosesAtLast}
 use Rattle.http_session.specs.Endings.{Served, Ends, EndsSo, Goes, RefusesSo}
-use Rattle.oe_session.specs.declared.session.Ended.{Ended}
-use Rattle.oe_session.specs.declared.session.Ended.TheVariants as endings
+use Rattle.line_session.specs.declared.session.Ended.{Ended}
+use Rattle.line_session.specs.declared.session.Ended.TheVariants as endings
 
 -- ---- an exchange before the others
 

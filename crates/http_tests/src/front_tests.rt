@@ -4,10 +4,9 @@ ghost use Rattle.std.specs.Prelude.{[]};
 
 use grid_exact::NoMemory;
 use http::Method;
-use http_front::Routed;
 use http_routes::Routes;
-use http_session::Replying;
-use oe_session::Answering;
+use http_session::{Replying, Routed};
+use line_session::Answering;
 use std::test::Fail;
 
 /// Answers a line that is text by itself.
@@ -42,51 +41,13 @@ fn each_reply_has_its_status(rt: HostRuntime) -> Result<(), Fail> {
     // the method, the target, the body, the status, the route's other method, and the text
     let table = [
         ("POST", "/record", "found,0,0\r\n", 200, None, "found,0,0"),
-        (
-            "POST",
-            "/record",
-            "no,13,Malformed,3",
-            422,
-            None,
-            "no,13,Malformed,3",
-        ),
-        (
-            "POST",
-            "/record",
-            "no,30,KeeperFault",
-            503,
-            None,
-            "no,30,KeeperFault",
-        ),
-        (
-            "POST",
-            "/record",
-            "no,31,NoMemory",
-            507,
-            None,
-            "no,31,NoMemory",
-        ),
-        (
-            "POST",
-            "/record",
-            "no,3,UnknownAirfield",
-            409,
-            None,
-            "no,3,UnknownAirfield",
-        ),
-        (
-            "POST",
-            "/record",
-            "no,32,NoFormDue",
-            409,
-            None,
-            "no,32,NoFormDue",
-        ),
+        ("POST", "/record", "no,30,x", 503, None, "no,30,x"),
+        ("POST", "/record", "no,31,x", 507, None, "no,31,x"),
+        ("POST", "/record", "no,3,x", 409, None, "no,3,x"),
         ("POST", "/record", "\n", 422, None, "no,13,Malformed,1\n"),
         ("GET", "/case/7", "", 200, None, "case,7"),
         ("GET", "/case/7/", "", 404, None, ""),
         ("GET", "/record", "", 405, Some(false), ""),
-        ("HEAD", "/review", "", 405, Some(true), ""),
     ];
     for (method, target, body, status, allow, reply) in table {
         let method = Method::from_bytes(alloc, method.as_bytes())?;

@@ -7,8 +7,8 @@ ghost use Rattle.http_session.specs.Endings.{EndsSo};
 use grid_exact::{Bytes, NoMemory};
 use http::Method;
 use http_session::{Replying, Response, session};
+use line_session::Ended;
 use oe_http::{FakeLink, FakeSink, FakeSource};
-use oe_session::Ended;
 use std::alloc::Global;
 use std::marker::Model;
 use std::test::Fail;
@@ -58,7 +58,9 @@ impl Replying for Echo {
 
 /// A session at a concrete link, which tells all of its bytes.
 fn echo_all(alloc: Global, desk: &mut Echo, link: &mut FakeLink) -> Ended
-    ensures { EndsSo ⟦<Echo as Replying>⟧.step result desk.old desk.new (Some (bytes_left link.old.source)) (Some (bytes_held link.old.sink)) (Some (bytes_held link.new.sink)) }
+    ensures { EndsSo ⟦<Echo as Replying>⟧.step result desk.old desk.new
+        (Some (bytes_left link.old.source)) (Some (bytes_held link.old.sink))
+        (Some (bytes_held link.new.sink)) }
 {
     session(alloc, desk, link)
 }
@@ -83,28 +85,12 @@ fn requests_are_replied_to_in_order_until_the_session_ends(rt: HostRuntime) -> R
             "HTTP/1.1 200 OK\r\nContent-Type: text/plain\r\nContent-Length: 5\r\n\r\n/babc",
         ),
         (
-            b"GET /b HTTP/1.1\r\nConnection: CLOSE\r\n\r\nGET /c HTTP/1.1\r\n\r\n".as_slice(),
-            1,
-            0,
-            0,
-            Ended::Closed,
-            "HTTP/1.1 200 OK\r\nContent-Type: text/plain\r\nContent-Length: 2\r\nConnection: close\r\n\r\n/b",
-        ),
-        (
             b"POST /b HTTP/1.1\r\ncontent-length: 3\r\n\r\nab".as_slice(),
             7,
             0,
             0,
             Ended::Truncated,
             "",
-        ),
-        (
-            b"POST /b HTTP/1.1\r\n\r\nGET /c HTTP/1.1\r\n\r\n".as_slice(),
-            7,
-            0,
-            0,
-            Ended::Refused(411),
-            "HTTP/1.1 411 Length Required\r\nContent-Type: text/plain\r\nContent-Length: 0\r\nConnection: close\r\n\r\n",
         ),
         (
             b"GET /b HTTP/1.1\r\n\r\n".as_slice(),

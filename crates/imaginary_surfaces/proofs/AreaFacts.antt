@@ -23,7 +23,7 @@ use Rattle.airfields.specs.Runways.{IsProper}
 use Rattle.runway_lines.specs.declared.end.End.TheVariants.{One, Two}
 use Rattle.imaginary_surfaces.specs.declared.areas.StripAreas.{StripAreas}
 use Rattle.imaginary_surfaces.specs.Areas.{CoverStrip, HoldsBeside, HullHas, SkipStrip, approach_outline, primary_outline}
-use Rattle.imaginary_surfaces.specs.Approaches.{Approach, ApproachCovers, IsApproach, outside}
+use Rattle.imaginary_surfaces.specs.Approaches.{Approach, ApproachCovers, IsApproach, lateral_excess}
 use Rattle.imaginary_surfaces.specs.Primaries.{Primary, PrimaryCovers}
 use Rattle.imaginary_surfaces.specs.Strips.{primary_surface, approach_surface, primary_transition_surface, approach_transition_surface}
 use Rattle.imaginary_surfaces.specs.Transitions.{beside_approach, beside_primary}
@@ -49,7 +49,7 @@ outline_sized width z margin c a p q =
       reach_most = omega (arith, ints, a.sized.length_most, a.sized.outer_most, q);
     }
 
-on_outline : (a : Approach) (o : Offset) (margin z : ℤ) → IsApproach a.width a.class z → pos 0 <ℤ o.along → AtMostRoot o.along a.class.length o.square → AtMostRoot (outside a o) (pos 20 *ℤ a.width +ℤ margin) o.square → OnTrapezoid (approach_outline a margin) o
+on_outline : (a : Approach) (o : Offset) (margin z : ℤ) → IsApproach a.width a.class z → pos 0 <ℤ o.along → AtMostRoot o.along a.class.length o.square → AtMostRoot (lateral_excess a o) (pos 20 *ℤ a.width +ℤ margin) o.square → OnTrapezoid (approach_outline a margin) o
 on_outline a o margin z s ahead not_past beside =
     let near = pos 20 *ℤ a.width +ℤ margin in
     let far = pos 20 *ℤ a.class.outer +ℤ margin in

@@ -17,7 +17,7 @@ use Rattle.runway_lines.specs.declared.end.End.{End}
 use Rattle.runway_lines.specs.declared.end.End.TheVariants.{One, Two}
 use Rattle.runway_lines.specs.Centerlines.{elevation}
 use Rattle.imaginary_surfaces.specs.Primaries.{IsWidth, Primary, PrimaryCovers}
-use Rattle.imaginary_surfaces.specs.Approaches.{Approach, IsApproach, approach_at, base_at, is_past_split, outside, slope_at}
+use Rattle.imaginary_surfaces.specs.Approaches.{Approach, IsApproach, approach_at, base_at, is_past_split, lateral_excess, slope_at}
 use Rattle.imaginary_surfaces.specs.Transitions.{beside_approach_at, beside_primary_at}
 use Rattle.imaginary_surfaces.specs.Clearances.{IsClear, IsClearance, IsFarAhead, IsFarAside, none_exceeded, past_end, rise_to}
 use Rattle.imaginary_surfaces.specs.Strips.{IsStripExcesses, primary_of, approach_of, primary_surface, approach_surface, primary_excess, approach_excess}
@@ -76,7 +76,7 @@ approach_clear a o c top h (inl far) k b =
 approach_clear a o c top h (inr far) k b =
     let rise = rise_to c top in
     let p = rise_positive c top in
-    over_aside (outside a o) (widest o) a.width rise o.square (narrower (pos o.aside) a.class.k o.along k.ahead h.sound.sized.k_most) p
+    over_aside (lateral_excess a o) (widest o) a.width rise o.square (narrower (pos o.aside) a.class.k o.along k.ahead h.sound.sized.k_most) p
     (above_root (widest o) (far_factor a.width rise) c.length o.square (far_positive a.width rise h.sound.wide p) h.length (far_of a o c rise h.width far)) k.not_beside
 
 scaled_far : (rise m : ℤ) (l : ℕ) → ((pos 50 *ℤ rise) *ℤ pos l) <ℤ m → ((pos 280 *ℤ (pos 50 *ℤ rise)) *ℤ pos l) <ℤ (pos 280 *ℤ m)
@@ -92,7 +92,7 @@ beside_clear a o cap c top h (inl far) k b =
     let rise = rise_to c top in
     let r = rise_sized a o h.sound in
     let p = rise_positive c top in
-    beside_ahead (slope_at a o) (outside a o) o.along a.width top (base_at a o) rise o.square r.rises (omega (arith, ints, r.slope_most))
+    beside_ahead (slope_at a o) (lateral_excess a o) o.along a.width top (base_at a o) rise o.square r.rises (omega (arith, ints, r.slope_most))
     (rise_least c top (base_at a o) (omega (arith, ints, h.level, base_least a o))) p
     (above_root (pos 280 *ℤ o.along) (pos 280 *ℤ (pos 50 *ℤ rise)) c.length o.square (omega (arith, ints, p)) h.length (scaled_far rise o.along c.length far)) k.reached.from_side b
 beside_clear a o cap c top h (inr far) k b =
@@ -102,9 +102,9 @@ beside_clear a o cap c top h (inr far) k b =
     let s = slope_at a o in
     let f = far_factor a.width rise in
     let n = narrower (pos o.aside) a.class.k o.along k.reached.ahead h.sound.sized.k_most in
-    beside_aside s (outside a o) o.along a.width top (base_at a o) rise o.square r.rises k.reached.ahead (rise_least c top (base_at a o) (omega (arith, ints, h.level, base_least a o)))
-    (above_root (s *ℤ outside a o) (s *ℤ f) c.length o.square (product_up s f (omega (arith, ints, r.rises)) (far_positive a.width rise h.sound.wide p)) h.length
-    (sloped_far s f (widest o) (outside a o) c.length r.rises n (far_of a o c rise h.width far))) b
+    beside_aside s (lateral_excess a o) o.along a.width top (base_at a o) rise o.square r.rises k.reached.ahead (rise_least c top (base_at a o) (omega (arith, ints, h.level, base_least a o)))
+    (above_root (s *ℤ lateral_excess a o) (s *ℤ f) c.length o.square (product_up s f (omega (arith, ints, r.rises)) (far_positive a.width rise h.sound.wide p)) h.length
+    (sloped_far s f (widest o) (lateral_excess a o) c.length r.rises n (far_of a o c rise h.width far))) b
 
 -- ---- the primary surface, and that beside it, of a point between its ends
 record Between (p : Primary) (o : Offset) (c : Clearance) : Type 0 where

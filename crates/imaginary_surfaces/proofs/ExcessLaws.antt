@@ -13,7 +13,7 @@ use Rattle.airfields.specs.Runways.{IsProper}
 use Rattle.runway_lines.specs.declared.end.End.{End}
 use Rattle.runway_lines.specs.Centerlines.{elevation}
 use Rattle.imaginary_surfaces.specs.Primaries.{PrimaryCovers, primary_covers}
-use Rattle.imaginary_surfaces.specs.Approaches.{ApproachCovers, approach_covers, base_at, slope_at, outside}
+use Rattle.imaginary_surfaces.specs.Approaches.{ApproachCovers, approach_covers, base_at, slope_at, lateral_excess}
 use Rattle.imaginary_surfaces.specs.Transitions.{GoesBeyond, Incline, ReachesBesideApproach, ReachesBesidePrimary, TransitionCovers, ends_at, goes_beyond, transition, transition_excess_of}
 use Rattle.imaginary_surfaces.specs.Transitions.{incline_beside_approach, incline_beside_primary, reaches_beside_approach, reaches_beside_primary}
 use Rattle.imaginary_surfaces.specs.Strips.{primary_of, approach_of, primary_surface, approach_surface, primary_excess, approach_excess}
@@ -71,6 +71,6 @@ approach_transition_excess-is r end x cap top p l =
     let rise = rise_sized a o s in
     transition_law (ReachesBesideApproach a o) (reaches_beside_approach a o) (incline_beside_approach a o) (GoesBeyond a o) (goes_beyond a o) cap top (approach_tests a o) l
     (omega (arith, ints, rise.rises)) (shift_size (slope_at a o) (base_at a o) a.width rise s.wide)
-    (λ (h : ReachesBesideApproach a o). left_positive (slope_at a o) (outside a o) o.along rise.rises (outside_positive a o s.wide (approach_line r end p).some h) h.ahead)
+    (λ (h : ReachesBesideApproach a o). left_positive (slope_at a o) (lateral_excess a o) o.along rise.rises (outside_positive a o s.wide (approach_line r end p).some h) h.ahead)
 
 pub ruleset laws = (primary_excess-is, approach_excess-is, primary_transition_excess-is, approach_transition_excess-is)

@@ -3,7 +3,7 @@ use Rattle.std.proofs.Common.{◌≡◌, ℕ, ◌≤◌, ℤ, pos, ◌-ℤ◌, �
 use Rattle.std.proofs.Math.IntN.{*ℤ_comm}
 use Rattle.std.proofs.Math.Nat.{mul-le-mul}
 use Rattle.std.proofs.lemmas.Int.{ints}
-use Rattle.grid_exact.specs.Lines.{IsReach, Offset, along, aside, offset, square}
+use Rattle.grid_exact.specs.Lines.{IsReach, Offset, along, distance_aside, offset, square}
 use Rattle.grid_exact.specs.Vector.{across_of}
 use Rattle.grid_exact.specs.declared.point.Point.{Point}
 use Rattle.grid_exact.proofs.IntLaws.{mul-neg, sub-mul}
@@ -41,11 +41,11 @@ across_moved x y a b c d =
     let f : y -ℤ d ≡ (y -ℤ b) -ℤ (d -ℤ b) = omega (arith, ints) in
     rw (e, f) (across_on (c -ℤ a) (d -ℤ b) (x -ℤ a) (y -ℤ b))
 
-aside_first : (r : Runway) (x : Point) → aside (approach_of r One).line x ≡ aside (primary_of r).line x
+aside_first : (r : Runway) (x : Point) → distance_aside (approach_of r One).line x ≡ distance_aside (primary_of r).line x
 unfolding primary_of approach_of
 aside_first r x = across_turned x.x x.y (center_x r One) (center_y r One) (center_x r Two) (center_y r Two)
 
-aside_second : (r : Runway) (x : Point) → aside (approach_of r Two).line x ≡ aside (primary_of r).line x
+aside_second : (r : Runway) (x : Point) → distance_aside (approach_of r Two).line x ≡ distance_aside (primary_of r).line x
 unfolding primary_of approach_of
 aside_second r x = ap unsigned_abs (across_moved x.x x.y (center_x r One) (center_y r One) (center_x r Two) (center_y r Two))
 
@@ -68,12 +68,12 @@ pub by_first : (r : Runway) (x : Point) (o p : Offset) → o ≡ offset (primary
     p ≡ offset (approach_of r One).line x
 by_first r x o p e a b d =
     let l = (approach_of r One).line in
-    same_offset p.along (along l x) p.aside (aside l x) p.square (square l) (a ∙ (ap (λ (z : Offset). neg_ℤ z.along) e ∙ sym (along_first r x)))
+    same_offset p.along (along l x) p.aside (distance_aside l x) p.square (square l) (a ∙ (ap (λ (z : Offset). neg_ℤ z.along) e ∙ sym (along_first r x)))
     (b ∙ (ap (λ (z : Offset). z.aside) e ∙ sym (aside_first r x))) (d ∙ (ap (λ (z : Offset). z.square) e ∙ sym (square_first r)))
 
 pub by_second : (r : Runway) (x : Point) (o p : Offset) → o ≡ offset (primary_of r).line x → p.along ≡ o.along -ℤ pos o.square → p.aside ≡ o.aside → p.square ≡ o.square →
     p ≡ offset (approach_of r Two).line x
 by_second r x o p e a b d =
     let l = (approach_of r Two).line in
-    same_offset p.along (along l x) p.aside (aside l x) p.square (square l) (a ∙ (ap (λ (z : Offset). z.along -ℤ pos z.square) e ∙ sym (along_second r x)))
+    same_offset p.along (along l x) p.aside (distance_aside l x) p.square (square l) (a ∙ (ap (λ (z : Offset). z.along -ℤ pos z.square) e ∙ sym (along_second r x)))
     (b ∙ (ap (λ (z : Offset). z.aside) e ∙ sym (aside_second r x))) (d ∙ (ap (λ (z : Offset). z.square) e ∙ sym (square_second r)))

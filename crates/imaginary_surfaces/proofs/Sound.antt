@@ -13,7 +13,7 @@ use Rattle.airfields.specs.declared.runway.Runway.{Runway}
 use Rattle.airfields.specs.Runways.{IsProper}
 use Rattle.runway_lines.specs.declared.end.End.{End}
 use Rattle.runway_lines.specs.declared.end.End.TheVariants.{One, Two}
-use Rattle.runway_lines.specs.Centerlines.{clamped, elevation}
+use Rattle.runway_lines.specs.Centerlines.{clamped_length, elevation}
 use Rattle.runway_lines.specs.Ends.{class_of, end_class_of, end_of}
 use Rattle.runway_lines.specs.Profiles.{profile_of}
 use Rattle.runway_lines.proofs.AxisFacts.{axis_square_back, outward_square, runway_square}
@@ -100,7 +100,7 @@ pub primary_line : (r : Runway) → IsProper r → IsSquare (square (primary_of 
 unfolding primary_of
 primary_line r p = axis_square_back r p.within_length
 
-clamped_within : (m : ℤ) (n : ℕ) → (pos 0 ≤ℤ clamped m n) × (clamped m n ≤ℤ pos n)
+clamped_within : (m : ℤ) (n : ℕ) → (pos 0 ≤ℤ clamped_length m n) × (clamped_length m n ≤ℤ pos n)
 clamped_within m n =
     elim (cases_Bool (int_lt m (pos 0))) [
       | inl a ↦ rw a (omega (arith, ints), omega (arith, ints))
@@ -120,7 +120,7 @@ profile_size r x p =
     let o = offset (profile_of r).line x in
     let rise = (profile_of r).rise in
     let t = clamped_within o.along o.square in
-    let c = climb_size rise (clamped o.along o.square) o.square (runway_square r p.within_length).some t.0 t.1 in
+    let c = climb_size rise (clamped_length o.along o.square) o.square (runway_square r p.within_length).some t.0 t.1 in
     omega (arith, ints, c, p.elevation1, p.elevation2)
 
 -- nowhere lower than the first end less what the second one is higher or lower
@@ -129,7 +129,7 @@ profile_least r x p =
     let o = offset (profile_of r).line x in
     let rise = (profile_of r).rise in
     let t = clamped_within o.along o.square in
-    let c = climb_size rise (clamped o.along o.square) o.square (profile_some r p) t.0 t.1 in
+    let c = climb_size rise (clamped_length o.along o.square) o.square (profile_some r p) t.0 t.1 in
     omega (arith, ints, c)
 
 pub elevation_least : (r : Runway) (x : Point) → IsProper r → ((primary_of r).profile.z -ℤ pos (unsigned_abs (primary_of r).profile.rise)) ≤ℤ elevation (primary_of r).profile x

@@ -13,7 +13,7 @@ use Rattle.runway_lines.specs.declared.end.End.{End}
 use Rattle.grid_exact.specs.Lines.{Line, Offset, offset}
 use Rattle.runway_lines.specs.Centerlines.{Profile, elevation}
 use Rattle.imaginary_surfaces.specs.Primaries.{Primary, PrimaryCovers, primary_covers}
-use Rattle.imaginary_surfaces.specs.Approaches.{Approach, ApproachCovers, approach_covers, outside, slope_at, base_at}
+use Rattle.imaginary_surfaces.specs.Approaches.{Approach, ApproachCovers, approach_covers, lateral_excess, slope_at, base_at}
 use Rattle.imaginary_surfaces.specs.Strips.{primary_of, approach_of, primary_surface, approach_surface, primary_excess, approach_excess}
 use Rattle.imaginary_surfaces.specs.declared.measures.TheConstants.{HALF_WIDTH_SCALE}
 use Rattle.grid_exact.proofs.TestFacts.{all_true, at_most_in, at_most_out, first_true, le_in, le_out, lt_in, lt_out, second_true, third_true}
@@ -40,8 +40,8 @@ pub approach_out : (a : Approach) (o : Offset) → ApproachCovers a o → approa
 unfolding approach_covers
 approach_out a o h =
     let half = HALF_WIDTH_SCALE *ℤ a.width in
-    all_true (int_lt (pos 0) o.along) (is_at_most_root o.along a.class.length o.square) (is_at_most_root (outside a o) half o.square)
-    (lt_out (pos 0) o.along h.ahead) (at_most_out o.along a.class.length o.square h.not_past) (at_most_out (outside a o) half o.square h.not_beside)
+    all_true (int_lt (pos 0) o.along) (is_at_most_root o.along a.class.length o.square) (is_at_most_root (lateral_excess a o) half o.square)
+    (lt_out (pos 0) o.along h.ahead) (at_most_out o.along a.class.length o.square h.not_past) (at_most_out (lateral_excess a o) half o.square h.not_beside)
 
 pub approach_in : (a : Approach) (o : Offset) → approach_covers a o ≡ true → ApproachCovers a o
 unfolding approach_covers
@@ -49,11 +49,11 @@ approach_in a o h =
     let half = HALF_WIDTH_SCALE *ℤ a.width in
     let b = int_lt (pos 0) o.along in
     let d = is_at_most_root o.along a.class.length o.square in
-    let e = is_at_most_root (outside a o) half o.square in
+    let e = is_at_most_root (lateral_excess a o) half o.square in
     record {
       ahead = lt_in (pos 0) o.along (first_true b d e h);
       not_past = at_most_in o.along a.class.length o.square (second_true b d e h);
-      not_beside = at_most_in (outside a o) half o.square (third_true b d e h);
+      not_beside = at_most_in (lateral_excess a o) half o.square (third_true b d e h);
     }
 
 -- ---- an excess is what the tests compute

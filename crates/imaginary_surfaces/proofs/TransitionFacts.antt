@@ -2,6 +2,7 @@
 use Rattle.std.proofs.Common.{◌≡◌, ℕ, ◌*◌, ◌^◌, ◌<◌, ◌≤◌, ℤ, pos, ◌+ℤ◌, ◌-ℤ◌, ◌*ℤ◌, ◌<ℤ◌, unsigned_abs, arith, sym, subst, refl, Option, Bool, true, false, ◌&&◌, int_le, int_lt}
 use Rattle.std.specs.Prelude.{IfSome, ⊤}
 use Rattle.std.proofs.Math.IntN.{*ℤ_comm}
+use Rattle.std.proofs.lemmas.Bool.{and_parts}
 use Rattle.std.proofs.lemmas.Int.{ints, by_lt_z, unsigned_abs-mul}
 use Rattle.std.proofs.lemmas.Nat.{mul-le}
 use Rattle.grid_exact.specs.Root.{AtLeastRoot, signed_square}
@@ -18,7 +19,7 @@ use Rattle.grid_exact.proofs.TestFacts.{all_true, at_least_in, at_least_out, at_
 use Rattle.airfields.specs.declared.runway.Runway.{Runway}
 use Rattle.runway_lines.specs.declared.end.End.{End}
 use Rattle.imaginary_surfaces.specs.Primaries.{IsWidth, Primary}
-use Rattle.imaginary_surfaces.specs.Approaches.{Approach, IsRise, outside}
+use Rattle.imaginary_surfaces.specs.Approaches.{Approach, IsRise, lateral_excess}
 use Rattle.imaginary_surfaces.specs.Transitions.{EndsAt, Incline, TransitionCovers, ends_at, transition, transition_excess_of}
 use Rattle.imaginary_surfaces.specs.Transitions.{ReachesBesidePrimary, incline_beside_primary, reaches_beside_primary}
 use Rattle.imaginary_surfaces.specs.Transitions.{GoesBeyond, ReachesBesideApproach, goes_beyond, incline_beside_approach, reaches_beside_approach}
@@ -33,8 +34,8 @@ from_side_positive a w n p r h =
     (λ l. l)
     (λ l. absurd (omega (arith, ints, mul-lt_right (signed_square (pos 0)) (signed_square w) n r (signed_square_lt (pos 0) w p), signed_square_le a (pos 0) l, h.at_least)))
 
-pub outside_positive : (a : Approach) (o : Offset) → IsWidth a.width → 0 < o.square → ReachesBesideApproach a o → pos 0 <ℤ outside a o
-outside_positive a o w n h = from_side_positive (outside a o) (HALF_WIDTH_SCALE *ℤ a.width) o.square (omega (arith, ints, w.least)) n h.from_side
+pub outside_positive : (a : Approach) (o : Offset) → IsWidth a.width → 0 < o.square → ReachesBesideApproach a o → pos 0 <ℤ lateral_excess a o
+outside_positive a o w n h = from_side_positive (lateral_excess a o) (HALF_WIDTH_SCALE *ℤ a.width) o.square (omega (arith, ints, w.least)) n h.from_side
 
 pub left_positive : (s out m : ℤ) → pos 0 <ℤ s → pos 0 <ℤ out → pos 0 <ℤ m → pos 0 <ℤ (s *ℤ out +ℤ APPROACH_FACTOR *ℤ m)
 left_positive s out m p q r = omega (arith, ints, mul-le_left s (pos 0) out p (omega (arith, ints, q)), *ℤ_comm s (pos 0), r)
@@ -87,14 +88,6 @@ transition_beyond C B i j top r e c b h =
 both_true : (a b : Bool) → a ≡ true → b ≡ true → a && b ≡ true
 both_true a b x y = rw (x, y) refl
 
-left_true : (a b : Bool) → a && b ≡ true → a ≡ true
-left_true true b h = refl
-left_true false b h = h
-
-right_true : (a b : Bool) → a && b ≡ true → b ≡ true
-right_true true b h = h
-right_true false b h = absurd (cc)
-
 pub primary_reached : (p : Primary) (o : Offset) → ReachesBesidePrimary p o → reaches_beside_primary p o ≡ true
 unfolding reaches_beside_primary
 primary_reached p o h =
@@ -119,8 +112,8 @@ pub approach_reached : (a : Approach) (o : Offset) → ReachesBesideApproach a o
 unfolding reaches_beside_approach
 approach_reached a o h =
     let half = HALF_WIDTH_SCALE *ℤ a.width in
-    all_true (int_lt (pos 0) o.along) (is_at_most_root o.along a.class.length o.square) (is_at_least_root (outside a o) half o.square)
-    (lt_out (pos 0) o.along h.ahead) (at_most_out o.along a.class.length o.square h.not_past) (at_least_out (outside a o) half o.square h.from_side)
+    all_true (int_lt (pos 0) o.along) (is_at_most_root o.along a.class.length o.square) (is_at_least_root (lateral_excess a o) half o.square)
+    (lt_out (pos 0) o.along h.ahead) (at_most_out o.along a.class.length o.square h.not_past) (at_least_out (lateral_excess a o) half o.square h.from_side)
 
 pub approach_reaches : (a : Approach) (o : Offset) → reaches_beside_approach a o ≡ true → ReachesBesideApproach a o
 unfolding reaches_beside_approach
@@ -128,25 +121,25 @@ approach_reaches a o h =
     let half = HALF_WIDTH_SCALE *ℤ a.width in
     let b = int_lt (pos 0) o.along in
     let d = is_at_most_root o.along a.class.length o.square in
-    let e = is_at_least_root (outside a o) half o.square in
+    let e = is_at_least_root (lateral_excess a o) half o.square in
     record {
       ahead = lt_in (pos 0) o.along (first_true b d e h);
       not_past = at_most_in o.along a.class.length o.square (second_true b d e h);
-      from_side = at_least_in (outside a o) half o.square (third_true b d e h);
+      from_side = at_least_in (lateral_excess a o) half o.square (third_true b d e h);
     }
 
 pub beyond_out : (a : Approach) (o : Offset) → GoesBeyond a o → goes_beyond a o ≡ true
 unfolding goes_beyond
 beyond_out a o h =
     let far = HALF_WIDTH_SCALE *ℤ a.width +ℤ SCALED_REACH in
-    both_true a.precision (is_at_most_root (outside a o) far o.square) h.precision (at_most_out (outside a o) far o.square h.near)
+    both_true a.precision (is_at_most_root (lateral_excess a o) far o.square) h.precision (at_most_out (lateral_excess a o) far o.square h.near)
 
 pub beyond_in : (a : Approach) (o : Offset) → goes_beyond a o ≡ true → GoesBeyond a o
 unfolding goes_beyond
 beyond_in a o h =
     let far = HALF_WIDTH_SCALE *ℤ a.width +ℤ SCALED_REACH in
-    let t = is_at_most_root (outside a o) far o.square in
-    record { precision = left_true a.precision t h; near = at_most_in (outside a o) far o.square (right_true a.precision t h) }
+    let t = is_at_most_root (lateral_excess a o) far o.square in
+    record { precision = (and_parts a.precision t h).0; near = at_most_in (lateral_excess a o) far o.square (and_parts a.precision t h).1 }
 
 -- a surface's two conditions, and the tests that compute them
 pub record TransitionTests (reaches : Type 0) (t : Bool) (beyond : Type 0) (u : Bool) : Type 0 where
@@ -168,8 +161,8 @@ transition_out C t i B u cap tests h = both_true t (ends_at i u cap) (tests.reac
 
 pub transition_in : (C : Type 0) (t : Bool) (i : Incline) (B : Type 0) (u : Bool) (cap : Cap) → TransitionTests C t B u → t && ends_at i u cap ≡ true → TransitionCovers C i B cap
 transition_in C t i B u cap tests h = record {
-  reached = tests.reaches_in (left_true t (ends_at i u cap) h);
-  limited = ends i B u cap tests.beyond_in (right_true t (ends_at i u cap) h);
+  reached = tests.reaches_in (and_parts t (ends_at i u cap) h).0;
+  limited = ends i B u cap tests.beyond_in (and_parts t (ends_at i u cap) h).1;
 }
 
 pub primary_tests : (p : Primary) (o : Offset) → TransitionTests (ReachesBesidePrimary p o) (reaches_beside_primary p o) ⊥ false

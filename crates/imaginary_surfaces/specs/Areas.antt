@@ -1,4 +1,4 @@
--- The areas of the surfaces of a runway: the least whole boxes that hold their corners.
+-- The areas of the surfaces of a runway: the least whole boxes that contain their corners.
 use Rattle.std.specs.Prelude.{ℤ, pos, ◌+ℤ◌, ◌*ℤ◌, ◌≡◌, ◌≢◌, None, List, [], ◌∷◌}
 use Rattle.std.specs.Bool.{MatchBool}
 use Rattle.grid_exact.specs.Area.{Has}
@@ -19,12 +19,12 @@ use Rattle.imaginary_surfaces.specs.Approaches.{Approach}
 use Rattle.imaginary_surfaces.specs.Strips.{primary_of, approach_of, primary_surface, approach_surface, primary_transition_surface, approach_transition_surface}
 use Rattle.imaginary_surfaces.specs.Strips.{primary_excess, approach_excess, primary_transition_excess, approach_transition_excess}
 
--- the primary surface reaches half its width to each side of its line: 77.19(c)
+-- the primary surface extends half its width to each side of its line: 77.19(c)
 abbrev pub primary_outline : Primary → Rectangle
 primary_outline p = record { line = p.line; scale = pos 2; half = p.width }
 
--- an approach surface does so at its inner and its outer end, by the widths there: 77.19(d); its corners are moved out by a margin, in
--- fortieths, at right angles to its line
+-- an approach surface extends half of its inner and of its outer width to each side of its line: 77.19(d); its corners are moved out by a
+-- margin, in fortieths, at right angles to the line
 abbrev pub approach_outline : Approach → (margin : ℤ) → Trapezoid
 approach_outline a margin = record {
   line = a.line;
@@ -34,8 +34,8 @@ approach_outline a margin = record {
   length = a.class.length;
 }
 
--- a transitional surface ends where the horizontal and conical surfaces do, in the box `hull`; beside a precision approach surface,
--- beyond their limits, it ends 5,000 feet from the edge of that one: 77.19(e)
+-- a transitional surface ends where the horizontal and conical surfaces do, within the box `hull`; beyond them, beside a precision
+-- approach surface, it ends 5,000 feet from that surface's edge: 77.19(e)
 abbrev pub HoldsBeside : Approach → (hull box : Area) → Type 0
 HoldsBeside a hull box = MatchBool a.precision (HasBoxAndTrapezoid hull (approach_outline a SCALED_REACH) box) (Encloses box hull)
 
@@ -47,11 +47,11 @@ pub record IsStripAreas (r : Runway) (hull : Area) (a : StripAreas) : Type 0 whe
   pub beside_approach1_least : IsLeastBox (HoldsBeside (approach_of r One) hull) a.beside_approach1
   pub beside_approach2_least : IsLeastBox (HoldsBeside (approach_of r Two) hull) a.beside_approach2
 
--- the box `hull` has the point wherever the horizontal or the conical surface lies over it
+-- the box `hull` contains the point wherever the horizontal or conical surface covers it
 abbrev pub HullHas : (hull : Area) → Point → Cap → Type 0
 HullHas hull x cap = cap ≢ Beyond → Has hull x
 
--- each area has every point that its surface covers
+-- each area contains every point that its surface covers
 pub record CoverStrip (r : Runway) (hull : Area) (a : StripAreas) : Type 0 where
   pub primary_has : (x : Point) → (primary_surface r x).Covers → Has a.primary x
   pub approach1_has : (x : Point) → (approach_surface r One x).Covers → Has a.approach1 x
@@ -60,7 +60,7 @@ pub record CoverStrip (r : Runway) (hull : Area) (a : StripAreas) : Type 0 where
   pub beside_approach1_has : (x : Point) (cap : Cap) → HullHas hull x cap → (approach_transition_surface r One x cap).Covers → Has a.beside_approach1 x
   pub beside_approach2_has : (x : Point) (cap : Cap) → HullHas hull x cap → (approach_transition_surface r Two x cap).Covers → Has a.beside_approach2 x
 
--- so nothing exceeds a surface at a point that its area has not
+-- so no surface is exceeded at a point outside its area
 pub record SkipStrip (r : Runway) (x : Point) (top : ℤ) (cap : Cap) (a : StripAreas) : Type 0 where
   pub primary_none : ¬ Has a.primary x → primary_excess r x top ≡ None
   pub approach1_none : ¬ Has a.approach1 x → approach_excess r One x top ≡ None
@@ -80,7 +80,7 @@ pub record AreStripAreas (r : Runway) (hull : Area) (areas : List Area) : Type 0
   pub exact : IsStripAreas r hull six
   pub covers : CoverStrip r hull six
 
--- nothing exceeds the surfaces at a point that these areas of them have not
+-- no surface is exceeded at a point outside its one of these areas
 pub record SkipsIn (r : Runway) (x : Point) (top : ℤ) (cap : Cap) (areas : List Area) : Type 0 where
   pub six : StripAreas
   pub ordered : areas ≡ in_order six

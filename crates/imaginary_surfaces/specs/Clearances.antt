@@ -1,4 +1,4 @@
--- For proofs alone: points so far from a runway that a top is above none of its surfaces.
+-- For proofs alone: points far enough from a runway that a top is above none of its surfaces.
 use Rattle.std.specs.Prelude.{ℤ, pos, neg_ℤ, None, ◌≡◌, ◌⊎◌, ◌*◌, ◌≤◌, ◌+ℤ◌, ◌-ℤ◌, ◌*ℤ◌, ◌≤ℤ◌, ◌<ℤ◌, unsigned_abs}
 use Rattle.std.specs.Int.{int_max}
 use Rattle.grid_exact.specs.Lines.{Offset, square}
@@ -19,25 +19,25 @@ pub record IsClearance (p : Primary) (one two : Approach) (c : Clearance) : Type
   pub width1 : c.width ≡ one.width
   pub width2 : c.width ≡ two.width
 
--- how far a point is past an end of the line, times the line's length
+-- the distance of a point past either end of the line, times the line's length
 abbrev pub past_end : Offset → ℤ
 past_end o = int_max (int_max (neg_ℤ o.along) (o.along -ℤ pos o.square)) (pos 0)
 
--- how far a top is above the lowest level
+-- the height of a top above the lowest level
 abbrev pub rise_to : Clearance → ℤ → ℤ
 rise_to c top = int_max (top -ℤ c.lowest) (pos 0)
 
--- so far ahead that the gentlest slope is above the top there
+-- far enough ahead that the gentlest slope is at or above the top there
 abbrev pub IsFarAhead : Clearance → ℤ → (ahead : ℤ) → Type 0
 IsFarAhead c rise ahead = ((PRECISION_SLOPE *ℤ rise) *ℤ pos c.length) <ℤ ahead
 
--- so far aside of the widest approach surface that the transitional one is
+-- far enough to the side of the widest approach surface that the transitional surface is at or above the top
 abbrev pub IsFarAside : Clearance → ℤ → (ahead aside : ℤ) → Type 0
 IsFarAside c rise ahead aside = ((HALF_WIDTH_SCALE *ℤ c.width +ℤ APPROACH_FACTOR *ℤ rise) *ℤ pos c.length) <ℤ (WIDENING_SCALE *ℤ aside -ℤ MOST_WIDENING *ℤ ahead)
 
 abbrev pub IsClear : Clearance → Offset → ℤ → Type 0
 IsClear c o top = (IsFarAhead c (rise_to c top) (past_end o)) ⊎ (IsFarAside c (rise_to c top) (past_end o) (pos o.aside))
 
--- where no surface is exceeded
+-- no surface is exceeded
 abbrev pub none_exceeded : StripExcesses
 none_exceeded = record { primary = None; approach1 = None; approach2 = None; beside_primary = None; beside_approach1 = None; beside_approach2 = None }

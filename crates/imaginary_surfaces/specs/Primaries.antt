@@ -6,7 +6,7 @@ use Rattle.grid_exact.specs.declared.point.Point.{Point}
 use Rattle.grid_exact.specs.Lines.{Line, Offset, offset}
 use Rattle.runway_lines.specs.Centerlines.{Profile, elevation}
 
--- the line from its one end to its other, its width, and the profile of the runway
+-- the line between its two ends, its width, and the profile of the runway
 pub record Primary : Type 0 where
   pub line : Line
   pub width : ℤ
@@ -25,7 +25,7 @@ primary_at p o x = flat_surface (PrimaryCovers p o) (elevation p.profile x)
 abbrev pub primary : Primary → Point → Surface
 primary p x = primary_at p (offset p.line x) x
 
--- ---- the same as tests that compute
+-- ---- the same predicates as tests that compute
 
 unfoldable pub primary_covers : Primary → Offset → Bool
 primary_covers p o =

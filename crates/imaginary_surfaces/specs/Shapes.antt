@@ -1,4 +1,4 @@
--- For proofs alone: what the prepared parts of a runway are.
+-- For proofs alone: the prepared parts of a runway as specs see them.
 use Rattle.grid_exact.specs.Axes.{line_of}
 use Rattle.imaginary_surfaces.specs.declared.short_slope.ShortSlope.{ShortSlope}
 use Rattle.imaginary_surfaces.specs.Primaries.{Primary}

@@ -7,7 +7,7 @@ use Rattle.airfields.specs.declared.runway.Runway.{Runway}
 use Rattle.airfields.specs.Runways.{is_precision}
 use Rattle.runway_lines.specs.declared.end.End.{End}
 use Rattle.runway_lines.specs.declared.end.End.TheVariants.{One, Two}
-use Rattle.runway_lines.specs.Ends.{other, end_of, line_between, class_of, end_class_of}
+use Rattle.runway_lines.specs.Ends.{other_end, end_of, line_between, class_of, end_class_of}
 use Rattle.runway_lines.specs.Profiles.{profile_of}
 use Rattle.imaginary_surfaces.specs.declared.excesses.StripExcesses.{StripExcesses}
 use Rattle.imaginary_surfaces.specs.Primaries.{Primary, primary, excess_over_primary}
@@ -19,7 +19,7 @@ primary_of r = record { line = line_between r One One Two; width = (class_of r).
 
 unfoldable pub approach_of : Runway → End → Approach
 approach_of r end = record {
-  line = line_between r end (other end) end;
+  line = line_between r end (other_end end) end;
   width = (class_of r).width;
   class = end_class_of r end;
   z = (end_of r end).z;
@@ -33,14 +33,14 @@ primary_surface r x = primary (primary_of r) x
 abbrev pub approach_surface : Runway → End → Point → Surface
 approach_surface r end x = approach (approach_of r end) x
 
--- the transitional surfaces end upward at the cap
+-- the transitional surfaces, which end upward at the cap
 abbrev pub primary_transition_surface : Runway → Point → Cap → Surface
 primary_transition_surface r x cap = beside_primary (primary_of r) x cap
 
 abbrev pub approach_transition_surface : Runway → End → Point → Cap → Surface
 approach_transition_surface r end x cap = beside_approach (approach_of r end) x cap
 
--- the excess of a top over them, where they are exceeded
+-- the excess of a top over each surface, where it is exceeded
 unfoldable pub primary_excess : Runway → Point → ℤ → Option ℕ
 primary_excess r x top = excess_over_primary (primary_of r) x top
 
@@ -53,7 +53,7 @@ primary_transition_excess r x cap top = excess_beside_primary (primary_of r) x c
 unfoldable pub approach_transition_excess : Runway → End → Point → Cap → ℤ → Option ℕ
 approach_transition_excess r end x cap top = excess_beside_approach (approach_of r end) x cap top
 
--- all six at once
+-- all six excesses
 pub record IsStripExcesses (r : Runway) (x : Point) (top : ℤ) (cap : Cap) (e : StripExcesses) : Type 0 where
   pub primary : e.primary ≡ primary_excess r x top
   pub approach1 : e.approach1 ≡ approach_excess r One x top

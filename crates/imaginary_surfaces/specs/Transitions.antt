@@ -10,20 +10,20 @@ use Rattle.grid_exact.specs.declared.cap.Cap.{Cap}
 use Rattle.grid_exact.specs.declared.cap.Cap.TheVariants.{Level, Beyond}
 use Rattle.runway_lines.specs.Centerlines.{elevation}
 use Rattle.imaginary_surfaces.specs.Primaries.{Primary}
-use Rattle.imaginary_surfaces.specs.Approaches.{Approach, outside, slope_at, base_at}
+use Rattle.imaginary_surfaces.specs.Approaches.{Approach, lateral_excess, slope_at, base_at}
 use Rattle.imaginary_surfaces.specs.declared.measures.TheConstants.{APPROACH_FACTOR, HALF_WIDTH_SCALE, PRIMARY_FACTOR, SCALED_REACH}
 
 -- ---- any of them
 
--- how it rises over a point: a level z is at or above it where left <= (factor * z - shift) * sqrt(square)
+-- the rise at a point: a level z is at or above the surface where left <= (factor * z - shift) * sqrt(square)
 pub record Incline : Type 0 where
   pub left : ℤ
   pub factor : ℤ
   pub shift : ℤ
   pub square : ℕ
 
--- up to the horizontal or conical surface: where that one ends at a level, it covers the points where the level is at or above it;
--- where neither lies over the point, those where it goes beyond them
+-- the upper limit of the surface: where the horizontal or conical surface has a level at the point, the surface covers the point where
+-- that level is at or above it; where neither covers the point, only where it extends beyond them
 abbrev pub EndsAt : Incline → Type 0 → Cap → Type 0
 EndsAt i beyond (Level l) = Reaches i.left i.factor i.shift i.square l
 EndsAt i beyond Beyond = beyond
@@ -43,8 +43,8 @@ pub record ReachesBesidePrimary (p : Primary) (o : Offset) : Type 0 where
   pub before_end : o.along ≤ℤ pos o.square
   pub from_side : AtLeastRoot (pos (2 * o.aside)) p.width o.square
 
--- from the side of the primary surface it rises by one in 7: a level z is at or above it where
--- aside - width / 2 * sqrt(n) <= 7 * (z - elevation) * sqrt(n), which is taken twice
+-- from the side of the primary surface it rises 7 to 1: a level z is at or above it where
+-- aside - width / 2 * sqrt(n) <= 7 * (z - elevation) * sqrt(n); both sides are doubled
 abbrev pub incline_beside_primary : Primary → Offset → Point → Incline
 incline_beside_primary p o x = record {
   left = pos (2 * o.aside);
@@ -53,7 +53,7 @@ incline_beside_primary p o x = record {
   square = o.square;
 }
 
--- it goes nowhere beyond the horizontal and conical surfaces
+-- it never extends beyond the horizontal and conical surfaces
 abbrev pub beside_primary_at : Primary → Offset → Point → Cap → Surface
 beside_primary_at p o x cap = transition (ReachesBesidePrimary p o) (incline_beside_primary p o x) ⊥ cap
 
@@ -66,14 +66,14 @@ beside_primary p x cap = beside_primary_at p (offset p.line x) x cap
 pub record ReachesBesideApproach (a : Approach) (o : Offset) : Type 0 where
   pub ahead : pos 0 <ℤ o.along
   pub not_past : AtMostRoot o.along a.class.length o.square
-  pub from_side : AtLeastRoot (outside a o) (HALF_WIDTH_SCALE *ℤ a.width) o.square
+  pub from_side : AtLeastRoot (lateral_excess a o) (HALF_WIDTH_SCALE *ℤ a.width) o.square
 
--- from the side of the approach surface, which rises by one in s along the line from `base` at the end of the primary surface, it
--- rises by one in 7: a level z is at or above it where, in fortieths,
--- (outside - 20 * width * sqrt(n)) / 7 + 40 * along / s <= 40 * (z - base) * sqrt(n), which is taken 7 * s times
+-- from the side of the approach surface, which rises s to 1 along the line from `base` at the end of the primary surface, it
+-- rises 7 to 1: a level z is at or above it where, in fortieths,
+-- (outside - 20 * width * sqrt(n)) / 7 + 40 * along / s <= 40 * (z - base) * sqrt(n); both sides are multiplied by 7 * s
 abbrev pub incline_beside_approach : Approach → Offset → Incline
 incline_beside_approach a o = record {
-  left = slope_at a o *ℤ outside a o +ℤ APPROACH_FACTOR *ℤ o.along;
+  left = slope_at a o *ℤ lateral_excess a o +ℤ APPROACH_FACTOR *ℤ o.along;
   factor = APPROACH_FACTOR *ℤ slope_at a o;
   shift = APPROACH_FACTOR *ℤ slope_at a o *ℤ base_at a o -ℤ HALF_WIDTH_SCALE *ℤ slope_at a o *ℤ a.width;
   square = o.square;
@@ -83,7 +83,7 @@ incline_beside_approach a o = record {
 -- horizontally from the edge of the approach surface and at right angles to the runway centerline
 pub record GoesBeyond (a : Approach) (o : Offset) : Type 0 where
   pub precision : a.precision ≡ true
-  pub near : AtMostRoot (outside a o) (HALF_WIDTH_SCALE *ℤ a.width +ℤ SCALED_REACH) o.square
+  pub near : AtMostRoot (lateral_excess a o) (HALF_WIDTH_SCALE *ℤ a.width +ℤ SCALED_REACH) o.square
 
 abbrev pub beside_approach_at : Approach → Offset → Cap → Surface
 beside_approach_at a o cap = transition (ReachesBesideApproach a o) (incline_beside_approach a o) (GoesBeyond a o) cap
@@ -91,7 +91,7 @@ beside_approach_at a o cap = transition (ReachesBesideApproach a o) (incline_bes
 abbrev pub beside_approach : Approach → Point → Cap → Surface
 beside_approach a x cap = beside_approach_at a (offset a.line x) cap
 
--- ---- the same as tests that compute
+-- ---- the same predicates as tests that compute
 
 abbrev pub ends_at : Incline → Bool → Cap → Bool
 ends_at i beyond (Level l) = is_at_most_root i.left (i.factor *ℤ l -ℤ i.shift) i.square
@@ -115,10 +115,10 @@ unfoldable pub reaches_beside_approach : Approach → Offset → Bool
 reaches_beside_approach a o =
     int_lt (pos 0) o.along
     && is_at_most_root o.along a.class.length o.square
-    && is_at_least_root (outside a o) (HALF_WIDTH_SCALE *ℤ a.width) o.square
+    && is_at_least_root (lateral_excess a o) (HALF_WIDTH_SCALE *ℤ a.width) o.square
 
 unfoldable pub goes_beyond : Approach → Offset → Bool
-goes_beyond a o = a.precision && is_at_most_root (outside a o) (HALF_WIDTH_SCALE *ℤ a.width +ℤ SCALED_REACH) o.square
+goes_beyond a o = a.precision && is_at_most_root (lateral_excess a o) (HALF_WIDTH_SCALE *ℤ a.width +ℤ SCALED_REACH) o.square
 
 abbrev pub excess_beside_approach : Approach → Point → Cap → ℤ → Option ℕ
 excess_beside_approach a x cap top =

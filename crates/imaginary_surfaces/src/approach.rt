@@ -14,17 +14,17 @@ use crate::short_slope::ShortSlope;
 use grid_exact::{Axis, minus, product, scale};
 use runway_classes::{EndClass, WIDENING_SCALE};
 
-/// The approach surface of an end, 77.19(d): it begins at the end of the primary surface with that one's width, and goes outward
-/// and upward along the extended centerline. Its calls take where the point lies by that line, which is worked out once for all of
+/// The approach surface of an end (77.19(d)): it begins at the end of the primary surface with the same width, and goes outward and upward
+/// along the extended centerline. Its methods take the position of the point relative to that line, which is computed once for all of
 /// them.
 #[derive(Clone, Copy)]
 pub(crate) struct ApproachSurface {
-    /// From the center of the primary surface's end, as far as its other end is away.
+    /// From the center of the primary surface's end, outward by the distance to the other center.
     pub(crate) axis: Axis,
     pub(crate) width: i64,
     pub(crate) class: EndClass,
     pub(crate) z: i64,
-    /// Whether it is a precision instrument approach.
+    /// Whether it is a precision approach.
     pub(crate) precision: bool,
     ghost sound: { IsApproach width class z },
 }
@@ -38,17 +38,17 @@ pub(crate) struct Rise {
 }
 
 impl ApproachSurface {
-    ghost use Rattle.imaginary_surfaces.specs.Approaches.{ApproachCovers, IsAlong, approach_at, outside as outside_of, is_past_split as is_past_split_of, slope_at, base_at};
+    ghost use Rattle.imaginary_surfaces.specs.Approaches.{ApproachCovers, IsAlong, approach_at, lateral_excess as outside_of, is_past_split as is_past_split_of, slope_at, base_at};
     ghost use Rattle.imaginary_surfaces.specs.Shapes.{approach_shape};
 
-    /// Whether a point is ahead of the end.
+    /// Whether a point lies outward of the end.
     pub(crate) fn is_ahead(&self, at: &Place) -> bool
         ensures { IsTrue result ↔ (pos 0 <ℤ at.now.along) }
     {
         0 < short(at.along())
     }
 
-    /// Whether a point is not past its outer end.
+    /// Whether a point is not past the outer end of the surface.
     #[tactic(auto, using(grid_exact::proofs::Sizes::fits))]
     pub(crate) fn is_not_past(&self, at: &Place) -> bool
         ensures { IsTrue result ↔ AtMostRoot at.now.along self.now.class.length at.now.square }
@@ -56,7 +56,7 @@ impl ApproachSurface {
         is_at_most_root(at.along(), self.class.length, at.square())
     }
 
-    /// How far a point is to a side less what the half width has grown, in fortieths, times the vector's length.
+    /// The distance of a point to a side minus the growth of the half width there, in fortieths, times the vector's length.
     pub(crate) fn outside(&self, at: &Place) -> i128
         ensures value { result ≡ outside_of (approach_shape self.now) at.now }
         ensures size { unsigned_abs result ≤ 2 ^ 52 }
@@ -78,19 +78,20 @@ impl ApproachSurface {
     /// Whether a point is within the half width there.
     #[tactic(auto, using(grid_exact::proofs::Sizes::fits))]
     fn is_not_beside(&self, at: &Place) -> bool
-        ensures { IsTrue result ↔ AtMostRoot (outside_of (approach_shape self.now) at.now) (HALF_WIDTH_SCALE *ℤ self.now.width) at.now.square }
+        ensures { IsTrue result ↔ AtMostRoot (outside_of (approach_shape self.now) at.now)
+            (HALF_WIDTH_SCALE *ℤ self.now.width) at.now.square }
     {
         is_at_most_root(self.outside(at), self.half_width(), at.square())
     }
 
-    /// Whether a point is ahead of the end, and not past its outer end.
+    /// Whether a point is outward of the end, and not past the outer end of the surface.
     pub(crate) fn is_along(&self, at: &Place) -> bool
         ensures { IsTrue result ↔ IsAlong (approach_shape self.now) at.now }
     {
         self.is_ahead(at) && self.is_not_past(at)
     }
 
-    /// Whether it covers a point along it.
+    /// Whether the surface covers a point that is along it.
     fn covers(&self, at: &Place) -> bool
         requires along { IsAlong (approach_shape self.now) at.now }
         ensures { IsTrue result ↔ ApproachCovers (approach_shape self.now) at.now }
@@ -98,14 +99,14 @@ impl ApproachSurface {
         self.is_not_beside(at)
     }
 
-    /// Whether a point is past where the second slope begins.
+    /// Whether a point is past the start of the second slope.
     fn is_past_split(&self, at: &Place) -> bool
         ensures { result ≡ is_past_split_of (approach_shape self.now) at.now }
     {
         is_above_root(at.along(), self.class.split, at.square())
     }
 
-    /// The slope over a point.
+    /// The slope at a point.
     pub(crate) fn rise(&self, at: &Place) -> Rise
         ensures slope { result.slope ≡ slope_at (approach_shape self.now) at.now }
         ensures base { result.base ≡ base_at (approach_shape self.now) at.now }
@@ -122,7 +123,7 @@ impl ApproachSurface {
         }
     }
 
-    /// How far `top` is above it at a point along it, or `None` where it is not above, or the surface does not cover the point.
+    /// The excess of `top` over it at a point along it; `None` where it is not above, or the surface does not cover the point.
     pub(crate) fn excess_along(&self, at: &Place, top: i64) -> Option<u32>
         requires along { IsAlong (approach_shape self.now) at.now }
         requires top { IsLevel top }
@@ -139,7 +140,7 @@ impl ApproachSurface {
             top,
         )
     }
-    /// The same at any point.
+    /// The same for any point.
     pub(crate) fn excess(&self, at: &Place, top: i64) -> Option<u32>
         requires top { IsLevel top }
         ensures exact { IsExcess (approach_at (approach_shape self.now) at.now) top result }

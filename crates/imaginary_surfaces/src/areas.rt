@@ -1,4 +1,4 @@
-//! The areas of the surfaces of a runway: the least whole boxes that hold their corners.
+//! The areas of the surfaces of a runway: the least whole boxes that contain their corners.
 
 ghost use Rattle.std.specs.Prelude.{◌≡◌, ◌≤ℤ◌, ℤ, pos};
 ghost use Rattle.grid_exact.specs.Area.{Has};
@@ -37,7 +37,7 @@ impl PrimarySurface {
     ghost use Rattle.imaginary_surfaces.specs.Primaries.{PrimaryCovers};
     ghost use Rattle.imaginary_surfaces.specs.Shapes.{primary_shape};
 
-    /// Its outline.
+    /// The outline of the primary surface.
     fn outline(&self) -> RectangleOutline
         ensures { rectangle_shape result ≡ primary_outline (primary_shape self.now) }
     {
@@ -48,10 +48,12 @@ impl PrimarySurface {
         }
     }
 
-    /// Its area.
+    /// The area of the primary surface.
     fn area(&self) -> Area
-        ensures exact { IsLeastBox (HasRectangle (primary_outline (primary_shape self.now))) result }
-        ensures covers { (x : Point) → PrimaryCovers (primary_shape self.now) (offset (primary_shape self.now).line x) → Has result x }
+        ensures exact { IsLeastBox (HasRectangle (primary_outline (primary_shape self.now)))
+            result }
+        ensures covers { (x : Point) → PrimaryCovers (primary_shape self.now)
+            (offset (primary_shape self.now).line x) → Has result x }
     {
         self.outline().area()
     }
@@ -63,7 +65,7 @@ impl ApproachSurface {
     ghost use Rattle.imaginary_surfaces.specs.Shapes.{approach_shape};
     ghost use Rattle.imaginary_surfaces.specs.Transitions.{beside_approach};
 
-    /// Its outline, moved out by a margin in fortieths at right angles to its line.
+    /// The outline of the approach surface, moved out by a margin in fortieths at right angles to its line.
     fn outline(&self, margin: i64) -> TrapezoidOutline
         requires least { pos 0 ≤ℤ margin }
         requires most { margin ≤ℤ SCALED_REACH }
@@ -78,18 +80,21 @@ impl ApproachSurface {
         }
     }
 
-    /// Its area.
+    /// The area of the approach surface.
     fn area(&self) -> Area
-        ensures exact { IsLeastBox (HasTrapezoid (approach_outline (approach_shape self.now) (pos 0))) result }
-        ensures covers { (x : Point) → ApproachCovers (approach_shape self.now) (offset (approach_shape self.now).line x) → Has result x }
+        ensures exact { IsLeastBox (HasTrapezoid
+            (approach_outline (approach_shape self.now) (pos 0))) result }
+        ensures covers { (x : Point) → ApproachCovers (approach_shape self.now)
+            (offset (approach_shape self.now).line x) → Has result x }
     {
         self.outline(0).area()
     }
 
-    /// The area of the transitional surface beside it.
+    /// The area of the transitional surface beside the approach surface.
     fn area_beside(&self, hull: &Area) -> Area
         ensures exact { IsLeastBox (HoldsBeside (approach_shape self.now) hull.now) result }
-        ensures covers { (x : Point) (cap : Cap) → HullHas hull.now x cap → (beside_approach (approach_shape self.now) x cap).Covers → Has result x }
+        ensures covers { (x : Point) (cap : Cap) → HullHas hull.now x cap →
+            (beside_approach (approach_shape self.now) x cap).Covers → Has result x }
     {
         if self.precision {
             self.outline(SCALED_REACH).area_with(hull)
@@ -114,7 +119,8 @@ impl Strip {
 
     /// The area of the approach surface of an end.
     fn approach_area(&self, end: End) -> Area
-        ensures exact { IsLeastBox (HasTrapezoid (approach_outline (approach_of self.now end) (pos 0))) result }
+        ensures exact { IsLeastBox (HasTrapezoid
+            (approach_outline (approach_of self.now end) (pos 0))) result }
         ensures covers { (x : Point) → (approach_surface self.now end x).Covers → Has result x }
     {
         self.approach(end).area()
@@ -123,7 +129,8 @@ impl Strip {
     /// The area of the transitional surface beside the approach surface of an end.
     fn beside_area(&self, end: End, hull: &Area) -> Area
         ensures exact { IsLeastBox (HoldsBeside (approach_of self.now end) hull.now) result }
-        ensures covers { (x : Point) (cap : Cap) → HullHas hull.now x cap → (approach_transition_surface self.now end x cap).Covers → Has result x }
+        ensures covers { (x : Point) (cap : Cap) → HullHas hull.now x cap →
+            (approach_transition_surface self.now end x cap).Covers → Has result x }
     {
         self.approach(end).area_beside(hull)
     }
@@ -144,13 +151,14 @@ impl Strip {
         }
     }
 
-    /// One area per surface: of the primary surface, of the approach surfaces of the first end and of the second, and of the
-    /// transitional surfaces beside each of them (77.19(c), (d), (e)). Each is the least whole box that holds what it is made of and
-    /// has every point that its surface covers; `hull`, the box of the outer edge of the conical surface, has every point that the
-    /// horizontal or the conical surface lies over, where transitional surfaces end.
+    /// The areas of the primary surface, of the approach surfaces of the first and second end, and of the transitional surfaces beside
+    /// each of these three, in that order (77.19(c), (d), (e)). Each is the least whole box that contains the parts of its surface, and
+    /// contains every point that the surface covers. `hull` is the box of the conical surface's outer edge; it contains every point under
+    /// the horizontal or conical surface, where transitional surfaces end.
     pub fn areas(&self, hull: &Area) -> [Area; 6]
         ensures areas { AreStripAreas self.now hull.now result }
-        ensures skips { (x : Point) (top : ℤ) (cap : Cap) → IsLevel top → HullHas hull.now x cap → SkipsIn self.now x top cap result }
+        ensures skips { (x : Point) (top : ℤ) (cap : Cap) → IsLevel top → HullHas hull.now x cap →
+            SkipsIn self.now x top cap result }
     {
         let six = self.six_areas(hull);
         [

@@ -16,7 +16,7 @@ use crate::short_slope::ShortSlope;
 use crate::slope_end::excess_up_to;
 use grid_exact::{Cap, minus, plus, product, scale};
 
-/// How far a top is above the approach surface of an end, and above the transitional surface beside it.
+/// The excess of a top over the approach surface of an end, and over the transitional surface beside it.
 #[derive(Clone, Copy)]
 pub(crate) struct EndExcesses {
     pub(crate) over: Option<u32>,
@@ -26,7 +26,7 @@ pub(crate) struct EndExcesses {
 impl Rise {
     ghost use Rattle.std.specs.Prelude.{◌-ℤ◌};
 
-    /// The factor of a slope that rises by this one along the line, and by one in 7 aside.
+    /// The factor of a slope that rises at this slope along the line, and 7 to 1 to the side.
     fn factor_beside(&self) -> i64
         ensures value { result ≡ APPROACH_FACTOR *ℤ self.now.slope }
         ensures least { pos 0 <ℤ result }
@@ -35,10 +35,11 @@ impl Rise {
         APPROACH_FACTOR * self.slope
     }
 
-    /// What such a slope from the side of an approach surface has at the line, at the end of the primary surface of this width.
+    /// The constant of such a slope: its height extended to the line at the end of the primary surface of this width.
     fn shift_beside(&self, width: i64) -> i128
         requires width { IsWidth width }
-        ensures value { result ≡ APPROACH_FACTOR *ℤ self.now.slope *ℤ self.now.base -ℤ HALF_WIDTH_SCALE *ℤ self.now.slope *ℤ width }
+        ensures value { result ≡ APPROACH_FACTOR *ℤ self.now.slope *ℤ self.now.base
+            -ℤ HALF_WIDTH_SCALE *ℤ self.now.slope *ℤ width }
         ensures size { unsigned_abs result ≤ unsigned_abs self.now.slope * 2 ^ 33 }
     {
         minus(
@@ -49,14 +50,15 @@ impl Rise {
 }
 
 impl ApproachSurface {
-    ghost use Rattle.imaginary_surfaces.specs.Approaches.{IsAlong, approach_at, outside as outside_of, slope_at};
+    ghost use Rattle.imaginary_surfaces.specs.Approaches.{IsAlong, approach_at, lateral_excess as outside_of, slope_at};
     ghost use Rattle.imaginary_surfaces.specs.Shapes.{approach_shape};
     ghost use Rattle.imaginary_surfaces.specs.Transitions.{GoesBeyond, ReachesBesideApproach, beside_approach_at, incline_beside_approach};
 
-    /// Whether a point is at least the half width there from the line.
+    /// Whether a point is at least the half width from the line.
     #[tactic(auto, using(grid_exact::proofs::Sizes::fits))]
     fn is_from_side(&self, at: &Place) -> bool
-        ensures { IsTrue result ↔ AtLeastRoot (outside_of (approach_shape self.now) at.now) (HALF_WIDTH_SCALE *ℤ self.now.width) at.now.square }
+        ensures { IsTrue result ↔ AtLeastRoot (outside_of (approach_shape self.now) at.now)
+            (HALF_WIDTH_SCALE *ℤ self.now.width) at.now.square }
     {
         is_at_least_root(self.outside(at), self.half_width(), at.square())
     }
@@ -69,7 +71,7 @@ impl ApproachSurface {
         self.is_from_side(at)
     }
 
-    /// Half the width at the end of the primary surface and the 5,000 feet that it may extend, in fortieths.
+    /// The half width at the end of the primary surface plus the surface's greatest extent of 5,000 feet, in fortieths.
     fn far_side(&self) -> i64
         ensures value { result ≡ HALF_WIDTH_SCALE *ℤ self.now.width +ℤ SCALED_REACH }
         ensures size { unsigned_abs result ≤ 2 ^ 22 }
@@ -80,20 +82,21 @@ impl ApproachSurface {
     /// Whether a point is at most 5,000 feet from the edge of the approach surface.
     #[tactic(auto, using(grid_exact::proofs::Sizes::fits))]
     fn is_near(&self, at: &Place) -> bool
-        ensures { IsTrue result ↔ AtMostRoot (outside_of (approach_shape self.now) at.now) (HALF_WIDTH_SCALE *ℤ self.now.width +ℤ SCALED_REACH) at.now.square }
+        ensures { IsTrue result ↔ AtMostRoot (outside_of (approach_shape self.now) at.now)
+            (HALF_WIDTH_SCALE *ℤ self.now.width +ℤ SCALED_REACH) at.now.square }
     {
         is_at_most_root(self.outside(at), self.far_side(), at.square())
     }
 
-    /// Whether it goes beyond the limits of the conical surface at a point that it reaches.
+    /// Whether the surface extends beyond the limits of the conical surface at a point that it reaches.
     fn goes_beyond(&self, at: &Place) -> bool
         ensures { IsTrue result ↔ GoesBeyond (approach_shape self.now) at.now }
     {
         self.precision && self.is_near(at)
     }
 
-    /// The number that the slope of the transitional surface compares with a root: how far the point is along the line and outside
-    /// the approach surface, each by its slope.
+    /// The left side of the slope's comparison with a root: the distances of the point along the line and outside the approach surface,
+    /// each weighted by its slope.
     fn left_beside(&self, at: &Place, rise: &Rise) -> i128
         requires slope { rise.now.slope ≡ slope_at (approach_shape self.now) at.now }
         requires line { IsSquare at.now.square }
@@ -112,8 +115,10 @@ impl ApproachSurface {
     fn slope_beside(&self, at: &Place) -> ShortSlope
         requires reaches { ReachesBesideApproach (approach_shape self.now) at.now }
         ensures left { result.a ≡ (incline_beside_approach (approach_shape self.now) at.now).left }
-        ensures factor { result.k ≡ (incline_beside_approach (approach_shape self.now) at.now).factor }
-        ensures shift { result.c ≡ (incline_beside_approach (approach_shape self.now) at.now).shift }
+        ensures factor { result.k ≡ (incline_beside_approach (approach_shape self.now)
+            at.now).factor }
+        ensures shift { result.c ≡ (incline_beside_approach (approach_shape self.now)
+            at.now).shift }
         ensures square { result.n ≡ at.now.square }
     {
         let rise = self.rise(at);
@@ -126,18 +131,19 @@ impl ApproachSurface {
         )
     }
 
-    /// How far `top` is above the transitional surface at a point along the approach surface, or `None` where it is not above, or the
+    /// The excess of `top` over the transitional surface at a point along the approach surface; `None` where it is not above, or the
     /// surface does not cover the point.
     pub(crate) fn excess_beside_along(&self, at: &Place, top: i64, cap: &Cap) -> Option<u32>
         requires along { IsAlong (approach_shape self.now) at.now }
         requires top { IsLevel top }
-        ensures exact { IsExcess (beside_approach_at (approach_shape self.now) at.now cap.now) top result }
+        ensures exact { IsExcess (beside_approach_at (approach_shape self.now) at.now cap.now) top
+            result }
         ensures size { IfSome result (λ e. e ≤ 2 ^ 26) }
     {
         if !self.reaches_beside(at) {
             return None;
         }
-        // by value, since that tells that the limit is an i64
+        // by value, so that the proof knows that the limit is an i64
         match *cap {
             Cap::Level(limit) => excess_up_to(&self.slope_beside(at), top, limit),
             Cap::Beyond => {
@@ -149,10 +155,11 @@ impl ApproachSurface {
         }
     }
 
-    /// The same at any point.
+    /// The same for any point.
     pub(crate) fn excess_beside(&self, at: &Place, top: i64, cap: &Cap) -> Option<u32>
         requires top { IsLevel top }
-        ensures exact { IsExcess (beside_approach_at (approach_shape self.now) at.now cap.now) top result }
+        ensures exact { IsExcess (beside_approach_at (approach_shape self.now) at.now cap.now) top
+            result }
         ensures size { IfSome result (λ e. e ≤ 2 ^ 26) }
     {
         if !self.is_along(at) {
@@ -161,12 +168,13 @@ impl ApproachSurface {
         self.excess_beside_along(at, top, cap)
     }
 
-    /// How far `top` is above the approach surface and above the transitional surface beside it at a point.
+    /// The excess of `top` over the approach surface and over the transitional surface beside it at a point.
     pub(crate) fn excesses(&self, at: &Place, top: i64, cap: &Cap) -> EndExcesses
         requires top { IsLevel top }
         ensures over { IsExcess (approach_at (approach_shape self.now) at.now) top result.over }
         ensures over_size { IfSome result.over (λ e. e ≤ 2 ^ 26) }
-        ensures beside { IsExcess (beside_approach_at (approach_shape self.now) at.now cap.now) top result.beside }
+        ensures beside { IsExcess (beside_approach_at (approach_shape self.now) at.now cap.now)
+            top result.beside }
         ensures beside_size { IfSome result.beside (λ e. e ≤ 2 ^ 26) }
     {
         if !self.is_along(at) {

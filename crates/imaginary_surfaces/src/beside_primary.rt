@@ -19,7 +19,8 @@ impl PrimarySurface {
 
     /// Whether a point is at least half the width from the line.
     fn is_from_side(&self, at: &Place) -> bool
-        ensures { IsTrue result ↔ AtLeastRoot (pos (2 * at.now.aside)) self.now.width at.now.square }
+        ensures { IsTrue result ↔ AtLeastRoot (pos (2 * at.now.aside)) self.now.width
+            at.now.square }
     {
         is_at_least_root(self.twice_aside(at), self.width, at.square())
     }
@@ -31,9 +32,10 @@ impl PrimarySurface {
         self.is_past_start(at) && self.is_before_end(at) && self.is_from_side(at)
     }
 
-    /// The elevation, less the width, each as much as the slope from the side asks for: what that slope has at the line.
+    /// The constant of the slope from the side: elevation and width, weighted so that they give its height extended to the line.
     fn shift_beside(&self, at: &Place, x: &Point) -> i128
-        ensures value { result ≡ (incline_beside_primary (primary_shape self.now) at.now x.now).shift }
+        ensures value { result ≡ (incline_beside_primary (primary_shape self.now) at.now
+            x.now).shift }
         ensures size { unsigned_abs result ≤ 2 ^ 24 }
     {
         minus(
@@ -45,9 +47,12 @@ impl PrimarySurface {
     /// The slope of the transitional surface over a point that it reaches.
     fn slope_beside(&self, at: &Place, x: &Point) -> ShortSlope
         requires reaches { ReachesBesidePrimary (primary_shape self.now) at.now }
-        ensures left { result.a ≡ (incline_beside_primary (primary_shape self.now) at.now x.now).left }
-        ensures factor { result.k ≡ (incline_beside_primary (primary_shape self.now) at.now x.now).factor }
-        ensures shift { result.c ≡ (incline_beside_primary (primary_shape self.now) at.now x.now).shift }
+        ensures left { result.a ≡ (incline_beside_primary (primary_shape self.now) at.now
+            x.now).left }
+        ensures factor { result.k ≡ (incline_beside_primary (primary_shape self.now) at.now
+            x.now).factor }
+        ensures shift { result.c ≡ (incline_beside_primary (primary_shape self.now) at.now
+            x.now).shift }
         ensures square { result.n ≡ at.now.square }
     {
         ShortSlope::rising(
@@ -58,17 +63,18 @@ impl PrimarySurface {
         )
     }
 
-    /// How far `top` is above the transitional surface at a point, or `None` where it is not above, or the surface does not cover
-    /// the point.
+    /// The excess of `top` over the transitional surface at a point; `None` where it is not above, or the surface does not cover the
+    /// point.
     pub(crate) fn excess_beside(&self, at: &Place, x: &Point, top: i64, cap: &Cap) -> Option<u32>
         requires top { IsLevel top }
-        ensures exact { IsExcess (beside_primary_at (primary_shape self.now) at.now x.now cap.now) top result }
+        ensures exact { IsExcess (beside_primary_at (primary_shape self.now) at.now x.now cap.now)
+            top result }
         ensures size { IfSome result (λ e. e ≤ 2 ^ 26) }
     {
         if !self.reaches_beside(at) {
             return None;
         }
-        // by value, since that tells that the limit is an i64
+        // by value, so that the proof knows that the limit is an i64
         match *cap {
             Cap::Level(limit) => excess_up_to(&self.slope_beside(at, x), top, limit),
             Cap::Beyond => None,

@@ -1,4 +1,4 @@
-//! Points so far from a runway that a top is above none of its surfaces, as most are.
+//! Quick reject for points far from a runway, as most are: there a top is above none of the runway's surfaces.
 
 ghost use Rattle.std.specs.Prelude.{◌≡◌, ◌↔◌, ◌^◌, ◌≤◌, ◌*ℤ◌, ◌≤ℤ◌, ◌<ℤ◌, pos, unsigned_abs, IsTrue};
 ghost use Rattle.grid_exact.specs.Level.{IsLevel};
@@ -13,12 +13,12 @@ use crate::strip::Strip;
 use grid_exact::Point;
 use runway_classes::{PRECISION_SLOPE, WIDENING_SCALE};
 
-/// What tells of most points that a top is above no surface of a runway there, with a few numbers and no root.
+/// Bounds that decide for most points, without a root, that a top is above no surface of a runway.
 #[derive(Clone, Copy)]
 pub(crate) struct Clearance {
-    /// At least the length of the line of the primary surface.
+    /// An upper bound of the length of the primary surface's line, in tenths of a foot.
     length: u32,
-    /// No surface is lower.
+    /// A lower bound of all surfaces, in tenths of a foot.
     lowest: i64,
     /// The width of the primary surface.
     width: i64,
@@ -40,7 +40,7 @@ impl Clearance {
     ghost use Rattle.imaginary_surfaces.specs.Clearances.{IsClear, IsClearance, IsFarAhead, IsFarAside, rise_to};
     ghost use Rattle.imaginary_surfaces.specs.Shapes.{approach_shape, primary_shape};
 
-    /// Of the surfaces of a runway.
+    /// The bounds for the surfaces of a runway.
     pub(crate) fn of(
         primary: &PrimarySurface,
         one: &ApproachSurface,
@@ -48,7 +48,8 @@ impl Clearance {
     ) -> Clearance
         requires width1 { one.now.width ≡ primary.now.width }
         requires width2 { two.now.width ≡ primary.now.width }
-        ensures { IsClearance (primary_shape primary.now) (approach_shape one.now) (approach_shape two.now) result }
+        ensures { IsClearance (primary_shape primary.now) (approach_shape one.now)
+            (approach_shape two.now) result }
     {
         Clearance {
             length: root_above(primary.axis.way.square_length()),
@@ -57,7 +58,7 @@ impl Clearance {
         }
     }
 
-    /// How far a top is above the lowest level.
+    /// The height of a top above the lowest level.
     fn rise_to(&self, top: i64) -> i64
         requires top { IsLevel top }
         ensures value { result ≡ rise_to self.now top }
@@ -75,7 +76,7 @@ impl Clearance {
         scaled(factor, i64::from(self.length)) < part
     }
 
-    /// Whether a point is so far ahead that no approach surface is as low there.
+    /// Whether a point is so far ahead that every approach surface is higher there.
     fn is_far_ahead(&self, rise: i64, ahead: i64) -> bool
         requires least { pos 0 ≤ℤ rise }
         requires most { rise ≤ℤ pos (2 ^ 26) }
@@ -84,7 +85,7 @@ impl Clearance {
         self.is_longer(ahead, PRECISION_SLOPE * rise)
     }
 
-    /// Whether a point is so far aside that no transitional surface is as low there.
+    /// Whether a point is so far to a side that every transitional surface is higher there.
     fn is_far_aside(&self, rise: i64, ahead: i64, aside: i64) -> bool
         requires least { pos 0 ≤ℤ rise }
         requires most { rise ≤ℤ pos (2 ^ 26) }
@@ -100,7 +101,7 @@ impl Clearance {
         )
     }
 
-    /// Whether a point that lies so by the line of the primary surface is so far from it that a top is above no surface there.
+    /// Whether a point with this offset from the line of the primary surface is so far from it that a top is above no surface there.
     fn is_clear(&self, at: &Place, top: i64) -> bool
         requires top { IsLevel top }
         ensures { IsTrue result → IsClear self.now at.now top }
@@ -119,11 +120,12 @@ impl Strip {
     ghost use Rattle.imaginary_surfaces.specs.Clearances.{none_exceeded};
     ghost use Rattle.imaginary_surfaces.specs.Strips.{IsStripExcesses, primary_of};
 
-    /// Whether a few numbers tell that a top is above no surface at a point that lies so by the line of the primary surface.
+    /// Whether the bounds show that a top is above no surface at a point with this offset from the line of the primary surface.
     pub(crate) fn is_clear(&self, at: &Place, x: &Point, top: i64) -> bool
         requires at { at.now ≡ offset_of (primary_of self.now).line x.now }
         requires top { IsLevel top }
-        ensures none { IsTrue result → (cap : ACap) → IsStripExcesses self.now x.now top cap none_exceeded }
+        ensures none { IsTrue result → (cap : ACap) →
+            IsStripExcesses self.now x.now top cap none_exceeded }
     {
         self.clearance.is_clear(at, top)
     }

@@ -1,4 +1,4 @@
-//! A level that no surface of a runway is below, and a length that its line is no longer than.
+//! A lower bound of a runway's surfaces, and an upper bound of the length of its line.
 
 ghost use Rattle.std.specs.Prelude.{◌*◌, ◌^◌, ◌≤◌, ◌-ℤ◌, ◌≤ℤ◌, pos, unsigned_abs};
 
@@ -8,10 +8,10 @@ use crate::primary::PrimarySurface;
 use crate::roots::square;
 use std::num::{nearest_i64_to_f64, saturating_f64_to_u32};
 
-/// No line of a primary surface is longer.
+/// Upper bound of the length of a primary surface's line, in tenths of a foot.
 const MOST_LENGTH: u32 = 524_288;
 
-/// At least the root of `n`, and not much more.
+/// A close upper bound of the square root of `n`.
 pub(crate) fn root_above(n: u128) -> u32
     requires { n ≤ 2 ^ 37 }
     ensures root { n ≤ result * result }
@@ -25,7 +25,7 @@ pub(crate) fn root_above(n: u128) -> u32
     }
 }
 
-/// No level of a centerline of this elevation and rise is lower.
+/// A lower bound of a centerline with this elevation and rise.
 fn level_below(z: i64, rise: i64) -> i64
     requires z { unsigned_abs z ≤ 2 ^ 18 }
     requires rise { unsigned_abs rise ≤ 2 ^ 18 }
@@ -35,9 +35,10 @@ fn level_below(z: i64, rise: i64) -> i64
     if rise < 0 { z + rise } else { z - rise }
 }
 
-/// A level that no surface of a runway is below.
+/// A lower bound of the surfaces of a runway.
 pub(crate) fn lowest(primary: &PrimarySurface, one: &ApproachSurface, two: &ApproachSurface) -> i64
-    ensures level { result ≤ℤ (primary.now.centerline.z -ℤ pos (unsigned_abs primary.now.centerline.rise)) }
+    ensures level { result ≤ℤ (primary.now.centerline.z
+        -ℤ pos (unsigned_abs primary.now.centerline.rise)) }
     ensures level1 { result ≤ℤ (one.now.z -ℤ SECOND_SLOPE_DROP) }
     ensures level2 { result ≤ℤ (two.now.z -ℤ SECOND_SLOPE_DROP) }
     ensures size { unsigned_abs result ≤ 2 ^ 20 }

@@ -1,5 +1,5 @@
-//! Imaginary surfaces of runways: the primary surface, the approach surfaces and the transitional surfaces of 77.19(c), (d) and (e),
-//! and how far a top is above them. Lengths, coordinates and elevations are whole tenths of a foot.
+//! Imaginary surfaces of runways: the primary, approach and transitional surfaces (77.19(c), (d) and (e)), and the excess of a top over
+//! them. Lengths, coordinates and elevations are whole tenths of a foot.
 #![tactic(auto)]
 
 mod approach;
@@ -24,7 +24,7 @@ mod zones;
 
 pub use excesses::StripExcesses;
 pub use laws::{
-    approach_excess_is, approach_transition_excess_is, primary_excess_is,
+    approach_excess_is, approach_transition_excess_is, numbers, primary_excess_is,
     primary_transition_excess_is,
 };
 pub use measures::{SECOND_SLOPE_DROP, TRANSITION_REACH, TRANSITION_SLOPE};

@@ -1,4 +1,4 @@
-//! Where a point lies by a line, in numbers of 64 bits.
+//! The position of a point relative to a line, in 64-bit numbers.
 
 ghost use Rattle.std.specs.Prelude.{◌≡◌, ◌^◌, ◌≤◌, ◌≤ℤ◌, ◌<ℤ◌, ◌-ℤ◌, neg_ℤ, pos, unsigned_abs};
 ghost use Rattle.std.specs.Int.{int_max};
@@ -10,7 +10,7 @@ use crate::roots::short;
 use grid_exact::{Axis, Point};
 use std::marker::Model;
 
-/// Where a point lies by a line: an offset whose numbers have 64 bits.
+/// The position of a point relative to a line: an offset with 64-bit numbers.
 #[derive(Clone, Copy)]
 pub(crate) struct Place {
     along: i64,
@@ -30,7 +30,7 @@ impl Model for Place {
     ghost inverse = { λ v. record { along = v.along; aside = v.aside; square = v.square } };
 }
 
-/// The same square of a length in 64 bits.
+/// The square of a length as 64 bits.
 fn short_square(square: u128) -> u64
     requires { square ≤ 2 ^ 55 }
     ensures { result ≡ square }
@@ -38,7 +38,7 @@ fn short_square(square: u128) -> u64
     square as u64
 }
 
-/// How far past an end of what goes from 0 to `length` a point lies.
+/// The distance of `along` beyond the interval from 0 to `length`, or 0 within it.
 fn past_either(along: i64, length: i64) -> i64
     requires along { unsigned_abs along ≤ 2 ^ 45 }
     requires length { unsigned_abs length ≤ 2 ^ 45 }
@@ -48,7 +48,7 @@ fn past_either(along: i64, length: i64) -> i64
 }
 
 impl Place {
-    /// Of a point by a line.
+    /// The position of a point relative to a line.
     pub(crate) fn by(axis: &Axis, x: &Point) -> Place
         ensures { result ≡ offset_of (line_of axis.now) x.now }
     {
@@ -63,7 +63,7 @@ impl Place {
         }
     }
 
-    /// By the line from the same start that goes the other way.
+    /// The position relative to the line with the same start and the opposite direction.
     #[tactic(auto, using(crate::proofs::PlaceFacts::places))]
     pub(crate) fn turned(&self) -> Place
         ensures along { result.along ≡ neg_ℤ self.now.along }
@@ -77,7 +77,7 @@ impl Place {
         }
     }
 
-    /// By the line that goes on from the end of this one, of a point past it.
+    /// The position relative to the line that continues from the end of this one, for a point past that end.
     #[tactic(auto, using(crate::proofs::PlaceFacts::places))]
     pub(crate) fn moved(&self) -> Place
         requires past { pos self.now.square <ℤ self.now.along }
@@ -92,7 +92,7 @@ impl Place {
         }
     }
 
-    /// How far the point is past an end of the line, times the line's length.
+    /// The distance of the point past either end of the line, times the line's length.
     pub(crate) fn ahead(&self) -> i64
         ensures value { result ≡ past_end self.now }
         ensures least { pos 0 ≤ℤ result }
@@ -101,7 +101,7 @@ impl Place {
         past_either(self.along, self.square as i64)
     }
 
-    /// How far it is to a side of the line, times the line's length.
+    /// The distance to a side of the line, times the line's length.
     pub(crate) fn short_aside(&self) -> i64
         ensures value { result ≡ pos self.now.aside }
         ensures most { result ≤ℤ pos (2 ^ 45) }
@@ -109,7 +109,7 @@ impl Place {
         self.aside as i64
     }
 
-    /// How far the point is from the start in the line's direction, times the line's length.
+    /// The distance from the start in the line's direction, times the line's length.
     pub(crate) fn along(&self) -> i128
         ensures value { result ≡ self.now.along }
         ensures reach { IsReach (unsigned_abs self.now.along) self.now.square }
@@ -117,7 +117,7 @@ impl Place {
         self.along as i128
     }
 
-    /// How far the point is to a side of the line, times the line's length.
+    /// The distance to a side of the line, times the line's length.
     pub(crate) fn aside(&self) -> i128
         ensures value { result ≡ pos self.now.aside }
         ensures reach { IsReach self.now.aside self.now.square }

@@ -1,9 +1,9 @@
-//! What the surfaces of a runway are, from its lines and its class.
+//! Preparation of a runway's surfaces from its lines and its class.
 
 ghost use Rattle.std.specs.Prelude.{◌≡◌};
 ghost use Rattle.airfields.specs.Runways.{IsProper};
 ghost use Rattle.grid_exact.specs.Axes.{line_of};
-ghost use Rattle.runway_lines.specs.Ends.{other as other_of, line_between};
+ghost use Rattle.runway_lines.specs.Ends.{other_end as other_of, line_between};
 ghost use Rattle.imaginary_surfaces.specs.Prepared.{IsCenterOf};
 ghost use Rattle.imaginary_surfaces.specs.Shapes.{primary_shape, approach_shape};
 ghost use Rattle.imaginary_surfaces.specs.Strips.{primary_of, approach_of};
@@ -14,7 +14,7 @@ use airfields::Runway;
 use grid_exact::{Axis, Start};
 use runway_lines::{Centerline, End, class, end_class};
 
-/// From the center at the first end of a runway to the one at its second end.
+/// The line from the center at the first end of a runway to the center at its second end.
 fn between(runway: &Runway, one: &Start, two: &Start) -> Axis
     requires proper { IsProper runway.now }
     requires one { IsCenterOf runway.now End.One one.now }
@@ -27,7 +27,7 @@ fn between(runway: &Runway, one: &Start, two: &Start) -> Axis
     }
 }
 
-/// From the center at this end of a runway, outward by as much as the other center is away.
+/// The line from the center at this end of a runway, outward by the distance to the other center.
 fn outward(runway: &Runway, end: End, here: &Start, far: &Start) -> Axis
     requires proper { IsProper runway.now }
     requires here { IsCenterOf runway.now end here.now }
@@ -54,7 +54,7 @@ pub(crate) fn primary(runway: &Runway, one: &Start, two: &Start) -> PrimarySurfa
     }
 }
 
-/// The approach surface of this end of a runway, from the centers here and at its far end.
+/// The approach surface of this end of a runway, from the centers at this end and at the other.
 pub(crate) fn approach(runway: &Runway, end: End, here: &Start, far: &Start) -> ApproachSurface
     requires proper { IsProper runway.now }
     requires here { IsCenterOf runway.now end here.now }

@@ -11,8 +11,8 @@ use crate::roots::{is_at_most_root, short};
 use grid_exact::{Axis, Point, flat_excess, scale};
 use runway_lines::Centerline;
 
-/// The primary surface of a runway, 77.19(c): a strip about the line between its two ends, at the elevation of the nearest point
-/// of the runway's centerline. Its calls take where the point lies by that line, which is worked out once for all of them.
+/// The primary surface of a runway (77.19(c)): a strip about the line between its two ends, at the elevation of the nearest point of the
+/// runway's centerline. Its methods take the position of the point relative to that line, which is computed once for all of them.
 #[derive(Clone, Copy)]
 pub(crate) struct PrimarySurface {
     pub(crate) axis: Axis,
@@ -39,7 +39,7 @@ impl PrimarySurface {
         short(at.along()) <= at.square() as i64
     }
 
-    /// Twice how far a point is to a side of the line, times the vector's length.
+    /// Twice the distance of a point to a side of the line, times the vector's length.
     pub(crate) fn twice_aside(&self, at: &Place) -> i128
         ensures value { result ≡ pos (2 * at.now.aside) }
         ensures size { unsigned_abs result ≤ 2 ^ 46 }
@@ -54,14 +54,14 @@ impl PrimarySurface {
         is_at_most_root(self.twice_aside(at), self.width, at.square())
     }
 
-    /// Whether it covers a point.
+    /// Whether the surface covers a point.
     fn covers(&self, at: &Place) -> bool
         ensures { IsTrue result ↔ PrimaryCovers (primary_shape self.now) at.now }
     {
         self.is_past_start(at) && self.is_before_end(at) && self.is_not_beside(at)
     }
 
-    /// How far `top` is above it at a point, or `None` where it is not above, or the surface does not cover the point.
+    /// The excess of `top` over it at a point; `None` where it is not above, or the surface does not cover the point.
     pub(crate) fn excess(&self, at: &Place, x: &Point, top: i64) -> Option<u32>
         requires top { IsLevel top }
         ensures exact { IsExcess (primary_at (primary_shape self.now) at.now x.now) top result }

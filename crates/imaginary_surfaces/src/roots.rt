@@ -1,4 +1,4 @@
-//! Comparisons with one square root, in numbers of 64 bits: nothing that lies by a line of a runway is longer, and no factor is.
+//! Comparisons with one square root, in 64-bit numbers: every offset from a runway's line and every factor fits them.
 
 ghost use Rattle.std.specs.Prelude.{◌≡◌, ◌↔◌, ◌*◌, ◌^◌, ◌<◌, ◌≤◌, ◌≤ℤ◌, pos, unsigned_abs, IsTrue};
 ghost use Rattle.grid_exact.specs.Root.{AboveRoot, AtLeastRoot, AtMostRoot};

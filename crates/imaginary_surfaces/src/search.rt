@@ -1,4 +1,4 @@
-//! How far a top is above a slope: the least level that reaches it is looked for near a guess first.
+//! The excess of a top over a slope: the least level that reaches it is first searched near a guess.
 
 ghost use Rattle.std.specs.Prelude.{ℤ, ◌^◌, ◌≤◌, ◌≤ℤ◌, IfSome, ⊤};
 ghost use Rattle.grid_exact.specs.Excess.{IsExcess, root_surface};
@@ -8,13 +8,13 @@ use crate::short_slope::ShortSlope;
 use grid_exact::{LEVEL_LIMIT, Rising, Sloping, least_reached};
 use std::num::{nearest_i64_to_f64, saturating_f64_to_u32};
 
-/// About how high the slope is: a guess, of which nothing is asked.
+/// The approximate height of the slope; correctness does not depend on it.
 fn about_height(slope: &ShortSlope) -> f64 {
     let run = nearest_i64_to_f64(slope.a) / nearest_i64_to_f64(slope.n as i64).sqrt();
     (run + nearest_i64_to_f64(slope.c)) / nearest_i64_to_f64(slope.k)
 }
 
-/// About the least level that reaches it, or one more, and none above `top`.
+/// A guess at the least level that reaches it, possibly one more, and at most `top`.
 fn guess(slope: &ShortSlope, top: i64) -> i64
     requires top { IsLevel top }
     ensures level { IsLevel result }
@@ -24,7 +24,7 @@ fn guess(slope: &ShortSlope, top: i64) -> i64
     if guess < top { guess } else { top }
 }
 
-/// A level that reaches it: the guess, where it does, and else `top`.
+/// A level that reaches it: the guess, if it does, else `top`.
 fn reached_level(slope: &ShortSlope, guess: i64, top: i64) -> i64
     requires guess { IsLevel guess }
     requires top { IsLevel top }
@@ -35,11 +35,12 @@ fn reached_level(slope: &ShortSlope, guess: i64, top: i64) -> i64
     if slope.is_reached(guess) { guess } else { top }
 }
 
-/// A level under which none reaches it: the guess, where the one below it does not, and else the lowest.
+/// A level below which none reaches it: the guess, if the level below it does not reach it, else the lowest level.
 fn least_possible(slope: &ShortSlope, guess: i64) -> i64
     requires guess { IsLevel guess }
     ensures level { IsLevel result }
-    ensures lowest { (z : ℤ) → Reaches slope.now.a slope.now.k slope.now.c slope.now.n z → result ≤ℤ z }
+    ensures lowest { (z : ℤ) → Reaches slope.now.a slope.now.k slope.now.c slope.now.n z →
+        result ≤ℤ z }
 {
     if guess <= -LEVEL_LIMIT || slope.is_reached(guess - 1) {
         return -LEVEL_LIMIT;
@@ -47,13 +48,14 @@ fn least_possible(slope: &ShortSlope, guess: i64) -> i64
     guess
 }
 
-/// The least level that reaches it, where `top` does.
+/// The least level that reaches it; `top` must reach it.
 fn least_level(slope: &ShortSlope, top: i64) -> i64
     requires top { IsLevel top }
     requires reached { Reaches slope.now.a slope.now.k slope.now.c slope.now.n top }
     ensures level { IsLevel result }
     ensures reached { Reaches slope.now.a slope.now.k slope.now.c slope.now.n result }
-    ensures least { (z : ℤ) → Reaches slope.now.a slope.now.k slope.now.c slope.now.n z → result ≤ℤ z }
+    ensures least { (z : ℤ) → Reaches slope.now.a slope.now.k slope.now.c slope.now.n z →
+        result ≤ℤ z }
 {
     let guess = guess(slope, top);
     let low = least_possible(slope, guess);
@@ -61,10 +63,11 @@ fn least_level(slope: &ShortSlope, top: i64) -> i64
     least_reached(slope, low, high)
 }
 
-/// How far `top` is above a slope, rounded down.
+/// The excess of `top` over a slope, rounded down; `None` where it is not above.
 pub(crate) fn excess_over(slope: &ShortSlope, top: i64) -> Option<u32>
     requires top { IsLevel top }
-    ensures excess { IsExcess (root_surface ⊤ slope.now.a slope.now.k slope.now.c slope.now.n) top result }
+    ensures excess { IsExcess (root_surface ⊤ slope.now.a slope.now.k slope.now.c slope.now.n) top
+        result }
     ensures size { IfSome result (λ e. e ≤ 2 ^ 26) }
 {
     if !slope.is_exceeded(top) {

@@ -1,4 +1,4 @@
-//! Slopes in numbers of 64 bits.
+//! Slopes in 64-bit numbers.
 
 ghost use Rattle.std.specs.Prelude.{◌≡◌, ◌↔◌, ◌*ℤ◌, ◌-ℤ◌, ◌<ℤ◌, ◌<◌, ◌≤◌, ◌*◌, ◌^◌, pos, unsigned_abs};
 ghost use Rattle.grid_exact.specs.Root.{ProductFits};
@@ -7,7 +7,7 @@ ghost use Rattle.grid_exact.specs.Level.{IsLevel, IsSlope};
 use crate::roots::{short, square};
 use grid_exact::{Rising, Sloping};
 
-/// The heights `z` with `a <= (k * z - c) * sqrt(n)`, as `Slope` has them, of a positive `a`.
+/// The heights `z` with `a <= (k * z - c) * sqrt(n)`, as in `Slope`, for a positive `a`.
 #[derive(Clone, Copy)]
 pub(crate) struct ShortSlope {
     pub(crate) a: i64,

@@ -1,4 +1,4 @@
-//! How far a top is above the surfaces of a runway whose areas have a point.
+//! The excesses of a top over those surfaces of a runway whose areas contain a point.
 
 ghost use Rattle.std.specs.Prelude.{◌≡◌, None};
 ghost use Rattle.grid_exact.specs.Area.{Has};
@@ -15,7 +15,7 @@ impl Strip {
     ghost use Rattle.imaginary_surfaces.specs.Areas.{SkipsIn};
     ghost use Rattle.imaginary_surfaces.specs.Strips.{IsStripExcesses, primary_of, approach_of, primary_excess, approach_excess, primary_transition_excess, approach_transition_excess};
 
-    /// How far `top` is above the primary surface, where its area has the point.
+    /// The excess of `top` over the primary surface, computed only where its area contains the point.
     fn primary_in(&self, area: &Area, at: &Place, x: &Point, top: i64) -> Option<u32>
         requires at { at.now ≡ offset_of (primary_of self.now).line x.now }
         requires top { IsLevel top }
@@ -28,7 +28,7 @@ impl Strip {
         self.over_primary(at, x, top)
     }
 
-    /// How far it is above the transitional surface beside that one, where the area of this one has the point.
+    /// The excess over the transitional surface beside the primary surface, computed only where its own area contains the point.
     fn beside_primary_in(
         &self,
         area: &Area,
@@ -39,7 +39,8 @@ impl Strip {
     ) -> Option<u32>
         requires at { at.now ≡ offset_of (primary_of self.now).line x.now }
         requires top { IsLevel top }
-        requires skip { ¬ Has area.now x.now → primary_transition_excess self.now x.now cap.now top ≡ None }
+        requires skip { ¬ Has area.now x.now →
+            primary_transition_excess self.now x.now cap.now top ≡ None }
         ensures value { result ≡ primary_transition_excess self.now x.now cap.now top }
     {
         if !area.has(x) {
@@ -48,7 +49,7 @@ impl Strip {
         self.beside_primary(at, x, top, cap)
     }
 
-    /// How far it is above the approach surface of an end, where its area has the point.
+    /// The excess over the approach surface of an end, computed only where its area contains the point.
     fn approach_in(&self, end: End, area: &Area, at: &Place, x: &Point, top: i64) -> Option<u32>
         requires at { at.now ≡ offset_of (approach_of self.now end).line x.now }
         requires top { IsLevel top }
@@ -61,7 +62,7 @@ impl Strip {
         self.over_approach(end, at, x, top)
     }
 
-    /// How far it is above the transitional surface beside that one, where the area of this one has the point.
+    /// The excess over the transitional surface beside that approach surface, computed only where its own area contains the point.
     fn beside_approach_in(
         &self,
         end: End,
@@ -73,7 +74,8 @@ impl Strip {
     ) -> Option<u32>
         requires at { at.now ≡ offset_of (approach_of self.now end).line x.now }
         requires top { IsLevel top }
-        requires skip { ¬ Has area.now x.now → approach_transition_excess self.now end x.now cap.now top ≡ None }
+        requires skip { ¬ Has area.now x.now →
+            approach_transition_excess self.now end x.now cap.now top ≡ None }
         ensures value { result ≡ approach_transition_excess self.now end x.now cap.now top }
     {
         if !area.has(x) {
@@ -82,7 +84,7 @@ impl Strip {
         self.beside_approach(end, at, x, top, cap)
     }
 
-    /// As `excesses`, with the areas of the surfaces: one whose area has not the point is not asked, and is not exceeded.
+    /// As `excesses`, with the areas of the surfaces: a surface whose area does not contain the point is skipped, and is not exceeded.
     pub fn excesses_in(&self, areas: &[Area; 6], x: &Point, top: i64, cap: &Cap) -> StripExcesses
         requires top { IsLevel top }
         requires areas { SkipsIn self.now x.now top cap.now areas.now }

@@ -21,10 +21,10 @@ use grid_exact::{Cap, Point};
 use runway_lines::{End, center};
 use std::marker::Model;
 
-/// The imaginary surfaces of a runway, prepared for many points; seen as the runway.
+/// The imaginary surfaces of a runway, prepared for many points; contracts see it as the runway.
 #[derive(Drop)]
 pub struct Strip {
-    /// It stands next to the line of the primary surface, since for most points nothing else is asked for.
+    /// Stored next to the line of the primary surface, since most points need nothing else.
     pub(crate) clearance: Clearance,
     pub(crate) primary: PrimarySurface,
     approach1: ApproachSurface,
@@ -44,7 +44,7 @@ impl Model for Strip {
 }
 
 impl Strip {
-    /// The surfaces of a runway that keeps the limits of a register's runways.
+    /// The surfaces of a runway within the limits of the register.
     pub fn of(runway: &Runway) -> Strip
         requires proper { IsProper runway.now }
         ensures runway { result ≡ runway.now }
@@ -80,21 +80,21 @@ impl Strip {
         }
     }
 
-    /// Where a point lies by the line of the primary surface.
+    /// The position of a point relative to the line of the primary surface.
     pub(crate) fn by_primary(&self, x: &Point) -> Place
         ensures { result ≡ offset_of (primary_of self.now).line x.now }
     {
         Place::by(&self.primary.axis, x)
     }
 
-    /// Where a point lies by the line of the approach surface of this end.
+    /// The position of a point relative to the line of the approach surface of this end.
     pub(crate) fn by_approach(&self, end: End, x: &Point) -> Place
         ensures { result ≡ offset_of (approach_of self.now end).line x.now }
     {
         Place::by(&self.approach(end).axis, x)
     }
 
-    /// How far `top` is above the primary surface at a point that lies so by its line.
+    /// The excess of `top` over the primary surface at a point with this offset from its line.
     pub(crate) fn over_primary(&self, at: &Place, x: &Point, top: i64) -> Option<u32>
         requires at { at.now ≡ offset_of (primary_of self.now).line x.now }
         requires top { IsLevel top }
@@ -104,7 +104,8 @@ impl Strip {
         self.primary.excess(at, x, top)
     }
 
-    /// How far `top` is above the approach surface of an end at a point that lies so by its line; the clauses alone name the point.
+    /// The excess of `top` over the approach surface of an end at a point with this offset from its line; only the contract uses the
+    /// point.
     pub(crate) fn over_approach(&self, end: End, at: &Place, x: &Point, top: i64) -> Option<u32>
         requires at { at.now ≡ offset_of (approach_of self.now end).line x.now }
         requires top { IsLevel top }
@@ -114,7 +115,7 @@ impl Strip {
         self.approach(end).excess(at, top)
     }
 
-    /// How far `top` is above the transitional surface beside the primary surface at a point that lies so by that one's line.
+    /// The excess of `top` over the transitional surface beside the primary surface at a point with this offset from the primary's line.
     pub(crate) fn beside_primary(&self, at: &Place, x: &Point, top: i64, cap: &Cap) -> Option<u32>
         requires at { at.now ≡ offset_of (primary_of self.now).line x.now }
         requires top { IsLevel top }
@@ -124,8 +125,8 @@ impl Strip {
         self.primary.excess_beside(at, x, top, cap)
     }
 
-    /// How far `top` is above the transitional surface beside the approach surface of an end at a point that lies so by that one's
-    /// line; the clauses alone name the point.
+    /// The excess of `top` over the transitional surface beside the approach surface of an end at a point with this offset from the
+    /// approach's line; only the contract uses the point.
     pub(crate) fn beside_approach(
         &self,
         end: End,
@@ -136,14 +137,15 @@ impl Strip {
     ) -> Option<u32>
         requires at { at.now ≡ offset_of (approach_of self.now end).line x.now }
         requires top { IsLevel top }
-        ensures exact { IsExcess (approach_transition_surface self.now end x.now cap.now) top result }
+        ensures exact { IsExcess (approach_transition_surface self.now end x.now cap.now) top
+            result }
         ensures value { result ≡ approach_transition_excess self.now end x.now cap.now top }
     {
         self.approach(end).excess_beside(at, top, cap)
     }
 
-    /// How far `top` is above the primary surface at a point, in tenths of a foot, rounded down: 77.19(c). `None` where it is not
-    /// above, and where the surface does not cover the point.
+    /// The excess of `top` over the primary surface at a point, in tenths of a foot, rounded down (77.19(c)). `None` where it is not
+    /// above, or the surface does not cover the point.
     pub fn excess_primary(&self, x: &Point, top: i64) -> Option<u32>
         requires top { IsLevel top }
         ensures exact { IsExcess (primary_surface self.now x.now) top result }
@@ -152,8 +154,8 @@ impl Strip {
         self.over_primary(&self.by_primary(x), x, top)
     }
 
-    /// How far `top` is above the approach surface of an end at a point, in tenths of a foot, rounded down: 77.19(d). `None` where
-    /// it is not above, and where the surface does not cover the point.
+    /// The excess of `top` over the approach surface of an end at a point, in tenths of a foot, rounded down (77.19(d)). `None` where it
+    /// is not above, or the surface does not cover the point.
     pub fn excess_approach(&self, end: End, x: &Point, top: i64) -> Option<u32>
         requires top { IsLevel top }
         ensures exact { IsExcess (approach_surface self.now end x.now) top result }
@@ -162,9 +164,9 @@ impl Strip {
         self.over_approach(end, &self.by_approach(end, x), x, top)
     }
 
-    /// How far `top` is above the transitional surface beside the primary surface at a point, in tenths of a foot, rounded down:
-    /// 77.19(e). `cap`, at any level, is where the horizontal and conical surfaces end upward at the point. `None` where it is not
-    /// above, and where the surface does not cover the point.
+    /// The excess of `top` over the transitional surface beside the primary surface at a point, in tenths of a foot, rounded down
+    /// (77.19(e)). `cap` is the level of the horizontal and conical surfaces at the point, where transitional surfaces end; any level is
+    /// allowed. `None` where the top is not above, or the surface does not cover the point.
     pub fn excess_transition_primary(&self, x: &Point, top: i64, cap: &Cap) -> Option<u32>
         requires top { IsLevel top }
         ensures exact { IsExcess (primary_transition_surface self.now x.now cap.now) top result }
@@ -173,9 +175,9 @@ impl Strip {
         self.beside_primary(&self.by_primary(x), x, top, cap)
     }
 
-    /// How far `top` is above the transitional surface beside the approach surface of an end at a point, in tenths of a foot,
-    /// rounded down: 77.19(e). `cap`, at any level, is where the horizontal and conical surfaces end upward at the point. `None`
-    /// where it is not above, and where the surface does not cover the point.
+    /// The excess of `top` over the transitional surface beside the approach surface of an end at a point, in tenths of a foot, rounded
+    /// down (77.19(e)). `cap` is the level of the horizontal and conical surfaces at the point, where transitional surfaces end; any
+    /// level is allowed. `None` where the top is not above, or the surface does not cover the point.
     pub fn excess_transition_approach(
         &self,
         end: End,
@@ -184,14 +186,16 @@ impl Strip {
         cap: &Cap,
     ) -> Option<u32>
         requires top { IsLevel top }
-        ensures exact { IsExcess (approach_transition_surface self.now end x.now cap.now) top result }
+        ensures exact { IsExcess (approach_transition_surface self.now end x.now cap.now) top
+            result }
         ensures value { result ≡ approach_transition_excess self.now end x.now cap.now top }
     {
         self.beside_approach(end, &self.by_approach(end, x), x, top, cap)
     }
 
-    /// How far `top` is above each of the six surfaces at a point: 77.19(c), (d) and (e). `cap` is where the horizontal and conical
-    /// surfaces end upward at the point. It is called for many points that are clear of the runway, so the rest stands by itself.
+    /// The excess of `top` over each of the six surfaces at a point, in tenths of a foot (77.19(c), (d) and (e)). `cap` is the level of
+    /// the horizontal and conical surfaces at the point. Most calls are for points clear of the runway, so the rest is a separate
+    /// function.
     #[inline(always)]
     pub fn excesses(&self, x: &Point, top: i64, cap: &Cap) -> StripExcesses
         requires top { IsLevel top }
@@ -211,7 +215,7 @@ impl Strip {
         self.excesses_near(&at, x, top, cap)
     }
 
-    /// The same at a point that lies so by the line of the primary surface, which is worked out once for the surfaces along it.
+    /// The same at a point with this offset from the line of the primary surface, which is computed once for the surfaces along it.
     #[inline(never)]
     fn excesses_near(&self, at: &Place, x: &Point, top: i64, cap: &Cap) -> StripExcesses
         requires at { at.now ≡ offset_of (primary_of self.now).line x.now }
@@ -227,8 +231,8 @@ impl Strip {
         self.excesses_between(at, x, top, cap)
     }
 
-    /// The two ends of the primary surface on the extended centerline, each by its two coordinates: 77.19(c). They are the ends of
-    /// the runway, or 200 feet past them where it has a prepared hard surface, rounded down to whole tenths of a foot.
+    /// The coordinates of the two ends of the primary surface on the extended centerline (77.19(c)): the ends of the runway, or 200 feet
+    /// past them for a prepared hard surface, rounded down to whole tenths of a foot.
     pub fn centers(&self) -> ((i64, i64), (i64, i64))
         ensures exact { AreCenters self.now result }
         ensures value { result ≡ centers_of self.now }

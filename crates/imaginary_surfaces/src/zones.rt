@@ -1,5 +1,5 @@
-//! Which surfaces of a runway can cover a point. Between the two ends of the primary surface that one does and what lies beside it, and
-//! beyond an end the approach surface there and what lies beside that.
+//! The surfaces of a runway that can cover a point. Between the two ends of the primary surface these are the primary surface and the one
+//! beside it; beyond an end, the approach surface there and the one beside it.
 
 ghost use Rattle.std.specs.Prelude.{◌≡◌, ◌≤ℤ◌, ◌<ℤ◌, pos};
 ghost use Rattle.grid_exact.specs.Level.{IsLevel};
@@ -16,8 +16,8 @@ impl Strip {
     ghost use Rattle.airfields.specs.Runways.{IsProper};
     ghost use Rattle.imaginary_surfaces.specs.Strips.{IsStripExcesses, primary_of, approach_of, approach_excess, approach_transition_excess};
 
-    /// How far `top` is above the approach surface of an end at a point that lies so by its line, and above the transitional surface
-    /// beside it; the clauses alone name the point.
+    /// The excess of `top` over the approach surface of an end, and over the transitional surface beside it, at a point with this offset
+    /// from its line; only the contract uses the point.
     fn excesses_at(&self, end: End, at: &Place, x: &Point, top: i64, cap: &Cap) -> EndExcesses
         requires at { at.now ≡ offset_of (approach_of self.now end).line x.now }
         requires top { IsLevel top }
@@ -29,7 +29,7 @@ impl Strip {
         self.approach(end).excesses(at, top, cap)
     }
 
-    /// How far `top` is above each surface at a point before the first end of the primary surface that lies so by its line.
+    /// The excess of `top` over each surface at a point before the first end of the primary surface, with this offset from its line.
     pub(crate) fn excesses_before(
         &self,
         at: &Place,
@@ -53,10 +53,11 @@ impl Strip {
         }
     }
 
-    /// The same at a point past its second end.
+    /// As above, for a point past the second end.
     pub(crate) fn excesses_past(&self, at: &Place, x: &Point, top: i64, cap: &Cap) -> StripExcesses
         requires at { at.now ≡ offset_of (primary_of self.now).line x.now }
-        requires past { pos (square (primary_of self.now).line) <ℤ along (primary_of self.now).line x.now }
+        requires past { pos (square (primary_of self.now).line) <ℤ along (primary_of
+            self.now).line x.now }
         requires top { IsLevel top }
         ensures value { IsStripExcesses self.now x.now top cap.now result }
     {
@@ -71,7 +72,7 @@ impl Strip {
         }
     }
 
-    /// The same at a point between its two ends that lies so by its line.
+    /// As above, for a point abeam the primary surface.
     pub(crate) fn excesses_between(
         &self,
         at: &Place,
@@ -81,7 +82,8 @@ impl Strip {
     ) -> StripExcesses
         requires at { at.now ≡ offset_of (primary_of self.now).line x.now }
         requires past_start { pos 0 ≤ℤ along (primary_of self.now).line x.now }
-        requires before_end { along (primary_of self.now).line x.now ≤ℤ pos (square (primary_of self.now).line) }
+        requires before_end { along (primary_of self.now).line
+            x.now ≤ℤ pos (square (primary_of self.now).line) }
         requires top { IsLevel top }
         ensures value { IsStripExcesses self.now x.now top cap.now result }
     {

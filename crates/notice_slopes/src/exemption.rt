@@ -1,6 +1,6 @@
-//! What needs no notice: 77.9(e).
+//! Exemptions from notice: 77.9(e).
 
-/// Why a structure needs no notice.
+/// The reason why a structure needs no notice (77.9(e)).
 #[derive(Clone, Copy, Debug, PartialEq, Eq)]
 pub enum Exemption {
     /// It is shielded by existing structures or natural terrain: 77.9(e)(1).
@@ -9,6 +9,6 @@ pub enum Exemption {
     Device,
     /// Another FAA regulation requires notice of it: 77.9(e)(3).
     OtherRule,
-    /// It is an antenna structure of at most 20 feet that increases the height of no other one: 77.9(e)(4).
+    /// It is an antenna structure of at most 20 feet that does not increase the height of another one: 77.9(e)(4).
     Antenna,
 }

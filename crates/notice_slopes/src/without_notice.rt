@@ -1,4 +1,4 @@
-//! Which exemption a structure has.
+//! The exemption of a structure.
 
 ghost use Rattle.std.specs.Prelude.{◌≡◌};
 ghost use Rattle.notice_slopes.specs.Exemptions.{exemption_of, is_low_antenna as is_low_antenna_of};
@@ -6,10 +6,10 @@ ghost use Rattle.notice_slopes.specs.Exemptions.{exemption_of, is_low_antenna as
 use crate::exemption::Exemption;
 use airfields::{Filing, StructureKind};
 
-/// The greatest height of an antenna structure that needs no notice, in tenths of a foot: 20 feet, 77.9(e)(4).
+/// Greatest height of an antenna structure that needs no notice, in tenths of a foot: 20 feet (77.9(e)(4)).
 pub const LOW_ANTENNA: i64 = 200;
 
-/// Whether it is an antenna structure of at most 20 feet that increases the height of no other one.
+/// Whether it is an antenna structure of at most 20 feet that does not increase the height of another one (77.9(e)(4)).
 fn is_low_antenna(filing: &Filing) -> bool
     ensures { result ≡ is_low_antenna_of filing.now }
 {
@@ -19,7 +19,7 @@ fn is_low_antenna(filing: &Filing) -> bool
     }
 }
 
-/// Why the structure needs no notice: the first exemption of 77.9(e) that it has, in the order of the paragraph.
+/// The first exemption of 77.9(e) that the structure has, in the order of the paragraph; `None` where it has none.
 pub fn exempt(f: &Filing) -> Option<Exemption>
     ensures { result ≡ exemption_of f.now }
 {

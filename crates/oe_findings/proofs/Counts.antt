@@ -12,9 +12,9 @@ use Rattle.height_rules.specs.AboveGround.{notice_excess, height_excess}
 use Rattle.notice_slopes.specs.Exemptions.{exemption_of}
 use Rattle.notice_slopes.specs.OnAirfields.{is_on_described}
 use Rattle.airfield_findings.specs.Entries.{entries, no_key, field_key, of_airfield, slope_entries}
-use Rattle.airfield_findings.specs.Verdicts.{tally_of, verdict_of, asks_notice, is_obstruction}
-use Rattle.airfield_findings.specs.declared.finding.Finding.{Finding}
-use Rattle.airfield_findings.specs.declared.finding.Rule.TheVariants as rules
+use Rattle.finding_lists.specs.Verdicts.{tally_of, verdict_of, asks_notice, is_obstruction}
+use Rattle.finding_lists.specs.declared.finding.Finding.{Finding}
+use Rattle.finding_lists.specs.declared.finding.Rule.TheVariants as rules
 use Rattle.airfield_findings.proofs.Counts.{one, two_parts, parts, any_parts, either, at_most_one, of_one_airfield, one_slope}
 use Rattle.oe_findings.specs.List.{rule_a, on_airfield, notices_of, notices_if_due, findings_of}
 

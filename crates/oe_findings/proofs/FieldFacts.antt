@@ -9,7 +9,7 @@ use Rattle.airfields.specs.Names.{name_cmp}
 use Rattle.airfields.specs.Airfields.{id_of, IsHeld}
 use Rattle.airfields.specs.declared.airfield.Airfield.{Airfield}
 use Rattle.airport_register.specs.Registers.{IsRegister}
-use Rattle.airport_register.specs.Amendments.{airfield_at, replaced}
+use Rattle.airport_register.specs.Amendments.{airfield_at, list_with_replaced}
 use Rattle.airport_register.proofs.Fields.{found_held}
 use Rattle.airfield_findings.specs.Prepared.{airfield_of}
 use Rattle.airfield_findings.specs.declared.prepared.Prepared.{Prepared}
@@ -24,15 +24,15 @@ put_next items new p v xs i r at before made put =
 
 -- an airfield was put in its place
 pub put_changed : (items new : List Prepared) (p : Prepared) (v : Airfield) (id : List ℕ) (o : Option Airfield) → o ≡ Some v → airfield_of p ≡ v
-    → new ≡ put_by name_cmp (λ a. id_of (airfield_of a)) p items → map airfield_of new ≡ replaced id o (map airfield_of items)
+    → new ≡ put_by name_cmp (λ a. id_of (airfield_of a)) p items → map airfield_of new ≡ list_with_replaced id o (map airfield_of items)
 put_changed items new p v id o some made put =
-    put-mapped name_cmp id_of airfield_of p v items new made put ∙ ap (λ q. replaced id q (map airfield_of items)) (sym some)
+    put-mapped name_cmp id_of airfield_of p v items new made put ∙ ap (λ q. list_with_replaced id q (map airfield_of items)) (sym some)
 
 -- an airfield was taken out
 pub removed_changed : (items new : List Prepared) (id : List ℕ) (o : Option Airfield) → o ≡ None
-    → new ≡ removed_by name_cmp (λ a. id_of (airfield_of a)) id items → map airfield_of new ≡ replaced id o (map airfield_of items)
+    → new ≡ removed_by name_cmp (λ a. id_of (airfield_of a)) id items → map airfield_of new ≡ list_with_replaced id o (map airfield_of items)
 removed_changed items new id o none removed =
-    removed-mapped name_cmp id_of airfield_of id items new removed ∙ ap (λ q. replaced id q (map airfield_of items)) (sym none)
+    removed-mapped name_cmp id_of airfield_of id items new removed ∙ ap (λ q. list_with_replaced id q (map airfield_of items)) (sym none)
 
 -- an airfield that an amendment leaves is as the register holds it
 pub left_held : (xs : List Airfield) (o : Option Airfield) (k : List ℕ) → IsRegister xs → o ≡ airfield_at xs k → IfSome o (λ f. IsHeld f)

@@ -10,45 +10,45 @@ use Rattle.surface_tree.specs.Visits.{all_hits, hit_at, hits}
 use Rattle.surface_tree.specs.declared.placed.Plot.{Plot}
 use Rattle.surface_tree.proofs.Wholes.{all_hits_at}
 use Rattle.airfields.specs.declared.airfield.Airfield.{Airfield}
-use Rattle.airfield_findings.specs.Orders.{merged}
+use Rattle.finding_lists.specs.Orders.{merged_list}
 use Rattle.airfield_findings.specs.Prepared.{airfield_of}
-use Rattle.airfield_findings.specs.declared.finding.Finding.{Finding}
+use Rattle.finding_lists.specs.declared.finding.Finding.{Finding}
 use Rattle.airfield_findings.specs.declared.prepared.Prepared.{Prepared}
-use Rattle.airfield_findings.proofs.Merges.{merged_append}
-use Rattle.oe_findings.specs.Screenings.{gathered, is_small}
+use Rattle.finding_lists.proofs.Merges.{merged_append}
+use Rattle.oe_findings.specs.Screenings.{gathered_findings, is_small}
 
 abbrev pub plot_of : Prepared → Plot
 plot_of p = p.plot
 
 -- ---- one airfield more
-pub gathered_more : (f : Airfield → List Finding) (list : List Finding) (items more : List Prepared) → gathered f list (items ++ more) ≡ gathered f (gathered f list items) more
+pub gathered_more : (f : Airfield → List Finding) (list : List Finding) (items more : List Prepared) → gathered_findings f list (items ++ more) ≡ gathered_findings f (gathered_findings f list items) more
 gathered_more f list [] more = refl
-gathered_more f list (p ∷ ps) more = gathered_more f (if is_small p then merged list (f (airfield_of p)) else list ++ f (airfield_of p)) ps more
+gathered_more f list (p ∷ ps) more = gathered_more f (if is_small p then merged_list list (f (airfield_of p)) else list ++ f (airfield_of p)) ps more
 
-small_one : (f : Airfield → List Finding) (list : List Finding) (p : Prepared) → is_small p ≡ true → gathered f list (p ∷ []) ≡ merged list (f (airfield_of p))
+small_one : (f : Airfield → List Finding) (list : List Finding) (p : Prepared) → is_small p ≡ true → gathered_findings f list (p ∷ []) ≡ merged_list list (f (airfield_of p))
 small_one f list p e = rw e refl
 
-large_one : (f : Airfield → List Finding) (list : List Finding) (p : Prepared) → is_small p ≡ false → gathered f list (p ∷ []) ≡ list ++ f (airfield_of p)
+large_one : (f : Airfield → List Finding) (list : List Finding) (p : Prepared) → is_small p ≡ false → gathered_findings f list (p ∷ []) ≡ list ++ f (airfield_of p)
 large_one f list p e = rw e refl
 
-pub small_next : (f : Airfield → List Finding) (list : List Finding) (items : List Prepared) (p : Prepared) → is_small p ≡ true → gathered f list (items ++ p ∷ []) ≡ merged (gathered f list items) (f (airfield_of p))
-small_next f list items p e = gathered_more f list items (p ∷ []) ∙ small_one f (gathered f list items) p e
+pub small_next : (f : Airfield → List Finding) (list : List Finding) (items : List Prepared) (p : Prepared) → is_small p ≡ true → gathered_findings f list (items ++ p ∷ []) ≡ merged_list (gathered_findings f list items) (f (airfield_of p))
+small_next f list items p e = gathered_more f list items (p ∷ []) ∙ small_one f (gathered_findings f list items) p e
 
-pub large_next : (f : Airfield → List Finding) (list : List Finding) (items : List Prepared) (p : Prepared) → is_small p ≡ false → gathered f list (items ++ p ∷ []) ≡ gathered f list items ++ f (airfield_of p)
-large_next f list items p e = gathered_more f list items (p ∷ []) ∙ large_one f (gathered f list items) p e
+pub large_next : (f : Airfield → List Finding) (list : List Finding) (items : List Prepared) (p : Prepared) → is_small p ≡ false → gathered_findings f list (items ++ p ∷ []) ≡ gathered_findings f list items ++ f (airfield_of p)
+large_next f list items p e = gathered_more f list items (p ∷ []) ∙ large_one f (gathered_findings f list items) p e
 
 -- ---- several of one size
-pub all_large : (f : Airfield → List Finding) (list : List Finding) (ps : List Prepared) → All (λ p. is_small p ≡ false) ps → gathered f list ps ≡ list ++ flat_map (λ p. f (airfield_of p)) ps
+pub all_large : (f : Airfield → List Finding) (list : List Finding) (ps : List Prepared) → All (λ p. is_small p ≡ false) ps → gathered_findings f list ps ≡ list ++ flat_map (λ p. f (airfield_of p)) ps
 all_large f list [] h = sym (append-nil list)
 all_large f list (p ∷ ps) h =
     let P : Prepared → Type 0 = λ q. is_small q ≡ false in
     rw (All-head P p ps h) (all_large f (list ++ f (airfield_of p)) ps (All-tail P p ps h) ∙ append_assoc list (f (airfield_of p)) (flat_map (λ q. f (airfield_of q)) ps))
 
-pub all_small : (f : Airfield → List Finding) (list : List Finding) (ps : List Prepared) → All (λ p. is_small p ≡ true) ps → gathered f list ps ≡ merged list (flat_map (λ p. f (airfield_of p)) ps)
+pub all_small : (f : Airfield → List Finding) (list : List Finding) (ps : List Prepared) → All (λ p. is_small p ≡ true) ps → gathered_findings f list ps ≡ merged_list list (flat_map (λ p. f (airfield_of p)) ps)
 all_small f list [] h = refl
 all_small f list (p ∷ ps) h =
     let P : Prepared → Type 0 = λ q. is_small q ≡ true in
-    rw (All-head P p ps h) (all_small f (merged list (f (airfield_of p))) ps (All-tail P p ps h) ∙ sym (merged_append list (f (airfield_of p)) (flat_map (λ q. f (airfield_of q)) ps)))
+    rw (All-head P p ps h) (all_small f (merged_list list (f (airfield_of p))) ps (All-tail P p ps h) ∙ sym (merged_append list (f (airfield_of p)) (flat_map (λ q. f (airfield_of q)) ps)))
 
 -- ---- a visit gives the large ones first
 

@@ -5,3 +5,6 @@ pub mod Holding
 pub mod Sights
 pub mod Counts
 pub mod Standards
+pub mod OutsideFacts
+pub mod Nears
+pub mod LeftOut

@@ -21,19 +21,19 @@ use Rattle.surface_tree.specs.Visits.{all_hits}
 use Rattle.surface_tree.specs.declared.placed.Plot.{Plot}
 use Rattle.surface_tree.proofs.Even.{level_hits, other_hits, flat_map_kept}
 use Rattle.surface_tree.proofs.Visits.{filter_twice}
-use Rattle.airfield_reach.specs.declared.plots.TheConstants.{LARGE_LEVEL, SMALL_LEVEL}
+use Rattle.airfield_plots.specs.declared.plots.TheConstants.{LARGE_LEVEL, SMALL_LEVEL}
 use Rattle.airfield_findings.specs.Entries.{entries, no_key, of_airfield, slope_entries}
-use Rattle.airfield_findings.specs.Orders.{merged}
+use Rattle.finding_lists.specs.Orders.{merged_list}
 use Rattle.airfield_findings.specs.Prepared.{airfield_of}
 use Rattle.airfield_findings.specs.Reaches.{HasLevels}
-use Rattle.airfield_findings.specs.Verdicts.{is_notice, is_obstruction}
-use Rattle.airfield_findings.specs.declared.finding.Finding.{Finding}
-use Rattle.airfield_findings.specs.declared.finding.Rule.{Rule}
-use Rattle.airfield_findings.specs.declared.finding.Rule.TheVariants as rules
+use Rattle.finding_lists.specs.Verdicts.{is_notice, is_obstruction}
+use Rattle.finding_lists.specs.declared.finding.Finding.{Finding}
+use Rattle.finding_lists.specs.declared.finding.Rule.{Rule}
+use Rattle.finding_lists.specs.declared.finding.Rule.TheVariants as rules
 use Rattle.airfield_findings.specs.declared.prepared.Prepared.{Prepared}
 use Rattle.airfield_findings.proofs.Merges.{merged_runs, named_standards, named_slopes}
 use Rattle.oe_findings.specs.List.{rule_a}
-use Rattle.oe_findings.specs.Screenings.{exceeds_over, slopes_over, slopes_by, gathered, is_small, HasGathered, HasSeen}
+use Rattle.oe_findings.specs.Screenings.{exceeds_over, slopes_over, slopes_by, gathered_findings, is_small, HasGathered, HasSeen}
 use Rattle.oe_findings.proofs.Gathered.{all_large, all_small, gathered_more, plot_of, runs_in_order}
 
 -- the items over the point give what all give
@@ -59,14 +59,14 @@ either_level n h = elim (cases_Bool (nat_eq n SMALL_LEVEL)) [
 -- the entries of the large and of the small airfields over a point, merged behind entries that have no airfield
 runs : (f : Airfield → List Finding) (first : List Finding) (x : Point) (all : List Prepared) → Rises name_cmp id_of (map airfield_of all)
     → ((a : Airfield) → All (λ e. e.key.field ≡ Some (id_of a)) (f a)) → All (λ e. e.key.field ≡ None) first → ((p : Prepared) → has_point p.plot.area x ≡ false → f (airfield_of p) ≡ [])
-    → merged (first ++ flat_map f (map airfield_of (filter (λ p. not (is_small p)) (all_hits plot_of x all)))) (flat_map f (map airfield_of (filter is_small (all_hits plot_of x all)))) ≡ first ++ flat_map f (map airfield_of all)
+    → merged_list (first ++ flat_map f (map airfield_of (filter (λ p. not (is_small p)) (all_hits plot_of x all)))) (flat_map f (map airfield_of (filter is_small (all_hits plot_of x all)))) ≡ first ++ flat_map f (map airfield_of all)
 runs f first x all rises named none nothing =
     let hits = all_hits plot_of x all in
     let has : Prepared → Bool = λ p. has_point p.plot.area x in
     let large = over_run f (λ p. not (is_small p)) has all hits nothing (other_hits plot_of x SMALL_LEVEL LARGE_LEVEL all (omega arith) (omega arith) (λ j d l. either_level (get_or all j d).plot.level (get_or all j d).in_place.is_plot.level)) in
     let small = over_run f is_small has all hits nothing (level_hits plot_of x SMALL_LEVEL all (omega arith)) in
-    ap (λ zs. merged (first ++ zs) (flat_map f (map airfield_of (filter is_small hits)))) large
-    ∙ ap (λ zs. merged (first ++ flat_map (λ p. f (airfield_of p)) (filter (λ p. not (is_small p)) all)) zs) small
+    ap (λ zs. merged_list (first ++ zs) (flat_map f (map airfield_of (filter is_small hits)))) large
+    ∙ ap (λ zs. merged_list (first ++ flat_map (λ p. f (airfield_of p)) (filter (λ p. not (is_small p)) all)) zs) small
     ∙ merged_runs (λ p. f (airfield_of p)) (λ p. id_of (airfield_of p)) is_small first all (Rises-mapped name_cmp id_of airfield_of all rises) (λ p. named (airfield_of p)) none
     ∙ ap (λ zs. first ++ zs) (sym (flat_map-map f airfield_of all))
 
@@ -84,17 +84,17 @@ no_slopes site x at levels p e = p.in_place.slopes site levels (ap (has_point p.
 -- what a visit gathers is what all airfields give
 by_visit : (f : Airfield → List Finding) (first : List Finding) (x : Point) (all : List Prepared) → Rises name_cmp id_of (map airfield_of all)
     → ((a : Airfield) → All (λ e. e.key.field ≡ Some (id_of a)) (f a)) → All (λ e. e.key.field ≡ None) first → ((p : Prepared) → has_point p.plot.area x ≡ false → f (airfield_of p) ≡ [])
-    → gathered f first (all_hits plot_of x all) ≡ first ++ flat_map f (map airfield_of all)
+    → gathered_findings f first (all_hits plot_of x all) ≡ first ++ flat_map f (map airfield_of all)
 by_visit f first x all rises named none nothing =
     let seen = all_hits plot_of x all in
     let big = filter (λ p. not (is_small p)) seen in
     let little = filter is_small seen in
     let sized : All (λ p. (p.plot.level ≡ SMALL_LEVEL) ⊎ (p.plot.level ≡ LARGE_LEVEL)) all = λ j d l. either_level (get_or all j d).plot.level (get_or all j d).in_place.is_plot.level in
-    ap (gathered f first) (sym (runs_in_order x all sized))
+    ap (gathered_findings f first) (sym (runs_in_order x all sized))
     ∙ gathered_more f first big little
-    ∙ ap (λ zs. gathered f zs little) (all_large f first big (All-weaker (λ p. not (is_small p) ≡ true) (λ p. is_small p ≡ false) (λ p e. not-true (is_small p) e) big (filter_passes (λ p. not (is_small p)) seen)))
+    ∙ ap (λ zs. gathered_findings f zs little) (all_large f first big (All-weaker (λ p. not (is_small p) ≡ true) (λ p. is_small p ≡ false) (λ p e. not-true (is_small p) e) big (filter_passes (λ p. not (is_small p)) seen)))
     ∙ all_small f (first ++ flat_map (λ p. f (airfield_of p)) big) little (filter_passes is_small seen)
-    ∙ sym (ap (λ zs. merged (first ++ zs) (flat_map f (map airfield_of little))) (flat_map-map f airfield_of big) ∙ ap (merged (first ++ flat_map (λ p. f (airfield_of p)) big)) (flat_map-map f airfield_of little))
+    ∙ sym (ap (λ zs. merged_list (first ++ zs) (flat_map f (map airfield_of little))) (flat_map-map f airfield_of big) ∙ ap (merged_list (first ++ flat_map (λ p. f (airfield_of p)) big)) (flat_map-map f airfield_of little))
     ∙ runs f first x all rises named none nothing
 
 slopes_seen : (site : Site) (due : Bool) (all : List Prepared) (x : Point) → Rises name_cmp id_of (map airfield_of all) → x ≡ site.at → HasLevels site

@@ -18,11 +18,11 @@ use Rattle.notice_slopes.specs.Exemptions.{exemption_of}
 use Rattle.notice_slopes.specs.OnAirfields.{is_on_described}
 use Rattle.airfield_findings.specs.Entries.{entries, no_key, field_key, of_airfield, rule_b, rule_b3, slope_finding, slope_entries}
 use Rattle.airfield_findings.specs.Prepared.{airfield_of}
-use Rattle.airfield_findings.specs.Verdicts.{is_notice, is_obstruction}
-use Rattle.airfield_findings.specs.declared.finding.Finding.{Finding}
-use Rattle.airfield_findings.specs.declared.finding.SurfaceKey.{SurfaceKey}
-use Rattle.airfield_findings.specs.declared.finding.Rule.{Rule}
-use Rattle.airfield_findings.specs.declared.finding.Rule.TheVariants as rules
+use Rattle.finding_lists.specs.Verdicts.{is_notice, is_obstruction}
+use Rattle.finding_lists.specs.declared.finding.Finding.{Finding}
+use Rattle.finding_lists.specs.declared.finding.SurfaceKey.{SurfaceKey}
+use Rattle.finding_lists.specs.declared.finding.Rule.{Rule}
+use Rattle.finding_lists.specs.declared.finding.Rule.TheVariants as rules
 use Rattle.airfield_findings.specs.declared.prepared.Prepared.{Prepared}
 use Rattle.oe_findings.specs.List.{rule_a, on_airfield, notices_of, notices_if_due, findings_of}
 use Rattle.oe_findings.specs.Screenings.{exceeds_over}

@@ -1,3 +1,4 @@
 pub mod List
 pub mod Nearness
 pub mod Screenings
+pub mod Outside

@@ -8,17 +8,17 @@ use Rattle.height_rules.specs.AboveGround.{notice_excess, height_excess}
 use Rattle.notice_slopes.specs.Exemptions.{exemption_of}
 use Rattle.notice_slopes.specs.OnAirfields.{is_on_described}
 use Rattle.airfield_findings.specs.Entries.{entries, no_key, field_key, of_airfield, slope_entries}
-use Rattle.airfield_findings.specs.declared.finding.Finding.{Finding}
-use Rattle.airfield_findings.specs.declared.finding.Rule.{Rule}
-use Rattle.airfield_findings.specs.declared.finding.Rule.TheVariants as rules
+use Rattle.finding_lists.specs.declared.finding.Finding.{Finding}
+use Rattle.finding_lists.specs.declared.finding.Rule.{Rule}
+use Rattle.finding_lists.specs.declared.finding.Rule.TheVariants as rules
 
 -- ---- notice
 
--- what notice rules are called for a traverse way, under 77.9(c)
+-- the rule of 77.9(a) for a structure; a traverse way has it under 77.9(c)
 abbrev pub rule_a : Site → Rule
 rule_a site = if is_traverse_way site.kind then rules.WayA else rules.NoticeA
 
--- construction on an airfield of 77.9(d), which has no height
+-- the entry of construction on an airfield of 77.9(d); it has no height, and its excess is 0
 abbrev pub on_airfield : List Airfield → Site → List Finding
 on_airfield airfields site =
     if is_on_described airfields site then option_to_list (option_map (λ id. record { rule = rules.NoticeD; key = field_key id 0; excess = 0 }) site.on) else []
@@ -28,7 +28,7 @@ abbrev pub notices_of : List Airfield → Site → List Finding
 notices_of airfields site =
     entries (rule_a site) no_key (notice_excess site) ++ flat_map (slope_entries site) airfields ++ on_airfield airfields site
 
--- unless 77.9(e) exempts the structure from them
+-- the same, but none where 77.9(e) exempts the structure
 abbrev pub notices_if_due : List Airfield → Site → List Finding
 notices_if_due airfields site = if is_none (exemption_of site) then notices_of airfields site else []
 

@@ -1,14 +1,19 @@
-//! The findings of a structure over all airfields: which standards and notice rules it exceeds, and by how much.
+//! The findings of a structure for all airfields: which standards and notice rules it exceeds, and by how much; and the areas of the
+//! surfaces of an airfield, each the least whole box around a surface.
 //!
-//! An excess is in whole tenths of a foot.
+//! Excesses and coordinates are whole tenths of a foot.
 #![tactic(auto)]
 
+mod area_list;
+mod laws;
 mod notices;
 mod obstruction;
+mod runways;
 mod screening;
 mod sky;
 mod surroundings;
 
-pub use airfield_areas::AreaList;
-pub use airfield_findings::{Finding, Findings, Rule, SurfaceKey, Verdict};
+pub use area_list::AreaList;
+pub use finding_lists::{Finding, Findings, Rule, SurfaceKey, Verdict};
+pub use laws::one_list;
 pub use sky::Sky;

@@ -1,16 +1,17 @@
-//! The notice rules that look at no surface: 77.9(a) and 77.9(d).
+//! The notice rules without a surface: 77.9(a) and 77.9(d).
 
 ghost use Rattle.std.specs.Prelude.{◌≡◌, ◌++◌, List, OnOk, OnErr};
 ghost use Rattle.oe_findings.specs.List.{on_airfield, rule_a as rule_a_of};
-ghost use Rattle.airfield_findings.specs.declared.finding.Finding.{Finding as AFinding};
+ghost use Rattle.finding_lists.specs.declared.finding.Finding.{Finding as AFinding};
 
-use airfield_findings::{Collector, Finding, Rule, field_key};
+use airfield_findings::field_key;
 use airfields::Filing;
 use airport_register::Register;
+use finding_lists::{Collector, Finding, Rule};
 use grid_exact::NoMemory;
 use notice_slopes::rule_d;
 
-/// What 77.9(a) is called for the structure: for a traverse way, under 77.9(c).
+/// The rule of 77.9(a) for the structure; a traverse way has it under 77.9(c).
 pub(crate) fn rule_a(filing: &Filing) -> Rule
     ensures { result ≡ rule_a_of filing.now }
 {
@@ -21,13 +22,14 @@ pub(crate) fn rule_a(filing: &Filing) -> Rule
     }
 }
 
-/// Hands over the entry of construction on an airfield, 77.9(d).
+/// Passes the entry of construction on an airfield (77.9(d)) to the collector.
 pub(crate) fn put_on_airfield<C: Collector>(
     out: &mut C,
     register: &Register,
     filing: &Filing,
 ) -> Result<(), NoMemory>
-    ensures taken { OnOk result ((list : List AFinding) → C.taken out.old list → C.taken out.new (list ++ on_airfield register.now filing.now)) }
+    ensures taken { OnOk result ((list : List AFinding) → C.taken out.old list
+        → C.taken out.new (list ++ on_airfield register.now filing.now)) }
     ensures fails { OnErr result C.fails }
 {
     if !rule_d(register, filing) {

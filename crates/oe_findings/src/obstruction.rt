@@ -1,17 +1,18 @@
-//! Whether a structure exceeds a standard: what visits the airfields over its point until one tells.
+//! Whether a structure exceeds a standard: a visitor of the airfields over its point, which stops computing at the first that shows it.
 
 ghost use Rattle.std.specs.Prelude.{◌≡◌, false, map};
 ghost use Rattle.airfield_findings.specs.Entries.{of_airfield};
 ghost use Rattle.airfield_findings.specs.Prepared.{airfield_of};
-ghost use Rattle.airfield_findings.specs.Verdicts.{is_obstruction};
+ghost use Rattle.finding_lists.specs.Verdicts.{is_obstruction};
 ghost use Rattle.oe_findings.specs.Screenings.{exceeds_over};
 
-use airfield_findings::{Prepared, Verdict, put_airfield};
+use airfield_findings::{Prepared, put_airfield};
+use finding_lists::Verdict;
 use grid_exact::NoMemory;
 use height_rules::Structure;
 use surface_tree::Visitor;
 
-/// Whether a structure exceeds a standard of one of the airfields that were visited.
+/// Whether a structure exceeds a standard of one of the airfields visited so far.
 #[derive(Drop)]
 pub(crate) struct Obstruction {
     pub(crate) structure: Structure,

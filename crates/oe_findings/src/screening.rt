@@ -1,28 +1,29 @@
-//! The screening of a structure: what visits the airfields over its point.
+//! The screening of a structure: a visitor of the airfields over its point.
 
 ghost use Rattle.std.specs.Prelude.{◌≡◌, ◌++◌, ◌∷◌, [], List, OnOk, OnErr, IfOk, IfErr, is_none, true, false};
 ghost use Rattle.airfield_findings.specs.Entries.{of_airfield, slope_entries};
-ghost use Rattle.airfield_findings.specs.Orders.{merged};
+ghost use Rattle.finding_lists.specs.Orders.{merged_list};
 ghost use Rattle.airfield_findings.specs.Prepared.{airfield_of};
-ghost use Rattle.airfield_findings.specs.declared.finding.Finding.{Finding as AFinding};
+ghost use Rattle.finding_lists.specs.declared.finding.Finding.{Finding as AFinding};
 ghost use Rattle.airfield_findings.specs.declared.prepared.Prepared.{Prepared as APrepared};
 ghost use Rattle.notice_slopes.specs.Exemptions.{exemption_of};
 ghost use Rattle.oe_findings.specs.List.{findings_of};
 ghost use Rattle.oe_findings.specs.Screenings.{HasGathered, HasSeen, Holds, slopes_by, standards_by};
 
 use crate::notices::{put_on_airfield, rule_a};
-use airfield_findings::{Collector, Prepared, Rule, no_field, put_airfield, put_entry, put_slope};
+use airfield_findings::{Prepared, no_field, put_airfield, put_entry, put_slope};
 use airfields::Filing;
 use airport_register::Register;
+use finding_lists::{Collector, Rule};
 use grid_exact::NoMemory;
 use height_rules::{Structure, excess_200, excess_499};
 use notice_slopes::exempt;
 use surface_tree::Visitor;
 
-/// What a structure exceeds over the airfields that were visited: the standards, and the notice rules that come behind all of them.
-/// A visit shows the large airfields first, in order of name, and then the small ones, whose entries are put among those before.
+/// The findings of a structure for the airfields visited so far: the standards, and the notice rules, which follow all standards. A visit
+/// gives the large airfields first, in order of name, and then the small ones, whose entries are merged into those before.
 ///
-/// The flags stand last: between the others they would have a compiler copy the collectors in pieces that a processor waits for.
+/// The flags are stored last: between the collectors they would make the compiler copy the collectors in pieces, which is slower.
 #[derive(Drop)]
 pub(crate) struct Screening<C: Collector + Drop> {
     pub(crate) structure: Structure,
@@ -33,7 +34,7 @@ pub(crate) struct Screening<C: Collector + Drop> {
 }
 
 impl<C: Collector + Drop> Screening<C> {
-    /// Before anything is asked. Both collectors have taken nothing.
+    /// A screening before its first test; both collectors are empty.
     #[inline(always)]
     pub(crate) fn new(standards: C, notices: C, filing: &Filing) -> Screening<C>
         ensures structure { result.structure ≡ filing.now }
@@ -51,7 +52,7 @@ impl<C: Collector + Drop> Screening<C> {
         }
     }
 
-    /// Takes the entries of the rules that look at the structure alone.
+    /// Collects the entries of the rules that depend on the structure alone.
     #[inline(always)]
     fn put_heights(&mut self) -> Result<(), NoMemory>
         requires standards { C.taken self.old.standards [] }
@@ -59,7 +60,9 @@ impl<C: Collector + Drop> Screening<C> {
         ensures same { self.new.structure ≡ self.old.structure }
         ensures due { self.new.is_due ≡ self.old.is_due }
         ensures going { self.new.refused ≡ self.old.refused }
-        ensures taken { OnOk result (Holds C.taken self.old.is_due self.new.standards self.new.notices (standards_by self.old.structure []) (slopes_by self.old.structure [])) }
+        ensures taken { OnOk result
+            (Holds C.taken self.old.is_due self.new.standards self.new.notices
+            (standards_by self.old.structure []) (slopes_by self.old.structure [])) }
         ensures fails { OnErr result C.fails }
     {
         let filing = self.structure.filing();
@@ -80,7 +83,7 @@ impl<C: Collector + Drop> Screening<C> {
         Ok(())
     }
 
-    /// Before the first airfield: takes what the structure alone tells. Both collectors have taken nothing.
+    /// Starts the screening: collects the entries that depend on the structure alone. Both collectors are empty before.
     #[inline(always)]
     pub(crate) fn begin(&mut self)
         requires going { self.old.refused ≡ false }
@@ -95,13 +98,17 @@ impl<C: Collector + Drop> Screening<C> {
         }
     }
 
-    /// Takes the entries of one large airfield more, which come behind those before.
+    /// Appends the entries of one more large airfield.
     #[inline(always)]
     fn put_large(&mut self, prepared: &Prepared) -> Result<(), NoMemory>
         ensures same { self.new.structure ≡ self.old.structure }
         ensures due { self.new.is_due ≡ self.old.is_due }
         ensures going { self.new.refused ≡ self.old.refused }
-        ensures taken { OnOk result ((standards notices : List AFinding) → Holds C.taken self.old.is_due self.old.standards self.old.notices standards notices → Holds C.taken self.new.is_due self.new.standards self.new.notices (standards ++ of_airfield self.old.structure (airfield_of prepared.now)) (notices ++ slope_entries self.old.structure (airfield_of prepared.now))) }
+        ensures taken { OnOk result ((standards notices : List AFinding)
+            → Holds C.taken self.old.is_due self.old.standards self.old.notices standards notices
+            → Holds C.taken self.new.is_due self.new.standards self.new.notices
+            (standards ++ of_airfield self.old.structure (airfield_of prepared.now))
+            (notices ++ slope_entries self.old.structure (airfield_of prepared.now))) }
         ensures fails { OnErr result C.fails }
     {
         put_airfield(&mut self.standards, &self.structure, prepared)?;
@@ -111,13 +118,17 @@ impl<C: Collector + Drop> Screening<C> {
         Ok(())
     }
 
-    /// Takes the entries of one small airfield more, which are put among those before by its name.
+    /// Merges the entries of one more small airfield into those before, by its name.
     #[inline(never)]
     fn put_small(&mut self, prepared: &Prepared) -> Result<(), NoMemory>
         ensures same { self.new.structure ≡ self.old.structure }
         ensures due { self.new.is_due ≡ self.old.is_due }
         ensures going { self.new.refused ≡ self.old.refused }
-        ensures taken { OnOk result ((standards notices : List AFinding) → Holds C.taken self.old.is_due self.old.standards self.old.notices standards notices → Holds C.taken self.new.is_due self.new.standards self.new.notices (merged standards (of_airfield self.old.structure (airfield_of prepared.now))) (merged notices (slope_entries self.old.structure (airfield_of prepared.now)))) }
+        ensures taken { OnOk result ((standards notices : List AFinding)
+            → Holds C.taken self.old.is_due self.old.standards self.old.notices standards notices
+            → Holds C.taken self.new.is_due self.new.standards self.new.notices
+            (merged_list standards (of_airfield self.old.structure (airfield_of prepared.now)))
+            (merged_list notices (slope_entries self.old.structure (airfield_of prepared.now)))) }
         ensures fails { OnErr result C.fails }
     {
         let standards = self.standards.place();
@@ -131,13 +142,18 @@ impl<C: Collector + Drop> Screening<C> {
         Ok(())
     }
 
-    /// Takes the entries of one airfield more.
+    /// Collects the entries of one more airfield.
     #[inline(always)]
     fn put(&mut self, prepared: &Prepared) -> Result<(), NoMemory>
         ensures same { self.new.structure ≡ self.old.structure }
         ensures due { self.new.is_due ≡ self.old.is_due }
         ensures going { self.new.refused ≡ self.old.refused }
-        ensures taken { OnOk result ((items : List APrepared) → Holds C.taken self.old.is_due self.old.standards self.old.notices (standards_by self.old.structure items) (slopes_by self.old.structure items) → Holds C.taken self.new.is_due self.new.standards self.new.notices (standards_by self.old.structure (items ++ prepared.now ∷ [])) (slopes_by self.old.structure (items ++ prepared.now ∷ []))) }
+        ensures taken { OnOk result ((items : List APrepared)
+            → Holds C.taken self.old.is_due self.old.standards self.old.notices
+            (standards_by self.old.structure items) (slopes_by self.old.structure items)
+            → Holds C.taken self.new.is_due self.new.standards self.new.notices
+            (standards_by self.old.structure (items ++ prepared.now ∷ []))
+            (slopes_by self.old.structure (items ++ prepared.now ∷ []))) }
         ensures fails { OnErr result C.fails }
     {
         if prepared.is_small() {
@@ -147,7 +163,7 @@ impl<C: Collector + Drop> Screening<C> {
         }
     }
 
-    /// After the last airfield: all entries in their order.
+    /// Ends the screening: all entries in their order.
     ///
     /// # Errors
     ///

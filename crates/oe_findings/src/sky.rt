@@ -1,26 +1,28 @@
-//! The register with the surfaces over it.
+//! The register with the surfaces of its airfields.
 
 ghost use Rattle.std.specs.Prelude.{◌≡◌, ◌≢◌, ◌≤◌, ◌+◌, ℕ, [], None, Some, IfOk, IfErr, OnOk, OnErr, length, option_map};
 ghost use Rattle.std.specs.Arc.{arc_value};
-ghost use Rattle.airport_register.specs.Amendments.{amended_id, first_broken, after_amendment, replaced};
+ghost use Rattle.airport_register.specs.Amendments.{amended_id, first_broken, after_amendment, list_with_replaced};
 ghost use Rattle.airport_register.specs.Changes.{IsChange};
 ghost use Rattle.surface_tree.specs.declared.square.TheConstants.{TOP_LEVEL};
 ghost use Rattle.oe_findings.specs.List.{findings_of};
-ghost use Rattle.oe_findings.specs.Nearness.{AreNear};
-ghost use Rattle.airfield_findings.specs.Verdicts.{is_obstruction, verdict_of};
+ghost use Rattle.grid_exact.specs.declared.point.Point.{Point as APoint};
+ghost use Rattle.oe_findings.specs.Nearness.{AreNear, HasOneNear};
+ghost use Rattle.finding_lists.specs.Verdicts.{is_obstruction, verdict_of};
 
 use crate::screening::Screening;
 use crate::surroundings::Surroundings;
-use airfield_findings::{Collector, Findings, Verdict};
 use airfields::Filing;
 use airport_register::{AmendRefusal, Amendment, Changed, Register};
+use finding_lists::{Collector, Findings, Verdict};
 use grid_exact::{NoMemory, Steps};
 use height_rules::excess_499;
 use std::alloc::Global;
 use std::marker::Model;
 use std::sync::ledger::Ledger;
 
-/// The register with the surfaces over it, seen as the list of its airfields in rising order of name. It never changes.
+/// The register with the surfaces of its airfields, which contracts see as the list of the airfields in rising order of name. It never
+/// changes.
 #[derive(Drop)]
 pub struct Sky {
     register: Register,
@@ -39,7 +41,7 @@ impl Model for Sky {
 }
 
 impl Sky {
-    /// The sky over no airfields. It takes no memory.
+    /// A sky without airfields. It takes no memory.
     pub fn empty(alloc: Global) -> Sky
         ensures { result ≡ [] }
     {
@@ -49,7 +51,7 @@ impl Sky {
         }
     }
 
-    /// The sky over the airfields of a register.
+    /// The sky for the airfields of a register.
     ///
     /// # Errors
     ///
@@ -63,24 +65,26 @@ impl Sky {
         })
     }
 
-    /// Its register.
+    /// The register.
     pub fn register(&self) -> &Register
         ensures { result.now ≡ self.now }
     {
         &self.register
     }
 
-    /// The sky after an amendment of the register, and what it changed.
+    /// The sky after an amendment of the register, and the result of the amendment. This sky is unchanged.
     ///
     /// # Errors
     ///
-    /// The first rule that the amendment breaks, in the order of the rules, or `NoMemory` where memory was refused.
+    /// The refusal of the first rule that the amendment breaks, in the order of the rules, or `NoMemory` where memory was refused.
     pub fn amended(&self, alloc: Global, a: &Amendment) -> Result<(Sky, Changed), AmendRefusal>
         ensures allowed { IfOk result (λ _. first_broken self.now a.now ≡ None) }
         ensures after { IfOk result (λ r. r.0 ≡ after_amendment self.now a.now) }
         ensures change { IfOk result (λ r. IsChange self.now r.0 (amended_id a.now) r.1) }
-        ensures put { IfOk result (λ r. r.0 ≡ replaced (amended_id a.now) (option_map arc_value r.1.after) self.now) }
-        ensures refused { IfErr result (λ e. e ≢ AmendRefusal.NoMemory → first_broken self.now a.now ≡ Some e) }
+        ensures put { IfOk result (λ r. r.0 ≡ list_with_replaced (amended_id a.now)
+            (option_map arc_value r.1.after) self.now) }
+        ensures refused { IfErr result (λ e. e ≢ AmendRefusal.NoMemory
+            → first_broken self.now a.now ≡ Some e) }
     {
         let mut register = self.register.share(alloc)?;
         let changed = register.amend(alloc, a)?;
@@ -93,6 +97,13 @@ impl Sky {
             },
             changed,
         ))
+    }
+
+    /// Shows to a proof that over each point there is one number of near surfaces, and so a limit of the steps of a search.
+    pub fn near_number(&self)
+        ensures { (x : APoint) → HasOneNear self.now x }
+    {
+        self.surroundings.near_number();
     }
 
     /// The findings of a structure over all airfields, which two collectors that have taken nothing gather: the standards, and the notice
@@ -113,7 +124,8 @@ impl Sky {
         ensures taken { IfOk result (λ c. C.taken c (findings_of self.now filing.now)) }
         ensures fails { IfErr result (λ _. C.fails) }
         ensures steps { steps.new ≤ steps.old + (TOP_LEVEL + 1) + length self.now }
-        ensures near { (n : ℕ) → AreNear self.now filing.now.at n → steps.new ≤ steps.old + (TOP_LEVEL + 1) + n }
+        ensures near { (n : ℕ) → AreNear self.now filing.now.at n
+            → steps.new ≤ steps.old + (TOP_LEVEL + 1) + n }
     {
         self.register.limits();
         let mut screening = Screening::new(standards, notices, filing);
@@ -122,12 +134,12 @@ impl Sky {
         screening.finish(&self.register)
     }
 
-    /// Makes `list` the findings of a structure over all airfields: each standard and notice rule that it exceeds, in order, with
-    /// how far its top is above the surface or limit, in tenths of a foot, rounded down: 77.17(a)(1) and (2), the surfaces of 77.19 and
-    /// 77.23, and the notice rules of 77.9. The room of the list is used.
+    /// Makes `list` the findings of a structure for all airfields: each standard and notice rule that it exceeds, in order, with the
+    /// excess of its top over the surface or limit, in tenths of a foot, rounded down: 77.17(a)(1) and (2), the surfaces of 77.19 and
+    /// 77.23, and the notice rules of 77.9. The memory of the list is reused.
     ///
-    /// A step is one square of the search, or one airfield that is looked at: at most `TOP_LEVEL + 1` squares, and no more airfields
-    /// than there are surfaces near the structure.
+    /// A step is one square of the search, or one airfield tested: at most `TOP_LEVEL + 1` squares, and at most as many airfields as
+    /// there are surfaces near the structure.
     ///
     /// # Errors
     ///
@@ -142,7 +154,8 @@ impl Sky {
         ensures found { OnOk result (list.new ≡ findings_of self.now filing.now) }
         ensures empty { OnErr result (list.new ≡ []) }
         ensures steps { steps.new ≤ steps.old + (TOP_LEVEL + 1) + length self.now }
-        ensures near { (n : ℕ) → AreNear self.now filing.now.at n → steps.new ≤ steps.old + (TOP_LEVEL + 1) + n }
+        ensures near { (n : ℕ) → AreNear self.now filing.now.at n
+            → steps.new ≤ steps.old + (TOP_LEVEL + 1) + n }
     {
         let room = std::mem::replace(list, Findings::new(alloc));
         let (standards, notices) = room.emptied(alloc);
@@ -150,7 +163,7 @@ impl Sky {
         Ok(())
     }
 
-    /// The same as a list of its own.
+    /// The same findings as a new list.
     ///
     /// # Errors
     ///
@@ -163,16 +176,18 @@ impl Sky {
     ) -> Result<Findings, NoMemory>
         ensures found { IfOk result (λ list. list ≡ findings_of self.now filing.now) }
         ensures steps { steps.new ≤ steps.old + (TOP_LEVEL + 1) + length self.now }
-        ensures near { (n : ℕ) → AreNear self.now filing.now.at n → steps.new ≤ steps.old + (TOP_LEVEL + 1) + n }
+        ensures near { (n : ℕ) → AreNear self.now filing.now.at n
+            → steps.new ≤ steps.old + (TOP_LEVEL + 1) + n }
     {
         self.gathered(Findings::new(alloc), Findings::new(alloc), filing, steps)
     }
 
-    /// What that list comes to. It takes no memory.
+    /// The verdict on that list. It takes no memory.
     pub fn verdict<L: Ledger>(&self, filing: &Filing, steps: &mut Steps<L>) -> Verdict
         ensures found { result ≡ verdict_of (findings_of self.now filing.now) }
         ensures steps { steps.new ≤ steps.old + (TOP_LEVEL + 1) + length self.now }
-        ensures near { (n : ℕ) → AreNear self.now filing.now.at n → steps.new ≤ steps.old + (TOP_LEVEL + 1) + n }
+        ensures near { (n : ℕ) → AreNear self.now filing.now.at n
+            → steps.new ≤ steps.old + (TOP_LEVEL + 1) + n }
     {
         self.register.limits();
         match self.gathered(Verdict::none(), Verdict::none(), filing, steps) {
@@ -181,12 +196,13 @@ impl Sky {
         }
     }
 
-    /// Whether that list has a standard of 77.17, 77.19 or 77.23. It takes no memory, and works out no airfield's excesses once one has told.
+    /// Whether that list has a standard of 77.17, 77.19 or 77.23. It takes no memory, and computes no further excesses once one is found.
     #[tactic(auto, using(crate::proofs::Standards::by_height, crate::proofs::Standards::by_airfields))]
     pub fn is_obstruction<L: Ledger>(&self, filing: &Filing, steps: &mut Steps<L>) -> bool
         ensures found { result ≡ is_obstruction (findings_of self.now filing.now) }
         ensures steps { steps.new ≤ steps.old + (TOP_LEVEL + 1) + length self.now }
-        ensures near { (n : ℕ) → AreNear self.now filing.now.at n → steps.new ≤ steps.old + (TOP_LEVEL + 1) + n }
+        ensures near { (n : ℕ) → AreNear self.now filing.now.at n
+            → steps.new ≤ steps.old + (TOP_LEVEL + 1) + n }
     {
         if excess_499(filing).is_some() {
             return true;

@@ -1,20 +1,22 @@
-//! The airfields of a register with their surfaces, found by the points over which they reach.
+//! The airfields of a register with their surfaces, found by the points that the surfaces cover.
 
 ghost use Rattle.std.specs.Prelude.{◌≡◌, ◌≤◌, ◌+◌, ℕ, [], length, IfOk, IfSome, option_map};
 ghost use Rattle.std.specs.Arc.{arc_value};
 ghost use Rattle.ordered_list.specs.Ordered.{Rises};
 ghost use Rattle.airfields.specs.Airfields.{IsHeld, id_of};
 ghost use Rattle.airfields.specs.Names.{name_cmp};
-ghost use Rattle.airport_register.specs.Amendments.{replaced};
+ghost use Rattle.airport_register.specs.Amendments.{list_with_replaced};
 ghost use Rattle.surface_tree.specs.declared.square.TheConstants.{TOP_LEVEL};
-ghost use Rattle.oe_findings.specs.Nearness.{AreNear};
+ghost use Rattle.grid_exact.specs.declared.point.Point.{Point as APoint};
+ghost use Rattle.oe_findings.specs.Nearness.{AreNear, HasOneNear};
 ghost use Rattle.oe_findings.specs.Screenings.{exceeds_over, HasGathered, HasSeen};
 
 use crate::obstruction::Obstruction;
 use crate::screening::Screening;
-use airfield_findings::{Collector, Prepared};
+use airfield_findings::Prepared;
 use airfields::Filing;
 use airport_register::{Changed, Register};
+use finding_lists::Collector;
 use grid_exact::{NoMemory, Steps};
 use height_rules::Structure;
 use std::alloc::Global;
@@ -23,7 +25,7 @@ use std::sync::Arc;
 use std::sync::ledger::Ledger;
 use surface_tree::Tree;
 
-/// The airfields of a register with their surfaces; seen as the list of the airfields in rising order of name.
+/// The airfields of a register with their surfaces, which contracts see as the list of the airfields in rising order of name.
 #[derive(Drop)]
 pub(crate) struct Surroundings {
     tree: Tree<Prepared>,
@@ -40,7 +42,7 @@ impl Model for Surroundings {
 }
 
 impl Surroundings {
-    /// No airfields. It takes no memory.
+    /// An empty set of airfields. It takes no memory.
     pub(crate) fn empty(alloc: Global) -> Surroundings
         ensures { result ≡ [] }
     {
@@ -71,7 +73,8 @@ impl Surroundings {
         changed: &Changed,
     ) -> Result<Surroundings, NoMemory>
         requires held { IfSome (option_map arc_value changed.now.after) (λ f. IsHeld f) }
-        ensures { IfOk result (λ s. s ≡ replaced changed.now.id (option_map arc_value changed.now.after) self.now) }
+        ensures { IfOk result (λ s. s ≡ list_with_replaced changed.now.id
+            (option_map arc_value changed.now.after) self.now) }
     {
         match &changed.after {
             Some(airfield) => {
@@ -86,6 +89,13 @@ impl Surroundings {
         }
     }
 
+    /// Shows to a proof that each point has one number of near surfaces.
+    pub(crate) fn near_number(&self)
+        ensures { (x : APoint) → HasOneNear self.now x }
+    {
+        let _ = &self.tree; // a proof knows what stands in a tree where it reads it
+    }
+
     /// Shows a screening that has seen no airfield all airfields that reach over its structure's point. As the others give no entry, and
     /// the names of airfields rise, it has then gathered what all airfields give, in order.
     pub(crate) fn visit<C: Collector + Drop, L: Ledger>(
@@ -96,11 +106,13 @@ impl Surroundings {
         requires { HasGathered C.taken C.fails screening.old.structure screening.old.is_due screening.old.standards screening.old.notices screening.old.refused [] }
         ensures filing { screening.new.structure ≡ screening.old.structure }
         ensures due { screening.new.is_due ≡ screening.old.is_due }
-        ensures seen { Rises name_cmp id_of self.now → HasSeen C.taken C.fails screening.new.structure screening.new.is_due screening.new.standards screening.new.notices screening.new.refused self.now }
+        ensures seen { Rises name_cmp id_of self.now
+            → HasSeen C.taken C.fails screening.new.structure screening.new.is_due screening.new.standards screening.new.notices screening.new.refused self.now }
         ensures steps { steps.new ≤ steps.old + (TOP_LEVEL + 1) + length self.now }
-        ensures near { (n : ℕ) → AreNear self.now screening.old.structure.at n → steps.new ≤ steps.old + (TOP_LEVEL + 1) + n }
+        ensures near { (n : ℕ) → AreNear self.now screening.old.structure.at n
+            → steps.new ≤ steps.old + (TOP_LEVEL + 1) + n }
     {
-        // their contracts tell that both tops are levels
+        // the contracts of these calls state that both tops are levels
         let _standards = screening.structure.standards_top();
         let _notice = screening.structure.notice_top();
         let at = *screening.structure.at();
@@ -111,7 +123,8 @@ impl Surroundings {
     pub(crate) fn exceeded<L: Ledger>(&self, filing: &Filing, steps: &mut Steps<L>) -> bool
         ensures found { result ≡ exceeds_over filing.now self.now }
         ensures steps { steps.new ≤ steps.old + (TOP_LEVEL + 1) + length self.now }
-        ensures near { (n : ℕ) → AreNear self.now filing.now.at n → steps.new ≤ steps.old + (TOP_LEVEL + 1) + n }
+        ensures near { (n : ℕ) → AreNear self.now filing.now.at n
+            → steps.new ≤ steps.old + (TOP_LEVEL + 1) + n }
     {
         let mut obstruction = Obstruction {
             structure: Structure::of(filing),

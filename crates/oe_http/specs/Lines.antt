@@ -14,18 +14,18 @@ IsPlain bytes = All (λ b. (b == 10) ≡ false) bytes
 abbrev pub HasFeed : List ℕ → Type 0
 HasFeed bytes = (at : ℕ) × (at < length bytes) × (get_or bytes at 0 ≡ 10)
 
--- what the next line of some bytes is, and the bytes after it
+-- the next line of some bytes, and the bytes after it
 abbrev pub LineIs : List ℕ → List ℕ → Next → List ℕ → Type 0
 LineIs xs ys next.End line = (xs ≡ []) × (ys ≡ [])
 LineIs xs ys next.Whole line = (lines xs ≡ line ∷ lines ys) × (length line ≤ LINE_LIMIT)
 LineIs xs ys next.TooLong line = (long : List ℕ) × (lines xs ≡ long ∷ lines ys) × (LINE_LIMIT < length long)
 
--- the same, where the bytes are known
+-- as above, where the bytes are known
 abbrev pub GivesLine : Option (List ℕ) → Option (List ℕ) → Next → List ℕ → Type 0
 GivesLine None after n line = Unit {0}
 GivesLine (Some xs) None n line = ⊥
 GivesLine (Some xs) (Some ys) n line = LineIs xs ys n line
 
--- bytes were taken that end no line, where the source tells
+-- bytes were read that end no line, where they are known
 abbrev pub TakesPart : Option (List ℕ) → Option (List ℕ) → Type 0
 TakesPart before after = (part : List ℕ) × Consumes before after part × IsPlain part

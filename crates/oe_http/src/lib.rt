@@ -1,4 +1,4 @@
-//! Streams of bytes that count their faults, the two ends of a link, the lines of a source, and texts written whole. A length is in bytes.
+//! Streams of bytes that count their faults, the two ends of a link, a reader of lines, and writing whole texts. Lengths are in bytes.
 #![tactic(auto)]
 
 mod fakes;
@@ -14,6 +14,3 @@ pub use link::FakeLink;
 pub use standard::{ReadSource, WriteSink};
 pub use stream::{Failed, Sink, Source, TwoWay};
 pub use whole::write_whole;
-
-#[cfg(test)]
-mod tests;

@@ -4,7 +4,7 @@ ghost use Rattle.std.specs.Prelude.{◌≡◌, ◌≢◌, Option, ◌≤◌, ◌
 ghost use Rattle.std.specs.Str.Lines.{strip_carriage_return};
 ghost use Rattle.std.specs.Io.KnownBytes.{Keeps};
 ghost use Rattle.oe_http.specs.Lines.{GivesLine, TakesPart, HasFeed};
-ghost use Rattle.oe_http.specs.Pending.{Pending, unread, most_left, Reads};
+ghost use Rattle.oe_http.specs.Pending.{Pending, unread_bytes, most_left, Reads};
 ghost use Rattle.oe_http.specs.Pieces.{TakesRaw, Turns, Kept, IsSized, FirstFeed, WholeLinesEnd, IsFilled};
 
 use crate::{Failed, Source};
@@ -13,21 +13,21 @@ use memchr::{memchr, memrchr};
 use std::alloc::AllocError;
 use std::marker::Model;
 
-/// A reader takes at most so many bytes in one read: 64 KiB.
+/// The greatest number of bytes in one read: 64 KiB.
 pub const BLOCK_SIZE: usize = 65_536;
 
-/// No read is tried once so many bytes were taken from a source.
+/// Once this many bytes were read from a source, no further read is made.
 pub const INPUT_LIMIT: u64 = 1 << 40;
 
-/// So many bytes of a line are kept: one more than a line may have, which is where its carriage return stands.
+/// The greatest number of a line's bytes that are stored: one more than a line may have, for its carriage return.
 const LONGEST: usize = LINE_LIMIT + 1;
 
-/// Why no line can be read.
+/// Why no line could be read.
 #[derive(Clone, Copy, Debug, PartialEq, Eq)]
 pub enum ReadError {
-    /// The source has failed.
+    /// The source failed.
     Failed,
-    /// [`INPUT_LIMIT`] bytes were read, and more are wanted.
+    /// [`INPUT_LIMIT`] bytes were read, and the source may have more.
     InputLong,
     /// Memory was refused.
     NoMemory,
@@ -63,28 +63,30 @@ impl From<NoMemory> for ReadError {
     }
 }
 
-/// What comes next.
+/// The next line, or the end.
 #[derive(Clone, Copy, Debug, PartialEq, Eq)]
 pub enum Next {
-    /// A line of [`LINE_LIMIT`] bytes at most.
+    /// A line of at most [`LINE_LIMIT`] bytes.
     Whole,
-    /// A line of more.
+    /// A longer line.
     TooLong,
     /// No line: the input has ended.
     End,
 }
 
-/// How a line's bytes ended, and whether they were too many to be kept.
+/// How a line's bytes ended, and whether they were too many to store.
 #[derive(Clone, Copy)]
 struct RawLine {
     has_feed: bool,
     is_long: bool,
 }
 
-/// Keeps more bytes of a line, where there is room. Answers whether the line is long.
+/// Appends bytes to a line, up to its limit. Returns whether the line is too long.
 fn keep(line: &mut Vec<u8>, is_long: bool, piece: &[u8]) -> Result<bool, ReadError>
-    ensures kept { IfOk result (λ long. (raw : List ℕ) → Kept line.old.items is_long raw → Kept line.new.items long (raw ++ piece.now)) }
-    ensures length { OnOk result (length line.new.items ≤ length line.old.items + length piece.now) }
+    ensures kept { IfOk result (λ long. (raw : List ℕ) → Kept line.old.items is_long raw
+        → Kept line.new.items long (raw ++ piece.now)) }
+    ensures length { OnOk result
+        (length line.new.items ≤ length line.old.items + length piece.now) }
     ensures memory { IfErr result (λ e. e ≡ ReadError.NoMemory) }
 {
     if is_long || piece.len() > LONGEST.saturating_sub(line.len()) {
@@ -94,7 +96,7 @@ fn keep(line: &mut Vec<u8>, is_long: bool, piece: &[u8]) -> Result<bool, ReadErr
     Ok(false)
 }
 
-/// Takes the carriage return off the end of a line, if there is one.
+/// Removes the carriage return from the end of a line, if there is one.
 fn strip_return(line: &mut Vec<u8>)
     ensures { line.new.items ≡ strip_carriage_return line.old.items }
 {
@@ -114,12 +116,14 @@ fn sized(line: &[u8]) -> Next
     }
 }
 
-/// What a line's bytes are.
+/// Classifies the bytes of a line.
 #[tactic(auto, using(crate::proofs::LineFacts::gives_last, crate::proofs::LineFacts::gives_end))]
 fn finish(raw: RawLine, line: &mut Vec<u8>) -> Next
-    ensures line { (x y : Option (List ℕ)) → TakesRaw x y raw.has_feed raw.is_long line.old.items → GivesLine x y result line.new.items }
+    ensures line { (x y : Option (List ℕ)) → TakesRaw x y raw.has_feed raw.is_long line.old.items
+        → GivesLine x y result line.new.items }
     ensures short { result ≡ Next.Whole → length line.new.items ≤ LINE_LIMIT }
-    ensures some { result ≢ Next.End → raw.is_long ≡ false → raw.has_feed ≡ false → 0 < length line.old.items }
+    ensures some { result ≢ Next.End → raw.is_long ≡ false → raw.has_feed ≡ false
+        → 0 < length line.old.items }
 {
     if raw.is_long {
         return Next::TooLong;
@@ -134,7 +138,7 @@ fn finish(raw: RawLine, line: &mut Vec<u8>) -> Next
     sized(line)
 }
 
-/// Where the first line feed of some bytes is.
+/// The index of the first line feed.
 #[tactic(auto, using(crate::proofs::LineFacts::first_feed))]
 fn first_feed(bytes: &[u8]) -> Option<usize>
     ensures feed { FirstFeed bytes.now result }
@@ -142,7 +146,7 @@ fn first_feed(bytes: &[u8]) -> Option<usize>
     memchr(b'\n', bytes)
 }
 
-/// Where the whole lines of some bytes end.
+/// The end of the last whole line.
 #[tactic(auto, using(crate::proofs::FeedFacts::lines_end_at, crate::proofs::FeedFacts::lines_end_none))]
 fn whole_lines_end(bytes: &[u8]) -> usize
     ensures { WholeLinesEnd bytes.now result }
@@ -153,14 +157,14 @@ fn whole_lines_end(bytes: &[u8]) -> usize
     }
 }
 
-/// Lines of a source, which is read in blocks of [`BLOCK_SIZE`] bytes. A contract sees the bytes that were read and
-/// not handed out, and how many were read.
+/// Reads the lines of a source, in blocks of [`BLOCK_SIZE`] bytes. Contracts see the bytes that were read and not yet
+/// returned, and the number of bytes read.
 #[derive(Drop)]
 pub struct LineReader {
     block: [u8; BLOCK_SIZE],
     start: usize,
     end: usize,
-    /// Where the whole lines of the block end: so `has_line` searches nothing.
+    /// The end of the block's last whole line, so that `has_line` need not search.
     feeds: usize,
     taken: u64,
 }
@@ -193,7 +197,7 @@ impl LineReader {
         }
     }
 
-    /// Whether the end of a line is pending: whether `next_line` will answer without a read.
+    /// Whether a whole line is pending, so that `next_line` returns without a read.
     pub fn has_line(&self) -> bool
         ensures yes { result ≡ true → HasFeed self.now.bytes }
         ensures no { result ≡ false → HasFeed self.now.bytes → ⊥ }
@@ -201,34 +205,37 @@ impl LineReader {
         self.start < self.feeds
     }
 
-    /// Reads the next line into `line`, which it empties first, without the line feed that ends it and a carriage
-    /// return before that. A line of more than [`LINE_LIMIT`] bytes is passed over. The source is read only where no end
-    /// of a line is pending.
+    /// Reads the next line into `line`, which it empties first, without the line feed and without a carriage
+    /// return before it. The bytes of a line of more than [`LINE_LIMIT`] bytes are dropped. The source is read only where no
+    /// whole line is pending.
     ///
     /// # Errors
     ///
-    /// `Failed` where the source fails, `InputLong` where [`INPUT_LIMIT`] bytes were read and more are wanted: a part
-    /// of a line is then lost, and no whole one. `NoMemory` where memory was refused.
+    /// `Failed` where the source fails, `InputLong` where [`INPUT_LIMIT`] bytes were read and more are needed: a part
+    /// of a line is then lost, but no whole one. `NoMemory` where memory was refused.
     pub fn next_line<S: Source>(
         &mut self,
         source: &mut S,
         line: &mut Vec<u8>,
     ) -> Result<Next, ReadError>
-        ensures line { IfOk result (λ n. GivesLine (unread self.old (S.left source.old)) (unread self.new (S.left source.new)) n line.new.items) }
+        ensures line { IfOk result (λ n. GivesLine (unread_bytes self.old (S.left source.old))
+            (unread_bytes self.new (S.left source.new)) n line.new.items) }
         ensures short { IfOk result (λ n. n ≡ Next.Whole → length line.new.items ≤ LINE_LIMIT) }
-        ensures part { IfErr result (λ e. e ≢ ReadError.NoMemory → TakesPart (unread self.old (S.left source.old)) (S.left source.new)) }
+        ensures part { IfErr result (λ e. e ≢ ReadError.NoMemory
+            → TakesPart (unread_bytes self.old (S.left source.old)) (S.left source.new)) }
         ensures still { HasFeed self.old.bytes → source.new ≡ source.old }
         ensures turns { IfOk result (λ n. n ≢ Next.End → most_left self.new < most_left self.old) }
         ensures beside { S.beside source.new ≡ S.beside source.old }
-        ensures reads { Reads self.old self.new (S.left source.old) (S.left source.new) (S.faults source.old) (S.faults source.new) result }
+        ensures reads { Reads self.old self.new (S.left source.old) (S.left source.new)
+            (S.faults source.old) (S.faults source.new) result }
     {
         line.clear();
         let raw = self.take_raw(source, line)?;
         Ok(finish(raw, line))
     }
 
-    /// The bytes of a line and what ends them. A block is read as soon as no byte is pending, so that a line is looked
-    /// for among pending bytes alone, also where its source hands out one line a read.
+    /// Reads the bytes of a line and its end. A block is read as soon as no byte is pending, so that the end of a line is
+    /// searched among pending bytes only, even if the source returns one line per read.
     #[tactic(auto, using(crate::proofs::LineFacts::fell_none, crate::proofs::LineFacts::fell_on, crate::proofs::LineFacts::read_part, crate::proofs::LineFacts::has_some))]
     fn take_raw<S: Source>(
         &mut self,
@@ -236,12 +243,16 @@ impl LineReader {
         line: &mut Vec<u8>,
     ) -> Result<RawLine, ReadError>
         requires { line.old.items ≡ [] }
-        ensures raw { IfOk result (λ raw. TakesRaw (unread self.old (S.left source.old)) (unread self.new (S.left source.new)) raw.has_feed raw.is_long line.new.items) }
-        ensures part { IfErr result (λ e. e ≢ ReadError.NoMemory → TakesPart (unread self.old (S.left source.old)) (S.left source.new)) }
+        ensures raw { IfOk result (λ raw. TakesRaw (unread_bytes self.old (S.left source.old))
+            (unread_bytes self.new (S.left source.new)) raw.has_feed raw.is_long line.new.items) }
+        ensures part { IfErr result (λ e. e ≢ ReadError.NoMemory
+            → TakesPart (unread_bytes self.old (S.left source.old)) (S.left source.new)) }
         ensures still { HasFeed self.old.bytes → source.new ≡ source.old }
-        ensures turns { IfOk result (λ raw. Turns (most_left self.old) (most_left self.new) raw.has_feed raw.is_long line.new.items) }
+        ensures turns { IfOk result (λ raw. Turns (most_left self.old)
+            (most_left self.new) raw.has_feed raw.is_long line.new.items) }
         ensures beside { S.beside source.new ≡ S.beside source.old }
-        ensures reads { Reads self.old self.new (S.left source.old) (S.left source.new) (S.faults source.old) (S.faults source.new) result }
+        ensures reads { Reads self.old self.new (S.left source.old) (S.left source.new)
+            (S.faults source.old) (S.faults source.new) result }
     {
         let mut is_long = false;
         while self.fill(source)? {
@@ -270,7 +281,7 @@ impl LineReader {
         &self.block[self.start..self.end]
     }
 
-    /// Passes over some pending bytes.
+    /// Drops the first `count` pending bytes.
     fn skip(&mut self, count: usize)
         requires { count ≤ length self.old.bytes }
         ensures bytes { self.new.bytes ≡ drop count self.old.bytes }
@@ -279,7 +290,7 @@ impl LineReader {
         self.start += count;
     }
 
-    /// Takes the first pending bytes for a line. Answers whether the line is long.
+    /// Moves the first pending bytes into a line. Returns whether the line is too long.
     fn take_piece(
         &mut self,
         count: usize,
@@ -287,7 +298,8 @@ impl LineReader {
         is_long: bool,
     ) -> Result<bool, ReadError>
         requires { count ≤ length self.old.bytes }
-        ensures kept { IfOk result (λ long. (raw : List ℕ) → Kept line.old.items is_long raw → Kept line.new.items long (raw ++ take count self.old.bytes)) }
+        ensures kept { IfOk result (λ long. (raw : List ℕ) → Kept line.old.items is_long raw
+            → Kept line.new.items long (raw ++ take count self.old.bytes)) }
         ensures length { OnOk result (length line.new.items ≤ length line.old.items + count) }
         ensures bytes { OnOk result (self.new.bytes ≡ drop count self.old.bytes) }
         ensures falls { OnOk result (most_left self.new + count ≡ most_left self.old) }
@@ -299,16 +311,20 @@ impl LineReader {
         Ok(is_long)
     }
 
-    /// Reads a block where no byte is pending. Answers whether one is then. No byte is lost, even at a fault.
+    /// Reads a block where no byte is pending. Returns whether one is pending then. No byte is lost, even at a fault.
     #[tactic(auto, using(crate::proofs::FeedFacts::lines_end_empty))]
     fn fill<S: Source>(&mut self, source: &mut S) -> Result<bool, ReadError>
-        ensures kept { Keeps (unread self.old (S.left source.old)) (unread self.new (S.left source.new)) }
+        ensures kept { Keeps (unread_bytes self.old (S.left source.old))
+            (unread_bytes self.new (S.left source.new)) }
         ensures none { OnErr result (self.new.bytes ≡ []) }
-        ensures still { 0 < length self.old.bytes → (self.new ≡ self.old) × (source.new ≡ source.old) }
-        ensures found { IfOk result (λ found. IsFilled found self.new.bytes (unread self.new (S.left source.new))) }
+        ensures still { 0 < length self.old.bytes
+            → (self.new ≡ self.old) × (source.new ≡ source.old) }
+        ensures found { IfOk result (λ found. IsFilled found self.new.bytes
+            (unread_bytes self.new (S.left source.new))) }
         ensures turns { OnOk result (most_left self.new ≡ most_left self.old) }
         ensures beside { S.beside source.new ≡ S.beside source.old }
-        ensures reads { Reads self.old self.new (S.left source.old) (S.left source.new) (S.faults source.old) (S.faults source.new) result }
+        ensures reads { Reads self.old self.new (S.left source.old) (S.left source.new)
+            (S.faults source.old) (S.faults source.new) result }
     {
         if self.start < self.end {
             return Ok(true);

@@ -12,7 +12,7 @@ pub struct FakeLink {
 }
 
 impl FakeLink {
-    /// A link that hands out what this source does and takes what this sink does.
+    /// A link that reads from this source and writes to this sink.
     pub fn new(source: FakeSource, sink: FakeSink) -> Self
         ensures source { result.source ≡ source }
         ensures sink { result.sink ≡ sink }

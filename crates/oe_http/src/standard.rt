@@ -1,4 +1,4 @@
-//! The streams of std. Those of the system tell nothing of their bytes.
+//! Streams over those of std. The bytes of the system's streams are not known.
 
 ghost use Rattle.std.specs.Prelude.{◌≡◌};
 
@@ -42,7 +42,7 @@ impl<R: Read> Source for ReadSource<R> {
     }
 }
 
-/// A writer of std, such as standard output, with a count of its faults. A writer that takes nothing of a piece
+/// A writer of std, such as standard output, with a count of its faults. A writer that takes none of the bytes of a piece
 /// that is not empty has failed.
 #[derive(Drop)]
 pub struct WriteSink<W: Write> {

@@ -1,4 +1,4 @@
-//! What a source has left and a sink holds, where they tell, how often each has failed, and the two as the ends of one link.
+//! The traits of sources and sinks: the bytes left or held, where known, the counts of faults, and both as the ends of one link.
 
 ghost use Rattle.std.specs.Prelude.{◌≡◌, ◌≤◌, ◌<◌, ℕ, List, Option, IfOk, length};
 ghost use Rattle.std.specs.Io.{ReadsAtMost, WritesAtMost};
@@ -9,25 +9,25 @@ ghost use Rattle.oe_http.specs.Causes.{HasCause};
 #[derive(Clone, Copy, Debug, PartialEq, Eq)]
 pub struct Failed;
 
-/// Bytes that come in.
+/// A stream of input bytes.
 pub trait Source {
-    /// The bytes that are left, where it tells.
+    /// The bytes left to read, where known.
     ghost left: { Self → Option (List ℕ) };
 
-    /// How often it has failed.
+    /// The number of its faults.
     ghost faults: { Self → ℕ };
 
-    /// The type of what stands beside it: of a link, its other end.
+    /// The type of the state beside the source: for a link, of its other end.
     ghost Beside: { Type 0 };
 
-    /// What stands beside it. A read leaves that as it was.
+    /// The state beside the source. A read leaves it unchanged.
     ghost beside: { Self → Beside };
 
-    /// Hands out the first bytes that are left. 0 bytes into a buffer with room are the end.
+    /// Reads the next bytes. 0 bytes into a buffer with room mean the end.
     ///
     /// # Errors
     ///
-    /// `Failed` where it fails. It has counted that, and handed out nothing.
+    /// `Failed` where the read fails. The fault is then counted, and nothing was read.
     fn read(&mut self, buf: &mut [u8]) -> Result<usize, Failed>
         ensures bound { ReadsAtMost result buf.new }
         ensures bytes { ReadConsumes (left self.old) (left self.new) result buf.new }
@@ -35,25 +35,25 @@ pub trait Source {
         ensures cause { HasCause (faults self.old) (faults self.new) result };
 }
 
-/// Bytes that go out.
+/// A stream of output bytes.
 pub trait Sink {
-    /// The bytes that it holds, where it tells.
+    /// The bytes written so far, where known.
     ghost held: { Self → Option (List ℕ) };
 
-    /// How often it has failed.
+    /// The number of its faults.
     ghost faults: { Self → ℕ };
 
-    /// The type of what stands beside it: of a link, its other end.
+    /// The type of the state beside the sink: for a link, of its other end.
     ghost Beside: { Type 0 };
 
-    /// What stands beside it. A write leaves that as it was.
+    /// The state beside the sink. A write leaves it unchanged.
     ghost beside: { Self → Beside };
 
-    /// Takes the first bytes of a piece, and at least one of a piece that is not empty.
+    /// Writes the first bytes of a piece, at least one unless the piece is empty.
     ///
     /// # Errors
     ///
-    /// `Failed` where it fails. It has counted that, and taken nothing.
+    /// `Failed` where the write fails. The fault is then counted, and nothing was written.
     fn write(&mut self, buf: &[u8]) -> Result<usize, Failed>
         ensures bound { WritesAtMost result buf.now }
         ensures some { 0 < length buf.now → IfOk result (λ count. 1 ≤ count) }
@@ -62,17 +62,17 @@ pub trait Sink {
         ensures cause { HasCause (faults self.old) (faults self.new) result };
 }
 
-/// Both ends of one link. What one end does leaves the other as it was.
+/// Both ends of one link. A call of one end leaves the other unchanged.
 pub trait TwoWay: Source + Sink {
-    /// What stands beside the source tells what the sink holds.
+    /// The state beside the source determines the bytes written to the sink.
     ghost held_told: { (a b : Self) → Self.Source.beside a ≡ Self.Source.beside b → Self.Sink.held a ≡ Self.Sink.held b };
 
-    /// What stands beside the source tells how often the sink has failed.
+    /// The state beside the source determines the sink's number of faults.
     ghost write_faults_told: { (a b : Self) → Self.Source.beside a ≡ Self.Source.beside b → Self.Sink.faults a ≡ Self.Sink.faults b };
 
-    /// What stands beside the sink tells what the source has left.
+    /// The state beside the sink determines the bytes left in the source.
     ghost left_told: { (a b : Self) → Self.Sink.beside a ≡ Self.Sink.beside b → Self.Source.left a ≡ Self.Source.left b };
 
-    /// What stands beside the sink tells how often the source has failed.
+    /// The state beside the sink determines the source's number of faults.
     ghost read_faults_told: { (a b : Self) → Self.Sink.beside a ≡ Self.Sink.beside b → Self.Source.faults a ≡ Self.Source.faults b };
 }

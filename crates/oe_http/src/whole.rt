@@ -1,4 +1,4 @@
-//! A text, written whole.
+//! Writing whole texts.
 
 ghost use Rattle.std.specs.Prelude.{◌≡◌, List, ℕ, [], OnOk, OnErr};
 ghost use Rattle.oe_http.specs.Causes.{HasCause};
@@ -14,7 +14,8 @@ use crate::{Failed, Sink};
 #[tactic(auto, using(crate::proofs::SentFacts::sent_start, crate::proofs::SentFacts::sent_on, crate::proofs::SentFacts::sent_keep))]
 pub fn write_whole<O: Sink>(output: &mut O, text: &[u8]) -> Result<(), Failed>
     ensures ok { OnOk result (Sent (O.held output.old) (O.held output.new) text.now []) }
-    ensures err { OnErr result ((rest : List ℕ) × Sent (O.held output.old) (O.held output.new) text.now rest) }
+    ensures err { OnErr result ((rest : List ℕ)
+        × Sent (O.held output.old) (O.held output.new) text.now rest) }
     ensures beside { O.beside output.new ≡ O.beside output.old }
     ensures cause { HasCause (O.faults output.old) (O.faults output.new) result }
 {

@@ -1,4 +1,4 @@
--- The rows of the five tables, as one map from a table's place and a key's bytes to a row's bytes.
+-- The rows of the five tables, as one map from a table's index and a key's bytes to a row's bytes.
 use Rattle.std.specs.Prelude.{ℕ, List, fold}
 use Rattle.std.specs.declared.cmp.Ordering.{Ordering}
 use Rattle.std.specs.Ordering.{nat_cmp, on, then_cmp}
@@ -18,11 +18,11 @@ place Desk = 2
 place Filing = 3
 place Receipt = 4
 
--- a table's place, and a key's bytes
+-- a table's index, and a key's bytes
 abbrev pub Key : Type 0
 Key = ℕ × List ℕ
 
--- by the table, and then by the key's bytes
+-- order by table, then by the key's bytes
 abbrev pub key_cmp : Key → Key → Ordering
 key_cmp = then_cmp (on (λ k. k.0) nat_cmp) (on (λ k. k.1) (slice_cmp nat_cmp))
 
@@ -36,11 +36,11 @@ Kept = map.FinMap key_cmp (List ℕ)
 abbrev pub kept_code : Coded Kept
 kept_code = map.code (coded× coded_ℕ (coded_list coded_ℕ)) (coded_list coded_ℕ)
 
--- what a change makes of the rows
-abbrev pub changed : Kept → RowChange → Kept
-changed rows (Put table key row) = map.insert rows (place table, key) row
-changed rows (Remove table key) = map.remove rows (place table, key)
+-- the rows after a change
+abbrev pub rows_after_change : Kept → RowChange → Kept
+rows_after_change rows (Put table key row) = map.insert rows (place table, key) row
+rows_after_change rows (Remove table key) = map.remove rows (place table, key)
 
--- what a list of changes makes of the rows, one after another
-abbrev pub all_changed : Kept → List RowChange → Kept
-all_changed = fold changed
+-- the rows after a list of changes, one after another
+abbrev pub rows_after_changes : Kept → List RowChange → Kept
+rows_after_changes = fold rows_after_change

@@ -13,7 +13,7 @@ HasRows k rows = rows ≡ k.tables
 abbrev pub IsUnfailing : MemoryKeeper → Type 0
 IsUnfailing k = k.fail ≡ []
 
--- a keeper of these rows that was not called yet, with these calls listed
+-- a new keeper with these rows and these listed calls
 pub record IsFresh (k : MemoryKeeper) (rows : Kept) (listed : List ℕ) : Type 0 where
   pub tables : HasRows k rows
   pub fail : k.fail ≡ listed
@@ -28,12 +28,12 @@ next_call k = min (k.calls + 1) (2 ^ 64 - 1)
 abbrev pub fails_next : MemoryKeeper → Bool
 fails_next k = list_any (λ m. nat_eq m (next_call k)) k.fail
 
--- one call more was made, and the list is the same
+-- one more call was counted, and the list is unchanged
 pub record IsCounted (old new : MemoryKeeper) : Type 0 where
   pub calls : new.calls ≡ next_call old
   pub fail : new.fail ≡ old.fail
 
--- whether a call answered Failed
+-- whether a call returned Failed
 abbrev pub has_failed : {T : Type 0} → Result T KeepErr → Bool
 has_failed (Ok x) = false
 has_failed (Err Failed) = true

@@ -1,4 +1,4 @@
--- For proofs alone: a row with its table and key, as the map has it.
+-- For proofs alone: a row with its table and key, as the map holds it.
 use Rattle.std.specs.Prelude.{List, ℕ}
 use Rattle.oe_keeper.specs.Kept.{Key, place}
 use Rattle.oe_keeper.specs.declared.rows.Entry.{Entry}

@@ -1,4 +1,4 @@
-//! The tables, and a change of one row.
+//! The five tables, and changes of single rows.
 
 ghost use Rattle.std.specs.Prelude.{◌≡◌};
 ghost use Rattle.oe_keeper.specs.Kept.{place};
@@ -12,7 +12,7 @@ pub enum Table {
     Airfield,
     /// The runways of the airports.
     Runway,
-    /// What the desk itself stands at: the format of its rows, its day, its closed days.
+    /// The desk's own data: the format of its rows, its day, and its closed days.
     Desk,
     /// The cases.
     Filing,
@@ -21,7 +21,7 @@ pub enum Table {
 }
 
 impl Table {
-    /// The place of the table in the order, from 0.
+    /// The table's index in the order, from 0 to 4.
     pub fn place(self) -> u8
         ensures { result ≡ place self }
     {
@@ -38,8 +38,8 @@ impl Table {
 /// A change of one row.
 #[derive(Debug, Drop)]
 pub enum RowChange {
-    /// The row is put under the key, instead of the one that is there.
+    /// Stores the row under the key, and replaces a row that is already there.
     Put { table: Table, key: Text, row: Text },
-    /// The row under the key is taken out, if there is one.
+    /// Deletes the row under the key, if there is one.
     Remove { table: Table, key: Text },
 }

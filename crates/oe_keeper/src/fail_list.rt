@@ -1,4 +1,4 @@
-//! The calls that are to fail.
+//! The calls that a test keeper is to fail.
 
 ghost use Rattle.std.specs.Prelude.{◌≡◌, ◌++◌, ◌∷◌, [], OnOk, OnErr, nat_eq};
 ghost use Rattle.std.specs.List.{list_any};
@@ -22,7 +22,7 @@ impl Model for FailList {
 }
 
 impl FailList {
-    /// No call is to fail. It takes no memory.
+    /// An empty list. It allocates nothing.
     pub fn new(alloc: Global) -> FailList
         ensures { result ≡ [] }
     {
@@ -31,11 +31,11 @@ impl FailList {
         }
     }
 
-    /// Call `n` is to fail too.
+    /// Adds call `n` to the list.
     ///
     /// # Errors
     ///
-    /// `NoMemory` where memory was refused. The list then stays as it was.
+    /// `NoMemory` where memory ran out. The list then stays as it was.
     pub fn push(&mut self, n: u64) -> Result<(), NoMemory>
         ensures ok { OnOk result (self.new ≡ self.old ++ n ∷ []) }
         ensures err { OnErr result (self.new ≡ self.old) }
@@ -44,7 +44,7 @@ impl FailList {
         Ok(())
     }
 
-    /// Whether call `n` is to fail.
+    /// Whether call `n` is in the list.
     pub(crate) fn has(&self, n: u64) -> bool
         ensures { result ≡ list_any (λ m. nat_eq m n) self.now }
     {

@@ -1,4 +1,4 @@
-//! What keeps the tables.
+//! The keeper: the store of the desk's tables.
 
 ghost use Rattle.std.specs.Prelude.{◌≡◌, false, ℕ, List, Option, IfOk, OnOk, OnErr, option_copied};
 ghost use Rattle.oe_keeper.specs.Kept.{Kept};
@@ -9,10 +9,10 @@ use crate::tables::Tables;
 use grid_exact::NoMemory;
 use std::alloc::Global;
 
-/// Why a keeper did not do what it was asked.
+/// Why a keeper's call failed.
 #[derive(Clone, Copy, Debug, PartialEq, Eq)]
 pub enum KeepErr {
-    /// The keeper has failed, and counted it.
+    /// The keeper has failed and counted a fault.
     Failed,
     /// Memory was refused.
     NoMemory,
@@ -29,31 +29,31 @@ impl From<NoMemory> for KeepErr {
     }
 }
 
-/// What keeps the tables from one run to the next. A keeper may tell what its rows are, and what its calls say of the rows they say where it
-/// tells them.
+/// Stores the tables from one run to the next. The rows of a keeper may be known or not, and its contracts speak of the rows
+/// where they are known.
 pub trait Keeper {
-    /// It tells that these are its rows.
+    /// These rows are known to be the keeper's rows.
     ghost Tells: { Self → Kept → Type 0 };
 
-    /// How often it has failed. It never falls.
+    /// The number of its faults. It never falls.
     ghost faults: { Self → ℕ };
 
     /// A load may find these rows at this place.
     ghost Finds: { Self → Option (List ℕ) → Kept → Type 0 };
 
-    /// It may be handed changes, since its last `load` answered Ok.
+    /// It accepts changes, since its last `load` returned Ok.
     ghost IsLoaded: { Self → Type 0 };
 
     /// No call of it can fail, now or later.
     ghost IsSteady: { Self → Type 0 };
 
-    /// The rows of all tables. `place` says where they are kept; it is looked at until a call answered Ok.
+    /// Loads the rows of all tables. `place` says where they are stored; it is read until a call has returned Ok.
     ///
-    /// The rows stay as they were, and only a call that answers Ok begins to tell them.
+    /// The rows stay as they were, and only a call that returns Ok makes them known.
     ///
     /// # Errors
     ///
-    /// `Failed` only where its count of faults rose, `NoMemory` where memory was refused.
+    /// `Failed` only where its count of faults rose, `NoMemory` where memory ran out.
     fn load(&mut self, alloc: Global, place: Option<&str>) -> Result<Tables, KeepErr>
         ensures found { IfOk result (λ rows. Finds self.old (option_copied place.entry) rows) }
         ensures rows { IfOk result (λ rows. (now : Kept) → Tells self.new now → now ≡ rows) }
@@ -68,7 +68,7 @@ pub trait Keeper {
     ///
     /// # Errors
     ///
-    /// `Failed` only where its count of faults rose, `NoMemory` where memory was refused. The rows then stay as they were.
+    /// `Failed` only where its count of faults rose, `NoMemory` where memory ran out. The rows then stay as they were.
     fn apply(&mut self, alloc: Global, changes: &[RowChange]) -> Result<(), KeepErr>
         requires { ∥ IsLoaded self.old ∥₁ }
         ensures all { OnOk result (HasAll Tells self.old self.new changes.now) }
@@ -79,10 +79,10 @@ pub trait Keeper {
         ensures steady { IsSteady self.old → IsSteady self.new }
         ensures unfailing { IsSteady self.old → IfFailed result ⊥ };
 
-    /// Whether it keeps what it is handed. One that does not tells no rows.
+    /// Whether it stores the changes it is given. The rows of one that does not are never known.
     fn keeps(&self) -> bool
         ensures { result ≡ false → (rows : Kept) → Tells self.now rows → ⊥ };
 
-    /// It tells no other rows at the same time.
+    /// At most one set of rows is known at a time.
     ghost one: { (k : Self) (a b : Kept) → Tells k a → Tells k b → a ≡ b };
 }

@@ -1,4 +1,4 @@
-//! Where the desk's tables are kept between two runs: the rows of five tables, changes of rows, and what keeps them.
+//! The keeper, which stores the desk's tables between runs: the rows of five tables, changes of rows, and the stores for them.
 #![tactic(auto)]
 
 mod change;
@@ -6,6 +6,8 @@ mod fail_list;
 mod keeper;
 pub mod laws;
 mod memory;
+mod no_keeper;
+mod placed;
 mod rows;
 mod tables;
 
@@ -13,7 +15,6 @@ pub use change::{RowChange, Table};
 pub use fail_list::FailList;
 pub use keeper::{KeepErr, Keeper};
 pub use memory::MemoryKeeper;
+pub use no_keeper::NoKeeper;
+pub use placed::PlacedKeeper;
 pub use tables::Tables;
-
-#[cfg(test)]
-mod tests;

@@ -1,8 +1,8 @@
-//! A keeper in memory, which fails at listed calls.
+//! A keeper in memory that fails at listed calls, for tests.
 
 ghost use Rattle.std.specs.Prelude.{◌≡◌, ◌≤◌, true, IfOk, OnOk, OnErr};
 ghost use Rattle.std.proofs.Common.{◌∙◌, sym};
-ghost use Rattle.oe_keeper.specs.Kept.{Kept, all_changed};
+ghost use Rattle.oe_keeper.specs.Kept.{Kept, rows_after_changes};
 ghost use Rattle.oe_keeper.specs.Memory.{HasRows, IsFresh, IsUnfailing, IsCounted, fails_next, has_failed};
 ghost use Rattle.oe_keeper.specs.Keeping.{Stays, StaysSilent, HasAll, HasCause, IfFailed, Rose};
 
@@ -13,8 +13,8 @@ use crate::tables::Tables;
 use grid_exact::NoMemory;
 use std::alloc::Global;
 
-/// A keeper in memory, which tells its rows. It counts the calls of `load` and `apply` from 1, fails at exactly the listed ones, and does not look
-/// at the place.
+/// A keeper in memory, whose rows are always known. It counts the calls of `load` and `apply` from 1, fails at exactly the listed ones,
+/// and ignores the place.
 #[derive(Debug, Drop)]
 pub struct MemoryKeeper {
     tables: Tables,
@@ -24,7 +24,7 @@ pub struct MemoryKeeper {
 }
 
 impl MemoryKeeper {
-    /// A keeper of these rows that was not called yet. It takes no memory.
+    /// A new keeper with these rows. It allocates nothing.
     pub fn new(_alloc: Global, tables: Tables, fail: FailList) -> MemoryKeeper
         ensures { IsFresh result tables fail }
     {
@@ -36,7 +36,7 @@ impl MemoryKeeper {
         }
     }
 
-    /// Counts the call, and answers whether it is to fail.
+    /// Counts the call, and returns whether it is to fail.
     fn is_to_fail(&mut self) -> bool
         ensures tables { self.new.tables ≡ self.old.tables }
         ensures faults { self.new.faults ≡ self.old.faults }
@@ -60,9 +60,9 @@ impl MemoryKeeper {
         KeepErr::Failed
     }
 
-    /// A copy of the rows with the changes.
+    /// A copy of the rows with the changes applied.
     fn changed(&self, alloc: Global, changes: &[RowChange]) -> Result<Tables, NoMemory>
-        ensures { IfOk result (λ t. t ≡ all_changed self.now.tables changes.now) }
+        ensures { IfOk result (λ t. t ≡ rows_after_changes self.now.tables changes.now) }
     {
         let mut next = self.tables.copy(alloc)?;
         'changes: for change in changes {

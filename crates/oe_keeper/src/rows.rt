@@ -1,4 +1,4 @@
-//! The rows in a list, in order of table and key.
+//! A sorted list of rows, in order of table and key.
 
 ghost use Rattle.std.specs.Prelude.{◌≡◌, IfOk, length, map, option_copied, slice_get};
 ghost use Rattle.std.specs.List.Sorted.{IsBinarySearchResult, IsSearchInRange};
@@ -34,7 +34,7 @@ impl Entry {
     }
 }
 
-/// How the row stands to a key, by the table and then by the bytes of the key.
+/// Compares the row's table and key with these, the table first, then the bytes of the key.
 fn compare(entry: &Entry, table: Table, key: &str) -> Ordering
     ensures { result ≡ key_cmp (key_of entry.now) (place table, key.now) }
 {
@@ -44,10 +44,11 @@ fn compare(entry: &Entry, table: Table, key: &str) -> Ordering
     }
 }
 
-/// Where the row under this key stands, or where it would stand. A key above all others is found at once.
+/// The index of the row under this key, or where it would be inserted. A key above all others is found at once.
 pub(crate) fn place_of(rows: &[Entry], table: Table, key: &str) -> Result<usize, usize>
     ensures within { IsSearchInRange result (length rows.now) }
-    ensures found { IsBinarySearchResult (λ e. key_cmp (key_of e) (place table, key.now)) rows.now result }
+    ensures found { IsBinarySearchResult (λ e. key_cmp (key_of e)
+        (place table, key.now)) rows.now result }
 {
     if let Some(last) = rows.last() {
         if compare(last, table, key) == Ordering::Less {
@@ -57,7 +58,7 @@ pub(crate) fn place_of(rows: &[Entry], table: Table, key: &str) -> Result<usize,
     rows.binary_search_by(|entry| compare(entry, table, key))
 }
 
-/// The row at place `i`.
+/// The row at index `i`.
 pub(crate) fn row_at(rows: &[Entry], i: usize) -> Option<&Entry>
     ensures { option_copied result ≡ slice_get rows.now i }
 {

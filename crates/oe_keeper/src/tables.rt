@@ -3,7 +3,7 @@
 ghost use Rattle.std.specs.Prelude.{◌≡◌, IfOk, OnOk, OnErr, slice_get};
 ghost use Rattle.std.specs.Option.{option_map};
 ghost use Rattle.std.specs.FinMap as maps;
-ghost use Rattle.oe_keeper.specs.Kept.{changed, place};
+ghost use Rattle.oe_keeper.specs.Kept.{rows_after_change, place};
 
 use crate::change::{RowChange, Table};
 use crate::rows::{Entry, copies, place_of, row_at};
@@ -11,7 +11,7 @@ use grid_exact::NoMemory;
 use std::alloc::Global;
 use std::marker::Model;
 
-/// The rows of the five tables, seen as one map from a table's place and a key to a row, and walked in order of table
+/// The rows of the five tables, seen as one map from a table's index and a key to a row, in order of table
 /// and key.
 #[derive(Debug, Drop)]
 pub struct Tables {
@@ -34,7 +34,7 @@ impl Model for Tables {
 }
 
 impl Tables {
-    /// No rows. It takes no memory.
+    /// No rows. It allocates nothing.
     pub fn empty(alloc: Global) -> Tables
         ensures { result ≡ maps.empty }
     {
@@ -43,16 +43,17 @@ impl Tables {
         }
     }
 
-    /// How many rows there are, in all five tables.
+    /// The number of rows in all five tables.
     pub fn len(&self) -> usize
         ensures { result ≡ maps.len self.now }
     {
         self.rows.as_slice().len()
     }
 
-    /// The table, the key and the row at place `i` in order of table and key, counted from 0.
+    /// The table, the key and the row at index `i` in order of table and key, counted from 0.
     pub fn nth(&self, i: usize) -> Option<(Table, &str, &str)>
-        ensures { option_map (λ r. ((place r.0, r.1.now), r.2.now)) result ≡ slice_get (maps.entries self.now) i }
+        ensures { option_map (λ r. ((place r.0, r.1.now), r.2.now)) result
+            ≡ slice_get (maps.entries self.now) i }
     {
         match row_at(self.rows.as_slice(), i) {
             Some(entry) => Some((entry.table, entry.key.as_str(), entry.row.as_str())),
@@ -68,7 +69,7 @@ impl Tables {
         Ok(Tables { rows })
     }
 
-    /// Puts the row under the key, instead of the one that is there.
+    /// Stores the row under the key, and replaces a row that is already there.
     fn put(&mut self, alloc: Global, table: Table, key: &str, row: &str) -> Result<(), NoMemory>
         ensures ok { OnOk result (self.new ≡ maps.insert self.old (place table, key.now) row.now) }
         ensures err { OnErr result (self.new ≡ self.old) }
@@ -86,7 +87,7 @@ impl Tables {
         }
     }
 
-    /// Takes the row under the key out, if there is one.
+    /// Deletes the row under the key, if there is one.
     fn remove(&mut self, table: Table, key: &str)
         ensures { self.new ≡ maps.remove self.old (place table, key.now) }
     {
@@ -95,14 +96,14 @@ impl Tables {
         }
     }
 
-    /// Puts the row or takes it out, as the change says. A row whose key is above all others is put at once; any other moves the rows
+    /// Makes one change. A row whose key is above all others is appended; any other moves the rows
     /// after it.
     ///
     /// # Errors
     ///
-    /// `NoMemory` where memory was refused. The rows then stay as they were.
+    /// `NoMemory` where memory ran out. The rows then stay as they were.
     pub fn change(&mut self, alloc: Global, c: &RowChange) -> Result<(), NoMemory>
-        ensures ok { OnOk result (self.new ≡ changed self.old c.now) }
+        ensures ok { OnOk result (self.new ≡ rows_after_change self.old c.now) }
         ensures err { OnErr result (self.new ≡ self.old) }
     {
         match c {

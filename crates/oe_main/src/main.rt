@@ -1,49 +1,22 @@
 //! The program `oe`: an obstruction evaluation desk under 14 CFR Part 77.
 //!
-//! `run` does all that the program does; `main` makes the streams of the system and hands them in.
+//! `run` of oe_commands does all of the work; `main` opens the system's streams and passes them to it.
 #![tactic(auto)]
 
-mod generate;
-mod laws;
-mod run;
-mod status;
-mod words;
-
-pub use laws::run_unkept;
+use oe_commands::run::run;
+use oe_commands::{Status, Words};
 use oe_http::{ReadSource, WriteSink};
+use oe_keeper::PlacedKeeper;
 use oe_sqlite::SqliteKeeper;
-use placed_keeper::PlacedKeeper;
-pub use run::run;
-pub use status::Status;
 use std::env;
 use std::io::ErrorKind;
 use std::process::ExitCode;
-pub use words::{Command, SEED_LIMIT, Words};
-
-#[cfg(test)]
-mod case_tests;
-#[cfg(test)]
-mod generate_tests;
-#[cfg(test)]
-mod http_tests;
-#[cfg(test)]
-mod kept_tests;
-#[cfg(test)]
-mod limit_tests;
-#[cfg(test)]
-mod review_tests;
-#[cfg(test)]
-mod rule_tests;
-#[cfg(test)]
-mod store_tests;
-#[cfg(test)]
-mod tests;
 
 /// The words after the program's name.
 ///
 /// # Errors
 ///
-/// `NoMemory` where memory was refused, and `Usage` where a word is no text.
+/// `NoMemory` where memory ran out, and `Usage` where a word is not UTF-8.
 fn arguments(rt: &HostRuntime) -> Result<Words, Status> {
     let mut words = Words::new(rt.alloc());
     let args = match env::args(rt) {
@@ -59,7 +32,7 @@ fn arguments(rt: &HostRuntime) -> Result<Words, Status> {
     Ok(words)
 }
 
-/// Runs the desk over the standard streams, and over a file where one is named.
+/// Runs the desk over the standard streams, with its tables in a file where one is named.
 fn run_on_streams(rt: &HostRuntime) -> Status {
     match arguments(rt) {
         Ok(words) => run(

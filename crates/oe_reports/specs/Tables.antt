@@ -13,19 +13,19 @@ use Rattle.oe_reports.specs.declared.columns.TheConstants.{CASE_WIDTH, DECISION_
 use Rattle.oe_reports.specs.declared.rows.ReviewRow.{ReviewRow}
 use Rattle.oe_reports.specs.declared.rows.ExpiryRow.{ExpiryRow}
 
--- the first line of a table: the name of the report, and how many lines follow
+-- the first line of a table: the name of the report, and the number of lines that follow
 abbrev pub head_line : ReportKind → ℕ → List ℕ
 head_line kind count = codes "report," ++ report_word kind ++ codes "," ++ decimal count ++ codes "\n"
 
--- a case that is marked for review: its number, what was decided, and when
+-- a case marked for review: its number, its decision, and the day of issuance
 abbrev pub review_line : ReviewRow → List ℕ
 review_line row = at_right CASE_WIDTH (decimal row.case) ++ gap ++ at_left DECISION_WIDTH (decision_word row.decision) ++ gap ++ date_text row.issued ++ codes "\n"
 
--- a determination that expires: when, and the number of its case
+-- a determination that has an expiry: the expiry, and the case number
 abbrev pub expiry_line : ExpiryRow → List ℕ
 expiry_line row = date_text row.expiry ++ gap ++ at_right CASE_WIDTH (decimal row.case) ++ codes "\n"
 
--- an airfield: its name, what it is, its elevation in tenths of a foot, and how many runways it has
+-- an airfield: its name, its kind, its elevation in tenths of a foot, and its number of runways
 abbrev pub place_line : List ℕ → List ℕ → ℤ → ℕ → List ℕ
 place_line id kind elevation runways = at_left ID_WIDTH id ++ gap ++ at_left KIND_WIDTH kind ++ gap
     ++ at_right ELEVATION_WIDTH (signed_decimal elevation) ++ gap ++ at_right RUNWAYS_WIDTH (decimal runways) ++ codes "\n"
@@ -43,6 +43,6 @@ review_table rows = head_line reports.Review (length rows) ++ flat_map review_li
 abbrev pub expiry_table : List ExpiryRow → List ℕ
 expiry_table rows = head_line reports.Expiry (length rows) ++ flat_map expiry_line rows
 
--- the airfields of a register, in its order, which is that of their names
+-- the airfields of a register, in order of name
 abbrev pub airfield_table : List Airfield → List ℕ
 airfield_table register = head_line reports.Airfields (length register) ++ flat_map airfield_line register

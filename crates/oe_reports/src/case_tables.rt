@@ -13,7 +13,8 @@ use wire_values::{FieldValue, ReportKind, append_text, decision_word};
 
 /// Appends the line of a case that is marked for review.
 fn append_review(text: &mut String, row: &ReviewRow) -> Result<(), NoMemory>
-    ensures { OnOk result (string_bytes text.new ≡ string_bytes text.old ++ spec.review_line row.now) }
+    ensures { OnOk result (string_bytes text.new
+        ≡ string_bytes text.old ++ spec.review_line row.now) }
 {
     append_number(text, CASE_WIDTH, u64::from(row.case))?;
     append_gap(text)?;
@@ -23,9 +24,10 @@ fn append_review(text: &mut String, row: &ReviewRow) -> Result<(), NoMemory>
     append_text(text, "\n")
 }
 
-/// Appends the line of a determination that expires.
+/// Appends the line of a determination that has an expiry.
 fn append_expiry(text: &mut String, row: &ExpiryRow) -> Result<(), NoMemory>
-    ensures { OnOk result (string_bytes text.new ≡ string_bytes text.old ++ spec.expiry_line row.now) }
+    ensures { OnOk result (string_bytes text.new
+        ≡ string_bytes text.old ++ spec.expiry_line row.now) }
 {
     row.expiry.append(text)?;
     append_gap(text)?;
@@ -33,7 +35,7 @@ fn append_expiry(text: &mut String, row: &ExpiryRow) -> Result<(), NoMemory>
     append_text(text, "\n")
 }
 
-/// The report of the cases that are marked for review, in the order of the rows.
+/// The report `review` of the cases marked for review, in the order of the rows.
 ///
 /// # Errors
 ///
@@ -49,7 +51,7 @@ pub fn review_table(alloc: Global, rows: &[ReviewRow]) -> Result<Text, NoMemory>
     Ok(Text::from_string(text))
 }
 
-/// The report of the determinations that expire, in the order of the rows.
+/// The report `expiry` of the determinations that have an expiry, in the order of the rows.
 ///
 /// # Errors
 ///

@@ -9,25 +9,25 @@ use grid_exact::NoMemory;
 use itoa::Buffer;
 use wire_values::{ReportKind, append_text};
 
-/// The places of the number of a case.
+/// The width of the case column, in characters.
 pub const CASE_WIDTH: usize = 6;
 
-/// The places of the word for a decision.
+/// The width of the decision column.
 pub const DECISION_WIDTH: usize = 8;
 
-/// The places of the name of an airfield.
+/// The width of the column of airfield names.
 pub const ID_WIDTH: usize = 8;
 
-/// The places of `airport` or `heliport`.
+/// The width of the column of `airport` or `heliport`.
 pub const KIND_WIDTH: usize = 8;
 
-/// The places of an elevation.
+/// The width of the elevation column.
 pub const ELEVATION_WIDTH: usize = 7;
 
-/// The places of the number of runways.
+/// The width of the column of the number of runways.
 pub const RUNWAYS_WIDTH: usize = 2;
 
-/// Appends so many spaces.
+/// Appends that number of spaces.
 pub(crate) fn append_spaces(text: &mut String, count: usize) -> Result<(), NoMemory>
     ensures { OnOk result (string_bytes text.new ≡ string_bytes text.old ++ spec.spaces count) }
 {
@@ -37,32 +37,35 @@ pub(crate) fn append_spaces(text: &mut String, count: usize) -> Result<(), NoMem
     Ok(())
 }
 
-/// Appends what stands between two columns.
+/// Appends the gap between two columns.
 pub(crate) fn append_gap(text: &mut String) -> Result<(), NoMemory>
     ensures { OnOk result (string_bytes text.new ≡ string_bytes text.old ++ spec.gap) }
 {
     append_text(text, "  ")
 }
 
-/// Appends a word at the right of a column.
+/// Appends a word, right-aligned in a column.
 pub(crate) fn append_right(text: &mut String, width: usize, word: &str) -> Result<(), NoMemory>
-    ensures { OnOk result (string_bytes text.new ≡ string_bytes text.old ++ spec.at_right width word.now) }
+    ensures { OnOk result (string_bytes text.new
+        ≡ string_bytes text.old ++ spec.at_right width word.now) }
 {
     append_spaces(text, width.saturating_sub(word.len()))?;
     append_text(text, word)
 }
 
-/// Appends a word at the left of a column.
+/// Appends a word, left-aligned in a column.
 pub(crate) fn append_left(text: &mut String, width: usize, word: &str) -> Result<(), NoMemory>
-    ensures { OnOk result (string_bytes text.new ≡ string_bytes text.old ++ spec.at_left width word.now) }
+    ensures { OnOk result (string_bytes text.new
+        ≡ string_bytes text.old ++ spec.at_left width word.now) }
 {
     append_text(text, word)?;
     append_spaces(text, width.saturating_sub(word.len()))
 }
 
-/// Appends a number at the right of a column.
+/// Appends a number, right-aligned in a column.
 pub(crate) fn append_number(text: &mut String, width: usize, number: u64) -> Result<(), NoMemory>
-    ensures { OnOk result (string_bytes text.new ≡ string_bytes text.old ++ spec.at_right width (decimal number)) }
+    ensures { OnOk result (string_bytes text.new
+        ≡ string_bytes text.old ++ spec.at_right width (decimal number)) }
 {
     let mut buffer = Buffer::new();
     append_right(text, width, buffer.format(number))

@@ -17,9 +17,10 @@ use itoa::Buffer;
 use std::alloc::Global;
 use wire_values::{FieldValue, ReportKind, WholeNumber, append_text};
 
-/// Appends the columns of the name of an airfield and of what it is, and the gap after each.
+/// Appends the columns of an airfield's name and kind, with the gap after each.
 fn append_place(text: &mut String, id: &FieldId, kind: &str) -> Result<(), NoMemory>
-    ensures { OnOk result (string_bytes text.new ≡ string_bytes text.old ++ at_left ID_WIDTH id.now ++ gap ++ at_left KIND_WIDTH kind.now ++ gap) }
+    ensures { OnOk result (string_bytes text.new
+        ≡ string_bytes text.old ++ at_left ID_WIDTH id.now ++ gap ++ at_left KIND_WIDTH kind.now ++ gap) }
 {
     id.append(text)?;
     append_spaces(text, ID_WIDTH.saturating_sub(id.as_bytes().len()))?;
@@ -28,13 +29,16 @@ fn append_place(text: &mut String, id: &FieldId, kind: &str) -> Result<(), NoMem
     append_gap(text)
 }
 
-/// Appends the columns of an elevation and of the number of runways, and the end of the line.
+/// Appends the columns of an elevation in tenths of a foot and of the number of runways, and the end of the line.
 fn append_numbers(
     text: &mut String,
     elevation: &WholeNumber,
     runways: usize,
 ) -> Result<(), NoMemory>
-    ensures { OnOk result (string_bytes text.new ≡ string_bytes text.old ++ at_right ELEVATION_WIDTH (signed_decimal elevation.now.value) ++ gap ++ at_right RUNWAYS_WIDTH (decimal runways) ++ codes "\n") }
+    ensures { OnOk result (string_bytes text.new
+        ≡ string_bytes text.old ++ at_right ELEVATION_WIDTH
+        (signed_decimal elevation.now.value) ++ gap ++ at_right RUNWAYS_WIDTH
+        (decimal runways) ++ codes "\n") }
 {
     let mut buffer = Buffer::new();
     append_right(text, ELEVATION_WIDTH, buffer.format(elevation.value))?;
@@ -45,7 +49,8 @@ fn append_numbers(
 
 /// Appends the line of an airfield.
 fn append_airfield(text: &mut String, airfield: &Airfield) -> Result<(), NoMemory>
-    ensures { OnOk result (string_bytes text.new ≡ string_bytes text.old ++ spec.airfield_line airfield.now) }
+    ensures { OnOk result (string_bytes text.new
+        ≡ string_bytes text.old ++ spec.airfield_line airfield.now) }
 {
     match airfield {
         Airfield::Airport(airport) => {
@@ -65,7 +70,7 @@ fn append_airfield(text: &mut String, airfield: &Airfield) -> Result<(), NoMemor
     }
 }
 
-/// The report of the airfields of a register, in order of name. A heliport has no runways.
+/// The report `airfields` of a register, in order of name. A heliport counts as having no runways.
 ///
 /// # Errors
 ///

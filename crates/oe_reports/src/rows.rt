@@ -1,4 +1,4 @@
-//! The rows of the reports on cases.
+//! The rows of the case reports.
 
 use determination_dates::Decision;
 use jiff::civil::Date;
@@ -8,13 +8,13 @@ use jiff::civil::Date;
 pub struct ReviewRow {
     /// The number of the case.
     pub case: u32,
-    /// What was determined.
+    /// The decision.
     pub decision: Decision,
-    /// When the determination was issued.
+    /// The day of issuance.
     pub issued: Date,
 }
 
-/// A determination that expires. The order is by expiry, and by case where two expire on one day.
+/// A standing determination that has an expiry. Rows are ordered by expiry, then by case.
 #[derive(Clone, Copy, PartialEq, Eq, PartialOrd, Ord)]
 pub struct ExpiryRow {
     /// Its last day (77.33).

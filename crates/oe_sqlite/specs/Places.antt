@@ -1,5 +1,5 @@
--- The rows that a place tells.
-use Rattle.std.specs.Prelude.{◌≡◌, Bool, false, IsTrue}
+-- The known rows of a place.
+use Rattle.std.specs.Prelude.{◌≡◌, Bool, false, IsTrue, Option, Some, None}
 use Rattle.sqlite_trees.specs.Tree.{Trees}
 use Rattle.std.proofs.Common.{sym, ◌∙◌}
 use Rattle.sqlite_disk.specs.declared.Disk.{Ghosts}
@@ -10,13 +10,42 @@ use Rattle.sqlite.specs.Files.{file_state, IsOpened}
 use Rattle.sqlite.specs.State.{HasCleanDisk}
 use Rattle.sqlite.specs.Steps.{over_memory}
 use Rattle.oe_keeper.specs.Kept.{Kept}
-use Rattle.kept_files.specs.FileRows.{GiveRows}
-use Rattle.kept_table.specs.Model.{IsHeld, TellsIn}
-use Rattle.kept_table.specs.Shape.{kept_schema, no_schema}
+use Rattle.oe_sqlite.specs.FileRows.{GiveRows}
+use Rattle.keeper_table.specs.Model.{IsHeld, TellsIn}
+use Rattle.keeper_table.specs.Shape.{kept_schema, no_schema}
 use Rattle.oe_sqlite.specs.declared.place.Place.{Place}
 use Rattle.oe_sqlite.specs.declared.place.Place.TheVariants.{Nowhere, Memory, File}
 
--- it shows some rows whenever its store is clean and open, and no transaction is
+-- it is a store in memory
+abbrev pub IsInMemory : {D : Type 0} {g : Ghosts D} → Place D g → Type 0
+IsInMemory Nowhere = ⊥
+IsInMemory (Memory conn) = Unit {0}
+IsInMemory (File conn) = ⊥
+
+-- it is a store in a file
+abbrev pub IsInFile : {D : Type 0} {g : Ghosts D} → Place D g → Type 0
+IsInFile Nowhere = ⊥
+IsInFile (Memory conn) = ⊥
+IsInFile (File conn) = Unit {0}
+
+-- it is a store, in memory or in a file
+abbrev pub IsStore : {D : Type 0} {g : Ghosts D} → Place D g → Type 0
+IsStore Nowhere = ⊥
+IsStore (Memory conn) = Unit {0}
+IsStore (File conn) = Unit {0}
+
+-- with no path it is a store in memory, and with one a file
+abbrev pub IsPlacedBy : {P D : Type 0} {g : Ghosts D} → Option P → Place D g → Type 0
+IsPlacedBy None place = IsInMemory place
+IsPlacedBy (Some path) place = IsInFile place
+
+-- a store in memory stays one, and so does a file
+abbrev pub StaysAt : {D : Type 0} {g : Ghosts D} → Place D g → Place D g → Type 0
+StaysAt Nowhere after = Unit {0}
+StaysAt (Memory conn) after = IsInMemory after
+StaysAt (File conn) after = IsInFile after
+
+-- it has some known rows whenever its store is clean and open, and no transaction is open
 abbrev pub IsHeldAt : {D : Type 0} {g : Ghosts D} → Place D g → Type 0
 IsHeldAt Nowhere = Unit {0}
 IsHeldAt (Memory conn) = IsHeld (state over_memory conn) × (conn.in_transaction ≡ false)
@@ -38,7 +67,7 @@ IsBlankAt Nowhere = ⊥
 IsBlankAt (Memory conn) = (state over_memory conn).now.schema ≡ no_schema
 IsBlankAt (File conn) = (file_state conn).now.schema ≡ no_schema
 
--- its store has the one table, as this keeper makes it, and no more
+-- its store has the one table, as this keeper makes it, and nothing else
 abbrev pub IsShapedAt : {D : Type 0} {g : Ghosts D} → Place D g → Type 0
 IsShapedAt Nowhere = ⊥
 IsShapedAt (Memory conn) = (state over_memory conn).now.schema ≡ kept_schema
@@ -50,17 +79,17 @@ IsCleanAt Nowhere = ⊥
 IsCleanAt (Memory conn) = HasCleanDisk (state over_memory conn) × IsTrue (state over_memory conn).is_open
 IsCleanAt (File conn) = HasCleanDisk (file_state conn) × IsTrue (file_state conn).is_open
 
--- its store was just opened over files that held this
+-- its store was just opened over files with these contents
 abbrev pub IsFoundAt : {D : Type 0} {g : Ghosts D} → Image → Place D g → Type 0
 IsFoundAt image Nowhere = ⊥
 IsFoundAt image (Memory conn) = ⊥
 IsFoundAt image (File conn) = HasCleanDisk (file_state conn) → IsOpened conn × FindsIn image (file_state conn)
 
--- what it tells after a load of such files, while it is clean and open, and what was loaded are the rows that the files give
+-- after a load of such files, its known rows, while it is clean and open, and the loaded rows are those that the files give
 abbrev pub LoadsAt : {D : Type 0} {g : Ghosts D} → Image → Place D g → Bool → Kept → Type 0
 LoadsAt image place is_told loaded = (rows : Kept) → GiveRows image rows → IsCleanAt place → TellsWith is_told place rows × (loaded ≡ rows)
 
--- an open after a crash at this moment may find these trees in its file
+-- opening the file after a crash at this moment may find these trees
 abbrev pub MayLeaveAt : {D : Type 0} {g : Ghosts D} → Place D g → Trees → Type 0
 MayLeaveAt Nowhere db = ⊥
 MayLeaveAt (Memory conn) db = ⊥

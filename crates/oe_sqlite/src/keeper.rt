@@ -1,22 +1,23 @@
 //! The keeper.
 
-ghost use Rattle.std.specs.Prelude.{◌≡◌, ◌⊎◌, true, false, None, Err, IsTrue, IsSome, IfOk, IfSome, OnOk, OnErr};
+ghost use Rattle.std.specs.Prelude.{◌≡◌, ◌⊎◌, true, false, None, Err, IsTrue, IsSome, IfOk, IfSome, OnOk, OnErr, MatchResult};
 ghost use Rattle.sqlite_wal.specs.Files.{outcomes};
 ghost use Rattle.sqlite_wal.specs.Recovery.{Image};
 ghost use Rattle.sqlite_store.specs.FileStore.{view, files as store_files};
 ghost use Rattle.sqlite_trees.specs.View.{IsClean};
 ghost use Rattle.sqlite_trees.specs.Tree.{Trees};
 ghost use Rattle.sqlite.specs.Files.{HoldsDatabase};
-ghost use Rattle.oe_keeper.specs.Kept.{Kept, all_changed};
-ghost use Rattle.kept_table.specs.Model.{AreRows};
-ghost use Rattle.kept_files.specs.FileRows.{HoldsRows};
+ghost use Rattle.oe_keeper.specs.Kept.{Kept, rows_after_changes};
+ghost use Rattle.keeper_table.specs.Model.{AreRows};
+ghost use Rattle.oe_sqlite.specs.FileRows.{HoldsRows};
 ghost use Rattle.oe_keeper.specs.Keeping.{HasCause, IfFailed, Stays, StaysSilent, HasAll};
 ghost use Rattle.oe_sqlite.specs.declared.place.Place.TheVariants.{Nowhere};
 ghost use Rattle.oe_sqlite.specs.Places.{TellsWith, IsHeldAt, IsBlankAt, IsCleanAt, IsShapedAt, IsFoundAt, LoadsAt, MayLeaveAt, told_once};
+ghost use Rattle.oe_sqlite.specs.Places.{IsInMemory, IsPlacedBy, IsStore, StaysAt};
 
 use crate::opens::{HostFiles, Opens};
 use crate::place::Place;
-use kept_table::Stop;
+use keeper_table::Stop;
 use oe_keeper::{KeepErr, Keeper, RowChange, Tables};
 use sqlite::{Connection, FileStore};
 use std::alloc::Global;
@@ -25,8 +26,8 @@ use std::mem;
 /// A keeper over the files of the machine.
 pub type SqliteKeeper<'a> = StoreKeeper<HostFiles<'a>>;
 
-/// A keeper over one store of SQLite, which holds all rows in its table `kept`. It tells its rows from the first load on that found the store to
-/// be that one table and no more; this is always so in memory.
+/// A keeper over one SQLite store, which holds all rows in its table `kept`. Its rows are known from the first load on that found the
+/// store to be that one table and nothing else; in memory this is always so.
 #[derive(Drop)]
 pub struct StoreKeeper<O: Opens> {
     opener: O,
@@ -36,7 +37,7 @@ pub struct StoreKeeper<O: Opens> {
     ghost held: { ∥ (IsTrue is_told → IsHeldAt place) ∥₁ },
 }
 
-/// What the keeper answers where its store stopped. All but want of memory is a fault, and is counted.
+/// The keeper's error where its store stopped. All but `NoMemory` is a fault, and is counted.
 fn count(faults: &mut u64, stop: Stop) -> KeepErr
     ensures { HasCause {T = Unit {0}} faults.old faults.new (Err result) }
 {
@@ -48,7 +49,7 @@ fn count(faults: &mut u64, stop: Stop) -> KeepErr
 }
 
 impl<'a> StoreKeeper<HostFiles<'a>> {
-    /// A keeper that has no store yet. Its first `load` opens a file through `rt`, or a store in memory.
+    /// A keeper without a store yet. Its first `load` opens a file through `rt`, or a store in memory.
     pub fn new(rt: &'a HostRuntime) -> SqliteKeeper<'a>
         ensures place { result.place ≡ Nowhere }
         ensures untold { result.is_told ≡ false }
@@ -58,7 +59,7 @@ impl<'a> StoreKeeper<HostFiles<'a>> {
 }
 
 impl<O: Opens> StoreKeeper<O> {
-    /// A keeper that has no store yet. Its first `load` opens one by the opener, or in memory.
+    /// A keeper without a store yet. Its first `load` opens one with the opener, or in memory.
     pub fn over(opener: O) -> StoreKeeper<O>
         ensures opener { result.opener ≡ opener }
         ensures place { result.place ≡ Nowhere }
@@ -78,7 +79,9 @@ impl<O: Opens> StoreKeeper<O> {
         ensures told { self.new.is_told ≡ self.old.is_told }
         ensures place { self.new.place ≡ self.old.place }
         ensures memory { path.entry ≡ None → IfOk result IsBlankAt }
-        ensures file { IsSome path.entry → IfOk result (λ p. IsFoundAt (O.Opens.image self.old.opener) p) }
+        ensures file { IsSome path.entry → IfOk result (λ p. IsFoundAt
+            (O.Opens.image self.old.opener) p) }
+        ensures placed { IfOk result (IsPlacedBy path.entry) }
     {
         match path {
             Some(path) => Ok(Place::File(self.opener.open(path)?)),
@@ -86,15 +89,22 @@ impl<O: Opens> StoreKeeper<O> {
         }
     }
 
-    /// The rows of a keeper that tells none yet. Its store is looked at anew, and closed where it cannot be read.
+    /// Loads the rows of a keeper whose rows are not known yet. Its store is opened anew, and closed where it cannot be read.
     fn load_untold(&mut self, alloc: Global, path: Option<&str>) -> Result<Tables, Stop>
         requires { self.old.is_told ≡ false }
         ensures faults { self.new.faults ≡ self.old.faults }
-        ensures rows { IfOk result (λ rows. (now : Kept) → TellsWith self.new.is_told self.new.place now → now ≡ rows) }
+        ensures rows { IfOk result (λ rows. (now : Kept)
+            → TellsWith self.new.is_told self.new.place now → now ≡ rows) }
         ensures untold { OnErr result (self.new.is_told ≡ false) }
-        ensures memory { self.old.place ≡ Nowhere → path.entry ≡ None → OnOk result (IsTrue self.new.is_told) }
+        ensures memory { self.old.place ≡ Nowhere → path.entry ≡ None
+            → IfOk result (λ rows. TellsWith self.new.is_told self.new.place rows) }
+        ensures opened { self.old.place ≡ Nowhere
+            → OnOk result (IsPlacedBy path.entry self.new.place) }
+        ensures placed { OnOk result (StaysAt self.old.place self.new.place) }
         ensures shaped { OnOk result (IsShapedAt self.new.place → IsTrue self.new.is_told) }
-        ensures file { self.old.place ≡ Nowhere → IsSome path.entry → IfOk result (λ rows. LoadsAt (O.Opens.image self.old.opener) self.new.place self.new.is_told rows) }
+        ensures file { self.old.place ≡ Nowhere → IsSome path.entry
+            → IfOk result (λ rows. LoadsAt
+            (O.Opens.image self.old.opener) self.new.place self.new.is_told rows) }
     {
         let opened = match mem::replace(&mut self.place, Place::Nowhere) {
             Place::Nowhere => self.open(alloc, path)?,
@@ -106,17 +116,28 @@ impl<O: Opens> StoreKeeper<O> {
         Ok(tables)
     }
 
-    /// The rows of the store, which is opened where there is none yet.
+    /// Loads the rows of the store, and opens it where there is none yet.
     fn load_all(&mut self, alloc: Global, path: Option<&str>) -> Result<Tables, Stop>
         ensures faults { self.new.faults ≡ self.old.faults }
-        ensures rows { IfOk result (λ rows. (now : Kept) → TellsWith self.new.is_told self.new.place now → now ≡ rows) }
+        ensures rows { IfOk result (λ rows. (now : Kept)
+            → TellsWith self.new.is_told self.new.place now → now ≡ rows) }
         ensures stays { Stays (λ k. TellsWith k.is_told k.place) self.old self.new }
-        ensures silent { OnErr result (StaysSilent (λ k. TellsWith k.is_told k.place) self.old self.new) }
-        ensures memory { self.old.place ≡ Nowhere → path.entry ≡ None → OnOk result (IsTrue self.new.is_told) }
+        ensures silent { OnErr result (StaysSilent
+            (λ k. TellsWith k.is_told k.place) self.old self.new) }
+        ensures memory { self.old.place ≡ Nowhere → path.entry ≡ None
+            → IfOk result (λ rows. TellsWith self.new.is_told self.new.place rows) }
+        ensures opened { self.old.place ≡ Nowhere
+            → OnOk result (IsPlacedBy path.entry self.new.place) }
+        ensures placed { OnOk result (StaysAt self.old.place self.new.place) }
+        ensures again { IsInMemory self.old.place → (before : Kept)
+            → TellsWith self.old.is_told self.old.place before
+            → TellsWith self.new.is_told self.new.place before
+            × IfOk result (λ rows. rows ≡ before) }
         ensures still { IsTrue self.old.is_told → IsTrue self.new.is_told }
         ensures shaped { OnOk result (IsShapedAt self.new.place → IsTrue self.new.is_told) }
         ensures file { self.old.place ≡ Nowhere → self.old.is_told ≡ false → IsSome path.entry
-            → IfOk result (λ rows. LoadsAt (O.Opens.image self.old.opener) self.new.place self.new.is_told rows) }
+            → IfOk result (λ rows. LoadsAt
+            (O.Opens.image self.old.opener) self.new.place self.new.is_told rows) }
     {
         if self.is_told {
             self.place.load_again(alloc)
@@ -125,11 +146,14 @@ impl<O: Opens> StoreKeeper<O> {
         }
     }
 
-    /// Ends the keeper and gives the store of its file, if it has one. What it told its files hold, whatever a crash leaves of them.
+    /// Ends the keeper and returns the store of its file, if it has one. The files hold its known rows, whatever a crash leaves of them.
     pub fn leave(self) -> Option<FileStore<O::Disk>>
-        ensures rows { IfSome result (λ it. IsClean (view it) → (rows : Kept) → TellsWith self.is_told self.place rows
-            → (image : Image) → outcomes O.Disk.Disk (store_files it).0 (store_files it).1 image → HoldsRows image rows) }
-        ensures found { IfSome result (λ it. IsClean (view it) → (image : Image) → outcomes O.Disk.Disk (store_files it).0 (store_files it).1 image
+        ensures rows { IfSome result (λ it. IsClean (view it) → (rows : Kept)
+            → TellsWith self.is_told self.place rows
+            → (image : Image) → outcomes O.Disk.Disk (store_files it).0 (store_files it).1 image
+            → HoldsRows image rows) }
+        ensures found { IfSome result (λ it. IsClean (view it) → (image : Image)
+            → outcomes O.Disk.Disk (store_files it).0 (store_files it).1 image
             → ∥ ((db : Trees) × MayLeaveAt self.place db × HoldsDatabase image db) ∥₁) }
     {
         self.place.leave()
@@ -138,12 +162,21 @@ impl<O: Opens> StoreKeeper<O> {
     /// Makes all the changes, in order, or none of them.
     fn change_all(&mut self, changes: &[RowChange]) -> Result<(), Stop>
         ensures faults { self.new.faults ≡ self.old.faults }
-        ensures all { OnOk result (HasAll (λ k. TellsWith k.is_told k.place) self.old self.new changes.now) }
+        ensures all { OnOk result (HasAll
+            (λ k. TellsWith k.is_told k.place) self.old self.new changes.now) }
         ensures none { OnErr result (Stays (λ k. TellsWith k.is_told k.place) self.old self.new) }
         ensures silent { StaysSilent (λ k. TellsWith k.is_told k.place) self.old self.new }
         ensures still { IsTrue self.old.is_told → IsTrue self.new.is_told }
-        ensures crash { (before : Kept) → TellsWith self.old.is_told self.old.place before → (db : Trees) → MayLeaveAt self.new.place db
-            → ∥ (AreRows db before ⊎ AreRows db (all_changed before changes.now)) ∥₁ }
+        ensures crash { (before : Kept) → TellsWith self.old.is_told self.old.place before
+            → (db : Trees) → MayLeaveAt self.new.place db
+            → ∥ (AreRows db before ⊎ AreRows db (rows_after_changes before changes.now)) ∥₁ }
+        ensures placed { StaysAt self.old.place self.new.place }
+        ensures stored { OnOk result (IsStore self.old.place) }
+        ensures memory { IsInMemory self.old.place → (before : Kept)
+            → TellsWith self.old.is_told self.old.place before
+            → MatchResult result (λ _. TellsWith self.new.is_told self.new.place
+            (rows_after_changes before changes.now))
+            (λ _. TellsWith self.new.is_told self.new.place before) }
     {
         self.place.change(changes)
     }
@@ -162,21 +195,37 @@ impl<O: Opens> Keeper for StoreKeeper<O> {
 
     fn load(&mut self, alloc: Global, place: Option<&str>) -> Result<Tables, KeepErr>
         ensures found { IfOk result (λ rows. Unit {0}) }
-        ensures rows { IfOk result (λ rows. (now : Kept) → TellsWith self.new.is_told self.new.place now → now ≡ rows) }
+        ensures rows { IfOk result (λ rows. (now : Kept)
+            → TellsWith self.new.is_told self.new.place now → now ≡ rows) }
         ensures stays { Stays (λ k. TellsWith k.is_told k.place) self.old self.new }
-        ensures silent { OnErr result (StaysSilent (λ k. TellsWith k.is_told k.place) self.old self.new) }
+        ensures silent { OnErr result (StaysSilent
+            (λ k. TellsWith k.is_told k.place) self.old self.new) }
         ensures loaded { OnOk result ∥ Unit {0} ∥₁ }
         ensures cause { HasCause self.old.faults self.new.faults result }
         ensures steady { ⊥ → ⊥ }
         ensures unfailing { ⊥ → IfFailed result ⊥ }
 
-        // A store in memory is told from its first load on, the first load of a file gives what the file held, what is told stays so, and a store that
-        // has the one table is told while it is clean.
-        ensures memory { self.old.place ≡ Nowhere → place.entry ≡ None → OnOk result (IsTrue self.new.is_told) }
+        // The first load opens a store, in memory where there is no path, and in a file where there is one. A later load keeps to it.
+        ensures opened { self.old.place ≡ Nowhere
+            → OnOk result (IsPlacedBy place.entry self.new.place) }
+        ensures placed { OnOk result (StaysAt self.old.place self.new.place) }
+
+        // In memory the rows that the first load gives are known from then on, and a later load gives the known rows.
+        ensures memory { self.old.place ≡ Nowhere → place.entry ≡ None
+            → IfOk result (λ rows. TellsWith self.new.is_told self.new.place rows) }
+        ensures again { IsInMemory self.old.place → (before : Kept)
+            → TellsWith self.old.is_told self.old.place before
+            → TellsWith self.new.is_told self.new.place before
+            × IfOk result (λ rows. rows ≡ before) }
+
+        // The first load of a file gives the rows that the file held. Known rows stay known, and those of a store that is the one table are known while
+        // it is clean.
         ensures still { IsTrue self.old.is_told → IsTrue self.new.is_told }
         ensures file { self.old.place ≡ Nowhere → self.old.is_told ≡ false → IsSome place.entry
-            → IfOk result (λ rows. LoadsAt (O.Opens.image self.old.opener) self.new.place self.new.is_told rows) }
-        ensures tells { OnOk result (IsShapedAt self.new.place → IsCleanAt self.new.place → ∥ ((rows : Kept) × TellsWith self.new.is_told self.new.place rows) ∥₁) }
+            → IfOk result (λ rows. LoadsAt
+            (O.Opens.image self.old.opener) self.new.place self.new.is_told rows) }
+        ensures tells { OnOk result (IsShapedAt self.new.place → IsCleanAt self.new.place
+            → ∥ ((rows : Kept) × TellsWith self.new.is_told self.new.place rows) ∥₁) }
     {
         match self.load_all(alloc, place) {
             Ok(tables) => Ok(tables),
@@ -185,7 +234,8 @@ impl<O: Opens> Keeper for StoreKeeper<O> {
     }
 
     fn apply(&mut self, _alloc: Global, changes: &[RowChange]) -> Result<(), KeepErr>
-        ensures all { OnOk result (HasAll (λ k. TellsWith k.is_told k.place) self.old self.new changes.now) }
+        ensures all { OnOk result (HasAll
+            (λ k. TellsWith k.is_told k.place) self.old self.new changes.now) }
         ensures none { OnErr result (Stays (λ k. TellsWith k.is_told k.place) self.old self.new) }
         ensures silent { StaysSilent (λ k. TellsWith k.is_told k.place) self.old self.new }
         ensures loaded { ∥ Unit {0} ∥₁ }
@@ -194,9 +244,20 @@ impl<O: Opens> Keeper for StoreKeeper<O> {
         ensures unfailing { ⊥ → IfFailed result ⊥ }
         ensures still { IsTrue self.old.is_told → IsTrue self.new.is_told }
 
+        // Only a keeper that has a store answers Ok, and it keeps to that store. In memory its known rows are then those with all the changes, and after
+        // an error those before.
+        ensures stored { OnOk result (IsStore self.old.place) }
+        ensures placed { StaysAt self.old.place self.new.place }
+        ensures memory { IsInMemory self.old.place → (before : Kept)
+            → TellsWith self.old.is_told self.old.place before
+            → MatchResult result (λ _. TellsWith self.new.is_told self.new.place
+            (rows_after_changes before changes.now))
+            (λ _. TellsWith self.new.is_told self.new.place before) }
+
         // A crash leaves the rows as they were or with all the changes.
-        ensures crash { (before : Kept) → TellsWith self.old.is_told self.old.place before → (db : Trees) → MayLeaveAt self.new.place db
-            → ∥ (AreRows db before ⊎ AreRows db (all_changed before changes.now)) ∥₁ }
+        ensures crash { (before : Kept) → TellsWith self.old.is_told self.old.place before
+            → (db : Trees) → MayLeaveAt self.new.place db
+            → ∥ (AreRows db before ⊎ AreRows db (rows_after_changes before changes.now)) ∥₁ }
     {
         match self.change_all(changes) {
             Ok(()) => Ok(()),

@@ -4,7 +4,7 @@ ghost use Rattle.std.specs.Prelude.{◌≡◌, ◌⊎◌, false, IfSome};
 ghost use Rattle.sqlite_store.specs.FileStore.{view, files as store_files};
 ghost use Rattle.sqlite_trees.specs.View.{IsClean};
 ghost use Rattle.sqlite_wal.specs.Files.{outcomes};
-ghost use Rattle.oe_keeper.specs.Kept.{Kept, all_changed};
+ghost use Rattle.oe_keeper.specs.Kept.{Kept, rows_after_changes};
 ghost use Rattle.oe_sqlite.specs.declared.place.Place.TheVariants.{Nowhere};
 ghost use Rattle.oe_sqlite.specs.Places.{TellsWith, IsCleanAt};
 
@@ -14,8 +14,8 @@ use oe_keeper::{Keeper, RowChange, Tables};
 use sqlite::FileStore;
 use std::alloc::Global;
 
-/// Ends a keeper and loads the next one. Where that one's opener finds what the disk may have left of the files, also by a crash, it tells from its first
-/// load on what the keeper told that ended, and its load gives these rows.
+/// Ends a keeper and loads the next one. Where the next opener finds what the disk may have left of the files, also after a crash, the
+/// known rows of the ended keeper are those of the next: its first load returns them.
 pub fn told_again<O: Opens, P: Opens>(
     alloc: Global,
     ended: StoreKeeper<O>,
@@ -24,7 +24,8 @@ pub fn told_again<O: Opens, P: Opens>(
 ) -> Option<(FileStore<O::Disk>, StoreKeeper<P>, Tables)>
     ensures { IfSome result (λ r. IsClean (view r.0) → next.place ≡ Nowhere → next.is_told ≡ false
         → outcomes O.Disk.Disk (store_files r.0).0 (store_files r.0).1 (P.Opens.image next.opener)
-        → (rows : Kept) → TellsWith ended.is_told ended.place rows → IsCleanAt r.1.place → TellsWith r.1.is_told r.1.place rows × (r.2 ≡ rows)) }
+        → (rows : Kept) → TellsWith ended.is_told ended.place rows → IsCleanAt r.1.place
+        → TellsWith r.1.is_told r.1.place rows × (r.2 ≡ rows)) }
 {
     let mut next = next;
     let store = ended.leave()?;
@@ -34,8 +35,8 @@ pub fn told_again<O: Opens, P: Opens>(
     }
 }
 
-/// The same where the keeper that ended had been handed changes, wherever its disk stopped on the way: the next one tells the rows before them or those
-/// with all of them.
+/// As above, where the ended keeper was applying changes, wherever its disk stopped: the next keeper's rows are those before the changes
+/// or those with all of them.
 pub fn told_after_crash<O: Opens, P: Opens>(
     alloc: Global,
     ended: StoreKeeper<O>,
@@ -46,7 +47,8 @@ pub fn told_after_crash<O: Opens, P: Opens>(
     ensures { IfSome result (λ r. IsClean (view r.0) → next.place ≡ Nowhere → next.is_told ≡ false
         → outcomes O.Disk.Disk (store_files r.0).0 (store_files r.0).1 (P.Opens.image next.opener)
         → (before : Kept) → TellsWith ended.is_told ended.place before → IsCleanAt r.1.place
-        → ∥ ((rows : Kept) × ((rows ≡ before) ⊎ (rows ≡ all_changed before changes.now)) × TellsWith r.1.is_told r.1.place rows × (r.2 ≡ rows)) ∥₁) }
+        → ∥ ((rows : Kept) × ((rows ≡ before) ⊎ (rows ≡ rows_after_changes before changes.now))
+        × TellsWith r.1.is_told r.1.place rows × (r.2 ≡ rows)) ∥₁) }
 {
     let mut ended = ended;
     let mut next = next;

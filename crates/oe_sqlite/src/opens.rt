@@ -1,4 +1,4 @@
-//! What opens the files of a place.
+//! The trait of openers of files.
 
 ghost use Rattle.std.specs.Prelude.{[], IfOk};
 ghost use Rattle.sqlite_wal.specs.Files.{image_at};
@@ -12,23 +12,24 @@ use sqlite_disk::Disk;
 
 /// Opens the files of a place.
 pub trait Opens: Drop {
-    /// What the files are on.
+    /// The disk that the files are on.
     type Disk: Disk + Drop;
 
-    /// What the files hold that it opens next.
+    /// The contents of the files that it opens next.
     ghost image: { Self → Image };
 
-    /// Opens the file at the path, or makes it.
+    /// Opens the file at the path, or creates it.
     ///
     /// # Errors
     ///
     /// Those of the store.
     fn open(&mut self, path: &str) -> Result<Connection<FileStore<Self::Disk>>, Error>
         ensures opened { IfOk result (λ c. HasCleanDisk (file_state c) → IsOpened c) }
-        ensures found { IfOk result (λ c. HasCleanDisk (file_state c) → FindsIn (image self.old) (file_state c)) };
+        ensures found { IfOk result (λ c. HasCleanDisk (file_state c)
+            → FindsIn (image self.old) (file_state c)) };
 }
 
-/// The files of the machine. What it says of their rows it says of files that hold nothing yet.
+/// The files of the machine. Its contracts on their rows hold for new files only.
 #[derive(Drop)]
 pub struct HostFiles<'a> {
     rt: &'a HostRuntime,
@@ -54,7 +55,7 @@ impl<'a> Opens for HostFiles<'a> {
     }
 }
 
-/// The files of the machine, opened once, where `S` stands for what they hold.
+/// The files of the machine, opened once, where `S` stands for their contents.
 #[derive(Drop)]
 pub struct StartFiles<'a, S: Start> {
     rt: &'a HostRuntime,

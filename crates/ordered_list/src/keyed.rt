@@ -5,7 +5,7 @@ ghost use Rattle.std.specs.Arc.{arc_value};
 
 use std::sync::Arc;
 
-/// A value with a key, under which an ordered list holds it.
+/// A value with a key, by which an ordered list orders and finds it.
 pub trait Keyed {
     type Key: Ord + Copy;
 
@@ -16,7 +16,7 @@ pub trait Keyed {
         ensures { result ≡ key self.now };
 }
 
-/// A shared value stands under its own key.
+/// A shared value has the key of the value.
 impl<T: Keyed + Drop> Keyed for Arc<T> {
     type Key = T::Key;
 

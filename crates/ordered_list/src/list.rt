@@ -10,7 +10,7 @@ use std::alloc::{AllocError, Global};
 use std::marker::Model;
 use std::sync::Arc;
 
-/// A list of items in rising order of their keys, no two of which are equal; seen as the list of the items.
+/// A list of items in rising order of their keys, no two of which are equal; contracts see it as the list of the items.
 #[derive(Drop)]
 pub struct OrderedList<T: Keyed + Drop> {
     items: Vec<T>,
@@ -27,7 +27,7 @@ impl<T: Keyed + Drop> Model for OrderedList<T> {
     ghost invariant = { λ l. Rises T.Key.cmp T.key l.items.items };
 }
 
-/// Where the item under this key stands, or where it would stand.
+/// The place of the item under this key, or the place where it would be inserted.
 fn place<T: Keyed + Drop>(items: &[T], key: &T::Key) -> Result<usize, usize>
     ensures within { IsSearchInRange result (length items.now) }
     ensures found { IsBinarySearchResult (λ y. T.Key.cmp (T.key y) key.now) items.now result }
@@ -36,7 +36,7 @@ fn place<T: Keyed + Drop>(items: &[T], key: &T::Key) -> Result<usize, usize>
 }
 
 impl<T: Keyed + Drop> OrderedList<T> {
-    /// No items. It takes no memory.
+    /// An empty list. It takes no memory.
     pub fn empty(alloc: Global) -> OrderedList<T>
         ensures { result ≡ [] }
     {
@@ -45,7 +45,7 @@ impl<T: Keyed + Drop> OrderedList<T> {
         }
     }
 
-    /// How many items there are.
+    /// The number of items.
     pub fn len(&self) -> usize
         ensures { result ≡ length self.now }
     {
@@ -84,11 +84,11 @@ impl<T: Keyed + Drop> OrderedList<T> {
         self.find(key).is_some()
     }
 
-    /// Puts the item in its place, instead of the one under its key, which is handed back.
+    /// Puts the item in its place, instead of the one under its key, which is returned.
     ///
     /// # Errors
     ///
-    /// `AllocError` where memory was refused. The list then stays as it was.
+    /// `AllocError` where memory was refused; the list is then unchanged.
     pub fn put(&mut self, item: T) -> Result<Option<T>, AllocError>
         ensures put { IfOk result (λ _. self.new ≡ put_by T.Key.cmp T.key item self.old) }
         ensures before { IfOk result (λ o. o ≡ found_by T.Key.cmp T.key (T.key item) self.old) }
@@ -106,7 +106,7 @@ impl<T: Keyed + Drop> OrderedList<T> {
         }
     }
 
-    /// Takes the item under the key out.
+    /// Removes the item under the key and returns it.
     pub fn remove(&mut self, key: &T::Key) -> Option<T>
         ensures removed { self.new ≡ removed_by T.Key.cmp T.key key.now self.old }
         ensures taken { result ≡ found_by T.Key.cmp T.key key.now self.old }

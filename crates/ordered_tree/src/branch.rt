@@ -1,17 +1,17 @@
-//! The parts of a tree, and the forks that they are made of.
+//! The nodes of a tree.
 //!
-//! A tree is an AVL tree: of the two sides of a fork one is at most one level higher. No contract says so, since only the time that a
-//! look-up takes hangs on it; each says which items are listed.
+//! The tree is an AVL tree: the two sides of a fork differ by at most one level. No contract states this, since only the time of a look-up
+//! depends on it; the contracts state which items are listed.
 
 ghost use Rattle.std.specs.Prelude.{◌≡◌, ◌+◌, ◌++◌, ◌∷◌, IfOk, length};
 ghost use Rattle.std.specs.Arc.{arc_value};
-ghost use Rattle.ordered_tree.specs.Branches.{IsCounted, listed};
+ghost use Rattle.ordered_tree.specs.Branches.{IsCounted, items_of};
 
 use grid_exact::NoMemory;
 use std::alloc::Global;
 use std::sync::Arc;
 
-/// A part of the order.
+/// A part of the tree.
 #[derive(Drop)]
 #[cycle(branch)]
 pub(crate) enum Branch<T: Drop> {
@@ -19,7 +19,7 @@ pub(crate) enum Branch<T: Drop> {
     Fork(Arc<Fork<T>>),
 }
 
-/// An item, and those below and above it.
+/// An item, and the items below and above it.
 #[derive(Drop)]
 #[cycle(branch)]
 pub(crate) struct Fork<T: Drop> {
@@ -27,13 +27,13 @@ pub(crate) struct Fork<T: Drop> {
     pub(crate) below: Branch<T>,
     pub(crate) above: Branch<T>,
     height: u32,
-    /// How many items there are: its own, and those below and above it.
+    /// The number of items: the fork's own, and those below and above it.
     count: usize,
 }
 
-/// The same part, shared.
+/// The same part, shared with the old tree.
 pub(crate) fn shared_branch<T: Drop>(branch: &Branch<T>) -> Result<Branch<T>, NoMemory>
-    ensures listed { IfOk result (λ b. listed b ≡ listed branch.now) }
+    ensures listed { IfOk result (λ b. items_of b ≡ items_of branch.now) }
     ensures counted { IfOk result (λ b. IsCounted branch.now → IsCounted b) }
 {
     match branch {
@@ -45,7 +45,7 @@ pub(crate) fn shared_branch<T: Drop>(branch: &Branch<T>) -> Result<Branch<T>, No
     }
 }
 
-/// How many levels a part has.
+/// The number of levels of a part.
 pub(crate) fn height<T: Drop>(branch: &Branch<T>) -> u32 {
     match branch {
         Branch::Leaf => 0,
@@ -53,9 +53,9 @@ pub(crate) fn height<T: Drop>(branch: &Branch<T>) -> u32 {
     }
 }
 
-/// How many items a part has.
+/// The number of items in a part.
 pub(crate) fn count<T: Drop>(branch: &Branch<T>) -> usize
-    ensures { IsCounted branch.now → result ≡ length (listed branch.now) }
+    ensures { IsCounted branch.now → result ≡ length (items_of branch.now) }
 {
     match branch {
         Branch::Leaf => 0,
@@ -63,11 +63,11 @@ pub(crate) fn count<T: Drop>(branch: &Branch<T>) -> usize
     }
 }
 
-/// How many items a fork of two parts has. So many that a `usize` does not count them would have no room in any memory.
+/// The number of items in a fork of two parts. A number that does not fit a `usize` would fit no memory, so it is reported as `NoMemory`.
 fn count_with<T: Drop>(below: &Branch<T>, above: &Branch<T>) -> Result<usize, NoMemory>
     requires below { IsCounted below.now }
     requires above { IsCounted above.now }
-    ensures { IfOk result (λ n. n ≡ length (listed below.now) + 1 + length (listed above.now)) }
+    ensures { IfOk result (λ n. n ≡ length (items_of below.now) + 1 + length (items_of above.now)) }
 {
     match count(below).checked_add(count(above)) {
         None => Err(NoMemory),
@@ -84,7 +84,8 @@ pub(crate) fn branched<T: Drop>(
 ) -> Result<Branch<T>, NoMemory>
     requires below { IsCounted below }
     requires above { IsCounted above }
-    ensures listed { IfOk result (λ b. listed b ≡ listed below ++ arc_value item ∷ listed above) }
+    ensures listed { IfOk result (λ b. items_of b ≡ items_of below ++ arc_value item
+        ∷ items_of above) }
     ensures counted { IfOk result (λ b. IsCounted b) }
 {
     let count = count_with(&below, &above)?;

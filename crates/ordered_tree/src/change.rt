@@ -1,9 +1,9 @@
-//! An item put into a tree, and an item taken out: the forks on the way to it are made anew, and all others are shared.
+//! Putting and removing an item: the forks on the path to it are made anew, and all others are shared.
 
 ghost use Rattle.std.specs.Prelude.{◌≡◌, ◌++◌, ◌∷◌, IfOk};
 ghost use Rattle.std.specs.Arc.{arc_value};
 ghost use Rattle.ordered_list.specs.Ordered.{Rises, put_by, removed_by};
-ghost use Rattle.ordered_tree.specs.Branches.{IsCounted, IsCountedIn, listed, listed_in};
+ghost use Rattle.ordered_tree.specs.Branches.{IsCounted, IsCountedIn, items_of, items_of_fork};
 
 use crate::branch::{Branch, Fork, branched, shared_branch};
 use crate::key_of::KeyOf;
@@ -13,7 +13,7 @@ use std::alloc::Global;
 use std::cmp::Ordering;
 use std::sync::Arc;
 
-/// The order with the item in its place, instead of the one under its key.
+/// The part with the item in its place, instead of the one under its key.
 #[cycle(insert)]
 pub(crate) fn insert<T: Drop, K: KeyOf<T>>(
     alloc: Global,
@@ -21,7 +21,8 @@ pub(crate) fn insert<T: Drop, K: KeyOf<T>>(
     item: Arc<T>,
 ) -> Result<Branch<T>, NoMemory>
     requires branch { IsCounted branch.now }
-    ensures listed { IfOk result (λ b. Rises K.Key.cmp K.key_of (listed branch.now) → listed b ≡ put_by K.Key.cmp K.key_of (arc_value item) (listed branch.now)) }
+    ensures listed { IfOk result (λ b. Rises K.Key.cmp K.key_of (items_of branch.now) →
+        items_of b ≡ put_by K.Key.cmp K.key_of (arc_value item) (items_of branch.now)) }
     ensures counted { IfOk result (λ b. IsCounted b) }
 {
     match branch {
@@ -37,7 +38,8 @@ fn insert_in<T: Drop, K: KeyOf<T>>(
     item: Arc<T>,
 ) -> Result<Branch<T>, NoMemory>
     requires old { IsCountedIn old.now }
-    ensures listed { IfOk result (λ b. Rises K.Key.cmp K.key_of (listed_in old.now) → listed b ≡ put_by K.Key.cmp K.key_of (arc_value item) (listed_in old.now)) }
+    ensures listed { IfOk result (λ b. Rises K.Key.cmp K.key_of (items_of_fork old.now) →
+        items_of b ≡ put_by K.Key.cmp K.key_of (arc_value item) (items_of_fork old.now)) }
     ensures counted { IfOk result (λ b. IsCounted b) }
 {
     match K::key(&item).cmp(&K::key(&old.item)) {
@@ -61,10 +63,10 @@ fn insert_in<T: Drop, K: KeyOf<T>>(
     }
 }
 
-/// The first item, and the order of the others.
+/// The first item, and the part with the others.
 fn first_out<T: Drop>(alloc: Global, old: &Fork<T>) -> Result<(Arc<T>, Branch<T>), NoMemory>
     requires old { IsCountedIn old.now }
-    ensures listed { IfOk result (λ r. listed_in old.now ≡ arc_value r.0 ∷ listed r.1) }
+    ensures listed { IfOk result (λ r. items_of_fork old.now ≡ arc_value r.0 ∷ items_of r.1) }
     ensures counted { IfOk result (λ r. IsCounted r.1) }
 {
     match &old.below {
@@ -83,7 +85,7 @@ fn first_out<T: Drop>(alloc: Global, old: &Fork<T>) -> Result<(Arc<T>, Branch<T>
     }
 }
 
-/// The items of one order and then those of another.
+/// The items of one part followed by those of another.
 fn joined<T: Drop>(
     alloc: Global,
     below: &Branch<T>,
@@ -91,7 +93,7 @@ fn joined<T: Drop>(
 ) -> Result<Branch<T>, NoMemory>
     requires below { IsCounted below.now }
     requires above { IsCounted above.now }
-    ensures listed { IfOk result (λ b. listed b ≡ listed below.now ++ listed above.now) }
+    ensures listed { IfOk result (λ b. items_of b ≡ items_of below.now ++ items_of above.now) }
     ensures counted { IfOk result (λ b. IsCounted b) }
 {
     match above {
@@ -104,7 +106,7 @@ fn joined<T: Drop>(
     }
 }
 
-/// The order without the item under the key.
+/// The part without the item under the key.
 #[cycle(remove)]
 pub(crate) fn remove<T: Drop, K: KeyOf<T>>(
     alloc: Global,
@@ -112,7 +114,8 @@ pub(crate) fn remove<T: Drop, K: KeyOf<T>>(
     key: K::Key,
 ) -> Result<Branch<T>, NoMemory>
     requires branch { IsCounted branch.now }
-    ensures listed { IfOk result (λ b. Rises K.Key.cmp K.key_of (listed branch.now) → listed b ≡ removed_by K.Key.cmp K.key_of key (listed branch.now)) }
+    ensures listed { IfOk result (λ b. Rises K.Key.cmp K.key_of (items_of branch.now) →
+        items_of b ≡ removed_by K.Key.cmp K.key_of key (items_of branch.now)) }
     ensures counted { IfOk result (λ b. IsCounted b) }
 {
     match branch {
@@ -128,7 +131,8 @@ fn remove_in<T: Drop, K: KeyOf<T>>(
     key: K::Key,
 ) -> Result<Branch<T>, NoMemory>
     requires old { IsCountedIn old.now }
-    ensures listed { IfOk result (λ b. Rises K.Key.cmp K.key_of (listed_in old.now) → listed b ≡ removed_by K.Key.cmp K.key_of key (listed_in old.now)) }
+    ensures listed { IfOk result (λ b. Rises K.Key.cmp K.key_of (items_of_fork old.now) →
+        items_of b ≡ removed_by K.Key.cmp K.key_of key (items_of_fork old.now)) }
     ensures counted { IfOk result (λ b. IsCounted b) }
 {
     match key.cmp(&K::key(&old.item)) {

@@ -1,10 +1,10 @@
-//! The key under which an item stands.
+//! The key of an item.
 
 ghost use Rattle.std.specs.Prelude.{◌≡◌};
 
 use ordered_list::Keyed;
 
-/// Tells the keys of items. One type of items can stand in trees by several keys.
+/// Gives the keys of items. One type of items can stand in trees by several keys.
 pub trait KeyOf<T> {
     type Key: Ord + Copy;
 
@@ -15,7 +15,7 @@ pub trait KeyOf<T> {
         ensures { result ≡ key_of item.now };
 }
 
-/// Each item stands under the key that it has as a `Keyed` value.
+/// The key that each item has as a `Keyed` value.
 pub struct OwnKey;
 
 impl<T: Keyed> KeyOf<T> for OwnKey {

@@ -1,5 +1,5 @@
-//! Ordered trees: shared items under their keys. A tree never changes. A changed one is made beside it, and shares with it all but one
-//! path of its nodes; so each call takes a time that grows with the logarithm of the number of items, or less.
+//! Ordered trees: shared items under their keys. A tree never changes. A changed one is made beside it, and is meant to share with it all
+//! but one path of its nodes; that it does, and that a tree is level, no contract says.
 #![tactic(auto)]
 
 mod branch;
@@ -11,6 +11,3 @@ mod turn;
 
 pub use key_of::{KeyOf, OwnKey};
 pub use tree::OrderedTree;
-
-#[cfg(test)]
-mod tests;

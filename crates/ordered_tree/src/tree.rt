@@ -13,7 +13,7 @@ use std::alloc::Global;
 use std::marker::{Model, PhantomData};
 use std::sync::Arc;
 
-/// Items, no two of which have equal keys. Seen as the list of the items, in rising order of their keys.
+/// Items, no two of which have equal keys. Contracts see it as the list of the items, in rising order of their keys.
 #[derive(Drop)]
 pub struct OrderedTree<T: Drop, K: KeyOf<T>> {
     root: Branch<T>,
@@ -22,18 +22,18 @@ pub struct OrderedTree<T: Drop, K: KeyOf<T>> {
 
 impl<T: Drop, K: KeyOf<T>> Model for OrderedTree<T, K> {
     ghost use Rattle.std.specs.Prelude.{List};
-    ghost use Rattle.ordered_tree.specs.Branches.{listed};
+    ghost use Rattle.ordered_tree.specs.Branches.{items_of};
     ghost use Rattle.ordered_tree.specs.Trees.{IsTree};
 
     ghost Value = { List T };
 
-    ghost view = { λ t. listed t.root };
+    ghost view = { λ t. items_of t.root };
 
     ghost invariant = { λ t. IsTree K.Key.cmp K.key_of t.root };
 }
 
 impl<T: Drop, K: KeyOf<T>> OrderedTree<T, K> {
-    /// No items. It takes no memory.
+    /// An empty tree. It takes no memory.
     pub fn empty(_alloc: Global) -> OrderedTree<T, K>
         ensures { result ≡ [] }
     {
@@ -43,7 +43,7 @@ impl<T: Drop, K: KeyOf<T>> OrderedTree<T, K> {
         }
     }
 
-    /// How many items there are.
+    /// The number of items.
     pub fn len(&self) -> usize
         ensures { result ≡ length self.now }
     {
@@ -64,14 +64,15 @@ impl<T: Drop, K: KeyOf<T>> OrderedTree<T, K> {
         Some(self.find_shared(key)?)
     }
 
-    /// The item under the key, for one who keeps it longer than the tree.
+    /// The item under the key, for a caller that keeps it longer than the tree.
     pub fn find_shared(&self, key: &K::Key) -> Option<&Arc<T>>
-        ensures { option_map arc_value (option_copied result) ≡ found_by K.Key.cmp K.key_of key.now self.now }
+        ensures { option_map arc_value (option_copied result)
+            ≡ found_by K.Key.cmp K.key_of key.now self.now }
     {
         find::<T, K>(&self.root, *key)
     }
 
-    /// The tree with the item in its place, instead of the one under its key. This tree stays as it is.
+    /// The tree with the item in its place, instead of the one under its key. This tree is unchanged.
     ///
     /// # Errors
     ///
@@ -86,7 +87,7 @@ impl<T: Drop, K: KeyOf<T>> OrderedTree<T, K> {
         })
     }
 
-    /// The tree without the item under the key. This tree stays as it is.
+    /// The tree without the item under the key. This tree is unchanged.
     ///
     /// # Errors
     ///

@@ -1,15 +1,15 @@
-//! Forks of two parts, of which one may be too high: items and parts are turned round them, so that they come out level.
+//! Rotations that balance a fork of two parts, one of which may be too high.
 
 ghost use Rattle.std.specs.Prelude.{◌≡◌, ◌++◌, ◌∷◌, IfOk};
 ghost use Rattle.std.specs.Arc.{arc_value};
-ghost use Rattle.ordered_tree.specs.Branches.{IsCounted, IsCountedIn, listed, listed_in};
+ghost use Rattle.ordered_tree.specs.Branches.{IsCounted, IsCountedIn, items_of, items_of_fork};
 
 use crate::branch::{Branch, Fork, branched, height, shared_branch};
 use grid_exact::NoMemory;
 use std::alloc::Global;
 use std::sync::Arc;
 
-/// A fork of two parts, of which one may be two levels higher.
+/// A balanced fork of two parts, one of which may be two levels higher.
 pub(crate) fn balanced<T: Drop>(
     alloc: Global,
     below: Branch<T>,
@@ -18,7 +18,8 @@ pub(crate) fn balanced<T: Drop>(
 ) -> Result<Branch<T>, NoMemory>
     requires below { IsCounted below }
     requires above { IsCounted above }
-    ensures listed { IfOk result (λ b. listed b ≡ listed below ++ arc_value item ∷ listed above) }
+    ensures listed { IfOk result (λ b. items_of b ≡ items_of below ++ arc_value item
+        ∷ items_of above) }
     ensures counted { IfOk result (λ b. IsCounted b) }
 {
     let (low, high) = (height(&below), height(&above));
@@ -31,7 +32,7 @@ pub(crate) fn balanced<T: Drop>(
     branched(alloc, below, item, above)
 }
 
-/// A fork of two parts, of which the one below is higher.
+/// A balanced fork of two parts, where the one below is higher.
 fn lean_below<T: Drop>(
     alloc: Global,
     below: &Branch<T>,
@@ -40,7 +41,8 @@ fn lean_below<T: Drop>(
 ) -> Result<Branch<T>, NoMemory>
     requires below { IsCounted below.now }
     requires above { IsCounted above }
-    ensures listed { IfOk result (λ b. listed b ≡ listed below.now ++ arc_value item ∷ listed above) }
+    ensures listed { IfOk result (λ b. items_of b ≡ items_of below.now ++ arc_value item
+        ∷ items_of above) }
     ensures counted { IfOk result (λ b. IsCounted b) }
 {
     match below {
@@ -57,7 +59,8 @@ fn turn_below<T: Drop>(
 ) -> Result<Branch<T>, NoMemory>
     requires low { IsCountedIn low.now }
     requires above { IsCounted above }
-    ensures listed { IfOk result (λ b. listed b ≡ listed_in low.now ++ arc_value item ∷ listed above) }
+    ensures listed { IfOk result (λ b. items_of b ≡ items_of_fork low.now ++ arc_value item
+        ∷ items_of above) }
     ensures counted { IfOk result (λ b. IsCounted b) }
 {
     if height(&low.below) < height(&low.above) {
@@ -76,7 +79,8 @@ fn turn_twice_below<T: Drop>(
 ) -> Result<Branch<T>, NoMemory>
     requires low { IsCountedIn low.now }
     requires above { IsCounted above }
-    ensures listed { IfOk result (λ b. listed b ≡ listed_in low.now ++ arc_value item ∷ listed above) }
+    ensures listed { IfOk result (λ b. items_of b ≡ items_of_fork low.now ++ arc_value item
+        ∷ items_of above) }
     ensures counted { IfOk result (λ b. IsCounted b) }
 {
     let below = shared_branch(&low.below)?;
@@ -84,7 +88,7 @@ fn turn_twice_below<T: Drop>(
     middle_below(alloc, below, first, &low.above, item, above)
 }
 
-/// Two items, and the parts below, between and above them.
+/// A fork of two items and the parts below, between and above them.
 fn middle_below<T: Drop>(
     alloc: Global,
     below: Branch<T>,
@@ -96,7 +100,9 @@ fn middle_below<T: Drop>(
     requires below { IsCounted below }
     requires middle { IsCounted middle.now }
     requires above { IsCounted above }
-    ensures listed { IfOk result (λ b. listed b ≡ (listed below ++ arc_value first ∷ listed middle.now) ++ arc_value item ∷ listed above) }
+    ensures listed { IfOk result (λ b. items_of b
+        ≡ (items_of below ++ arc_value first ∷ items_of middle.now) ++ arc_value item
+        ∷ items_of above) }
     ensures counted { IfOk result (λ b. IsCounted b) }
 {
     match middle {
@@ -119,7 +125,9 @@ fn split_middle<T: Drop>(
     requires below { IsCounted below }
     requires middle { IsCountedIn middle.now }
     requires above { IsCounted above }
-    ensures listed { IfOk result (λ b. listed b ≡ (listed below ++ arc_value first ∷ listed_in middle.now) ++ arc_value item ∷ listed above) }
+    ensures listed { IfOk result (λ b. items_of b
+        ≡ (items_of below ++ arc_value first ∷ items_of_fork middle.now) ++ arc_value item
+        ∷ items_of above) }
     ensures counted { IfOk result (λ b. IsCounted b) }
 {
     let below = branched(alloc, below, first, shared_branch(&middle.below)?)?;
@@ -127,7 +135,7 @@ fn split_middle<T: Drop>(
     branched(alloc, below, Arc::try_clone(&middle.item)?, above)
 }
 
-/// A fork of two parts, of which the one above is higher.
+/// A balanced fork of two parts, where the one above is higher.
 fn lean_above<T: Drop>(
     alloc: Global,
     below: Branch<T>,
@@ -136,7 +144,8 @@ fn lean_above<T: Drop>(
 ) -> Result<Branch<T>, NoMemory>
     requires below { IsCounted below }
     requires above { IsCounted above.now }
-    ensures listed { IfOk result (λ b. listed b ≡ listed below ++ arc_value item ∷ listed above.now) }
+    ensures listed { IfOk result (λ b. items_of b ≡ items_of below ++ arc_value item
+        ∷ items_of above.now) }
     ensures counted { IfOk result (λ b. IsCounted b) }
 {
     match above {
@@ -153,7 +162,8 @@ fn turn_above<T: Drop>(
 ) -> Result<Branch<T>, NoMemory>
     requires below { IsCounted below }
     requires high { IsCountedIn high.now }
-    ensures listed { IfOk result (λ b. listed b ≡ listed below ++ arc_value item ∷ listed_in high.now) }
+    ensures listed { IfOk result (λ b. items_of b ≡ items_of below ++ arc_value item
+        ∷ items_of_fork high.now) }
     ensures counted { IfOk result (λ b. IsCounted b) }
 {
     if height(&high.above) < height(&high.below) {
@@ -172,7 +182,8 @@ fn turn_twice_above<T: Drop>(
 ) -> Result<Branch<T>, NoMemory>
     requires below { IsCounted below }
     requires high { IsCountedIn high.now }
-    ensures listed { IfOk result (λ b. listed b ≡ listed below ++ arc_value item ∷ listed_in high.now) }
+    ensures listed { IfOk result (λ b. items_of b ≡ items_of below ++ arc_value item
+        ∷ items_of_fork high.now) }
     ensures counted { IfOk result (λ b. IsCounted b) }
 {
     let above = shared_branch(&high.above)?;

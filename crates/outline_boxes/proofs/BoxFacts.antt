@@ -202,10 +202,10 @@ rectangle_least r e a i h = record {
       };
 }
 
-end_up : (a l d : ℤ) → a -ℤ (l +ℤ d) ≡ (a -ℤ l) -ℤ d
+pub end_up : (a l d : ℤ) → a -ℤ (l +ℤ d) ≡ (a -ℤ l) -ℤ d
 end_up a l d = omega (arith, ints)
 
-end_down : (a l d : ℤ) → (l +ℤ d) -ℤ a ≡ (l -ℤ a) -ℤ neg_ℤ d
+pub end_down : (a l d : ℤ) → (l +ℤ d) -ℤ a ≡ (l -ℤ a) -ℤ neg_ℤ d
 end_down a l d = omega (arith, ints)
 
 rectangle_side : (r : Rectangle) (e : Edges) (f v y z m : ℤ) (q b : ℕ) → AreRectangleEdges r e → OnRectangle r (record { along = m; aside = q; square = square r.line }) →

@@ -1,4 +1,4 @@
--- The least whole box that holds something.
+-- The least whole box around an outline.
 use Rattle.std.specs.Prelude.{ℤ, ◌+ℤ◌, ◌-ℤ◌, ◌≤ℤ◌}
 use Rattle.grid_exact.specs.declared.area.Area.{Area}
 
@@ -9,12 +9,12 @@ pub record Encloses (outer inner : Area) : Type 0 where
   pub east : inner.x1 ≤ℤ outer.x1
   pub north : inner.y1 ≤ℤ outer.y1
 
--- a whole box that holds it, and lies in every other whole box that does
+-- a whole box that contains the outline, and lies in every other whole box that does
 pub record IsLeastBox (Holds : Area → Type 0) (box : Area) : Type 0 where
   pub holds : Holds box
   pub least : (other : Area) → Holds other → Encloses other box
 
--- a box moved inward by a margin on each side, for what is held with that margin around it
+-- a box with each side moved inward by a margin: the margin-free part of a box that contains an outline with a margin
 abbrev pub shrunk : Area → ℤ → Area
 shrunk a margin = record {
   x0 = a.x0 +ℤ margin;
@@ -23,7 +23,7 @@ shrunk a margin = record {
   y1 = a.y1 -ℤ margin;
 }
 
--- the box holds two boxes
+-- the box contains both boxes
 pub record HoldsBoth (a b box : Area) : Type 0 where
   pub first : Encloses box a
   pub second : Encloses box b

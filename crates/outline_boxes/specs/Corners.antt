@@ -1,4 +1,4 @@
--- Corners of rotated outlines, whose coordinates have a root, and whole boxes that hold them.
+-- Corners of rotated outlines, whose coordinates have a square root, and whole boxes that contain them.
 use Rattle.std.specs.Prelude.{ℕ, ℤ, ◌-ℤ◌, ◌*ℤ◌, neg_ℤ}
 use Rattle.grid_exact.specs.Root.{AtLeastRoot, AtMostRoot}
 use Rattle.grid_exact.specs.Lines.{Line, square}
@@ -22,14 +22,14 @@ pub record Corner : Type 0 where
   pub x : Coordinate
   pub y : Coordinate
 
--- the closed box holds the corner
+-- the closed box contains the corner
 pub record HasCorner (a : Area) (c : Corner) : Type 0 where
   pub west : IsFrom c.x a.x0
   pub east : IsUpTo c.x a.x1
   pub south : IsFrom c.y a.y0
   pub north : IsUpTo c.y a.y1
 
--- from the whole point (x, y) so far ahead in the direction of the line, and so far to the left of it, both by the scale
+-- the corner `ahead` along the line from the whole point (x, y) and `left` to its left, both lengths times the scale
 abbrev pub corner : Line → (scale x y ahead left : ℤ) → Corner
 corner l scale x y ahead left = record {
   x = record { base = x; part = ahead *ℤ l.dx -ℤ left *ℤ l.dy; scale = scale; square = square l };

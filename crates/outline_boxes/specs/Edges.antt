@@ -2,8 +2,8 @@
 use Rattle.std.specs.Prelude.{ℕ, ℤ, pos, ◌+ℤ◌, ◌*ℤ◌, ◌≤ℤ◌, ◌<ℤ◌}
 use Rattle.grid_exact.specs.Lines.{IsSquare}
 
--- the near edge is at the start of a line of the square n, and the far one so far ahead of it; they reach `near` and `far` to each
--- side: all by the scale
+-- the near edge is at the start of a line of square length n, and the far one `ahead` of it; they extend `near` and `far` to each
+-- side; all lengths are times the scale
 pub record IsEdges (scale ahead near far : ℤ) (n : ℕ) : Type 0 where
   pub line : IsSquare n
   pub scale_least : pos 0 <ℤ scale

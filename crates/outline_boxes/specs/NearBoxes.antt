@@ -2,7 +2,7 @@
 use Rattle.std.specs.Prelude.{◌^◌, ◌≤◌, unsigned_abs}
 use Rattle.grid_exact.specs.declared.area.Area.{Area}
 
--- no side is far off the grid
+-- every side is near the grid
 pub record IsNearBox (a : Area) : Type 0 where
   pub west : unsigned_abs a.x0 ≤ 2 ^ 26
   pub south : unsigned_abs a.y0 ≤ 2 ^ 26

@@ -1,4 +1,4 @@
--- For proofs alone: how far the corners of an outline reach in one direction.
+-- For proofs alone: the extent of the corners of an outline in one direction.
 use Rattle.std.specs.Prelude.{ℕ, ℤ, pos, ◌+ℤ◌, ◌*ℤ◌, ◌≤ℤ◌, ◌≡◌}
 use Rattle.grid_exact.specs.Root.{AtMostRoot}
 use Rattle.grid_exact.specs.Lines.{square}
@@ -6,23 +6,23 @@ use Rattle.outline_boxes.specs.Rectangles.{Rectangle}
 use Rattle.outline_boxes.specs.Trapezoids.{Trapezoid}
 use Rattle.outline_boxes.specs.declared.edges.Edges.{Edges}
 
--- z is the least at or past a corner, whose part this is
+-- z is the least whole number at or past the corner with this part
 pub record IsLeastPast (e : Edges) (part z : ℤ) : Type 0 where
   pub at : AtMostRoot part (e.scale *ℤ z) e.square
   pub least : (y : ℤ) → AtMostRoot part (e.scale *ℤ y) e.square → z ≤ℤ y
 
--- z is past the corners that reach farthest in the direction of a coordinate, of which the line's vector has `toward`, and `across`
--- in size of the other coordinate
+-- z is past the farthest corners in the direction of a coordinate; the line's vector has the component `toward` in that direction, and
+-- the other component has the size `across`
 pub record IsPast (e : Edges) (toward : ℤ) (across : ℕ) (z : ℤ) : Type 0 where
   pub near_edge : AtMostRoot (e.near *ℤ pos across) (e.scale *ℤ z) e.square
   pub far_edge : AtMostRoot (e.ahead *ℤ toward +ℤ e.far *ℤ pos across) (e.scale *ℤ z) e.square
 
--- and the least that is
+-- z is the least whole number for which this holds
 pub record IsReach (e : Edges) (toward : ℤ) (across : ℕ) (z : ℤ) : Type 0 where
   pub past : IsPast e toward across z
   pub least : (y : ℤ) → IsPast e toward across y → z ≤ℤ y
 
--- the edges of a trapezoid, and those of a rectangle, which are both at its start
+-- the edges of a trapezoid, and the edges of a rectangle, which are both at its start
 pub record AreTrapezoidEdges (t : Trapezoid) (e : Edges) : Type 0 where
   pub scale_is : e.scale ≡ t.scale
   pub ahead_is : e.ahead ≡ t.scale *ℤ t.length

@@ -1,4 +1,4 @@
--- What the outlines are.
+-- The outlines as specs see them.
 use Rattle.grid_exact.specs.Axes.{line_of}
 use Rattle.outline_boxes.specs.Rectangles.{Rectangle}
 use Rattle.outline_boxes.specs.Trapezoids.{Trapezoid}

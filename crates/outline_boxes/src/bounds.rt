@@ -1,4 +1,4 @@
-//! Areas in half the room.
+//! Areas in half the memory.
 
 ghost use Rattle.std.specs.Prelude.{◌≡◌, ◌↔◌, ◌&&◌, int_le, ◌≤ℤ◌, neg_ℤ, IsTrue};
 ghost use Rattle.std.specs.Int.{int_max, int_min};
@@ -10,14 +10,14 @@ ghost use Rattle.outline_boxes.specs.declared.bounds.TheConstants.{PLANE_LIMIT};
 use crate::spot::Spot;
 use grid_exact::Area;
 
-/// The coordinates of short boxes go from `-PLANE_LIMIT` to `PLANE_LIMIT`: a plane that has all points of the grid, and more.
+/// Greatest coordinate of short boxes, in tenths of a foot; the least is its negative. This plane contains all points of the grid.
 pub const PLANE_LIMIT: i64 = 33_554_432;
 
-/// An area in 16 bytes, half as many as `Area` takes: a visit reads one of them for each item of its squares, and most of its time
-/// goes into reading.
+/// An area in 16 bytes, half the size of `Area`: a visit reads one of them for each item in its squares, and spends most of its time
+/// reading.
 ///
-/// Of the high ends the opposites are kept: so each of the four ends is the lower side of the same test, and they stand in the order
-/// of the tests. A processor then makes all four tests by one instruction.
+/// The high ends are stored negated, so each of the four ends is the lower side of the same test, and they are stored in the order of
+/// the tests. A processor then makes all four tests by one instruction.
 #[derive(Clone, Copy)]
 pub struct Bounds {
     x0: i32,
@@ -26,14 +26,14 @@ pub struct Bounds {
     opposite_y1: i32,
 }
 
-/// The coordinate of the plane that is nearest to this one.
+/// The coordinate of the plane nearest to this one.
 fn nearest(coordinate: i64) -> i64
     ensures { result ≡ int_min (int_max coordinate (neg_ℤ PLANE_LIMIT)) PLANE_LIMIT }
 {
     coordinate.max(-PLANE_LIMIT).min(PLANE_LIMIT)
 }
 
-/// A coordinate of the plane.
+/// A coordinate of the plane as 32 bits.
 fn narrow(coordinate: i64) -> i32
     requires low { neg_ℤ PLANE_LIMIT ≤ℤ coordinate }
     requires high { coordinate ≤ℤ PLANE_LIMIT }
@@ -44,7 +44,7 @@ fn narrow(coordinate: i64) -> i32
     coordinate as i32
 }
 
-/// The opposite of a coordinate of the plane.
+/// The negative of a coordinate of the plane.
 #[tactic(auto, using(std::proofs::lemmas::Int::ints))]
 fn opposite(coordinate: i32) -> i32
     requires low { neg_ℤ PLANE_LIMIT ≤ℤ coordinate }
@@ -54,7 +54,7 @@ fn opposite(coordinate: i32) -> i32
     -coordinate
 }
 
-/// The opposite of a high end.
+/// The high end that was stored negated.
 #[tactic(auto, using(std::proofs::lemmas::Int::ints))]
 fn opposite_end(coordinate: i64) -> i32
     requires low { neg_ℤ PLANE_LIMIT ≤ℤ coordinate }
@@ -64,8 +64,8 @@ fn opposite_end(coordinate: i64) -> i32
     opposite(narrow(coordinate))
 }
 
-/// Whether a coordinate lies from `low` to the end that has this opposite. It takes no branch, which most points would have the
-/// processor guess wrong.
+/// Whether a coordinate lies from `low` to the end that has this negative. It has no branch, since the processor would mispredict it for
+/// most points.
 #[tactic(auto, using(crate::proofs::Opposites::opposites))]
 fn is_between(low: i32, coordinate: i32, opposite_high: i32, opposite_coordinate: i32) -> bool
     requires { opposite_coordinate ≡ neg_ℤ coordinate }
@@ -77,7 +77,7 @@ fn is_between(low: i32, coordinate: i32, opposite_high: i32, opposite_coordinate
 impl Bounds {
     ghost use Rattle.outline_boxes.specs.Bounds.{box_of};
 
-    /// Those of an area, whose ends need not be in order; it then has no points.
+    /// The bounds of an area. Its ends need not be in order; an area with ends out of order has no points.
     ///
     /// Its coordinates go from `-PLANE_LIMIT` to `PLANE_LIMIT`.
     pub fn of(area: &Area) -> Bounds
@@ -92,7 +92,7 @@ impl Bounds {
         }
     }
 
-    /// Those of an area with the same points of the grid as this one, which may reach out of the plane.
+    /// The bounds of an area, which may extend beyond the plane: they contain the same points of the grid as the area.
     pub fn on_grid(area: &Area) -> Bounds
         ensures { (x : APoint) → Has (box_of result) x ↔ Has area.now x }
     {
@@ -105,7 +105,7 @@ impl Bounds {
         })
     }
 
-    /// Those of an area without points.
+    /// Bounds that contain no point.
     pub fn nowhere() -> Bounds
         ensures { (x : APoint) → ¬ Has (box_of result) x }
     {
@@ -129,7 +129,7 @@ impl Bounds {
         }
     }
 
-    /// Whether the area has the point. It takes no branch.
+    /// Whether the area contains the point. It has no branch.
     #[inline(always)]
     pub fn has(&self, spot: &Spot) -> bool
         ensures test { result ≡ has_point (box_of self.now) spot.now }

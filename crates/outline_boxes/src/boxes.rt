@@ -1,4 +1,4 @@
-//! Boxes that hold boxes.
+//! Boxes that contain boxes.
 
 ghost use Rattle.std.specs.Prelude.{◌≡◌, ◌≤◌, ◌^◌, ◌-ℤ◌, ◌+ℤ◌, unsigned_abs};
 ghost use Rattle.outline_boxes.specs.Boxes.{HoldsBoth, IsLeastBox};
@@ -6,7 +6,7 @@ ghost use Rattle.outline_boxes.specs.NearBoxes.{IsNearBox};
 
 use grid_exact::Area;
 
-/// The least box that holds two boxes.
+/// The least box that contains two boxes.
 pub fn joined(a: &Area, b: &Area) -> Area
     ensures exact { IsLeastBox (HoldsBoth a.now b.now) result }
 {
@@ -20,7 +20,7 @@ pub fn joined(a: &Area, b: &Area) -> Area
     }
 }
 
-/// A box near the grid with a margin all round.
+/// A box near the grid, enlarged by a margin on each side, in tenths of a foot.
 pub(crate) fn widened(area: &Area, margin: i64) -> Area
     requires near { IsNearBox area.now }
     requires margin { unsigned_abs margin ≤ 2 ^ 26 }

@@ -1,12 +1,12 @@
-//! A first guess at a coordinate that has a root. It is tested, so nothing is asked of it; where it is right, as for nearly all corners,
-//! it saves the twenty comparisons of a search.
+//! A first guess at a coordinate that has a square root. The guess is tested, so correctness does not depend on it; where it is right, as
+//! for nearly all corners, it saves the twenty comparisons of a search.
 
 ghost use Rattle.std.specs.Prelude.{◌^◌, ◌<◌, ◌≤◌, ◌<ℤ◌, pos, unsigned_abs};
 
-/// Roots are guessed in so many parts of one, fine enough for a fraction of a tenth of a foot at the far end of an approach surface.
+/// Roots are guessed in units of 1/8,192, fine enough for a fraction of a tenth of a foot at the far end of an approach surface.
 const ROOT_PARTS: i64 = 8_192;
 
-/// One turn of Newton's method, which doubles the digits of a root that are right.
+/// One step of Newton's method, which doubles the number of correct digits.
 fn nearer(square: u64, root: u64) -> u64
     requires some { 0 < root }
     ensures some { 0 < result }
@@ -14,7 +14,7 @@ fn nearer(square: u64, root: u64) -> u64
     (root.wrapping_add(square / root) / 2).max(1)
 }
 
-/// About the square root of `square`, in parts.
+/// An approximate square root of `square`, in units of 1/8,192.
 pub(crate) fn root_in_parts(square: u128) -> i64
     requires size { square ≤ 2 ^ 37 }
     ensures some { pos 0 <ℤ result }
@@ -27,7 +27,7 @@ pub(crate) fn root_in_parts(square: u128) -> i64
     (root % (1 << 40)).max(1) as i64
 }
 
-/// About the least `z` with `part <= scale * z * sqrt(n)`, by that root in parts.
+/// An approximation of the least `z` with `part <= scale * z * sqrt(n)`, from the root in units of 1/8,192.
 pub(crate) fn guess(part: i128, scale: i64, root: i64) -> i64
     requires part { unsigned_abs part < 2 ^ 63 }
     requires scale { pos 0 <ℤ scale }

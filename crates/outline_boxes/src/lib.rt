@@ -1,5 +1,5 @@
-//! The least whole boxes of outlines that lie on both sides of a line: rectangles and trapezoids; and boxes in few bytes, which are asked
-//! for many points. Lengths and coordinates are whole tenths of a foot.
+//! The least whole boxes around rectangles and trapezoids that lie on both sides of a line; and a compact form of boxes, which are tested
+//! against many points. Lengths and coordinates are whole tenths of a foot.
 #![tactic(auto)]
 
 mod bounds;
@@ -9,8 +9,6 @@ mod guess;
 mod rectangle;
 mod sides;
 mod spot;
-#[cfg(test)]
-mod tests;
 mod trapezoid;
 
 pub use bounds::{Bounds, PLANE_LIMIT};

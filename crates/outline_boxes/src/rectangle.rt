@@ -9,13 +9,13 @@ use crate::guess::root_in_parts;
 use crate::sides::{higher, lower, past, short_of};
 use grid_exact::{Area, Axis};
 
-/// A rectangle about a line, from its start to its end, as a primary surface (77.19(c), 77.23(a)).
+/// A rectangle about a line, from its start to its end, such as a primary surface (77.19(c), 77.23(a)).
 #[derive(Clone, Copy)]
 pub struct RectangleOutline {
     pub axis: Axis,
-    /// How many of its parts, in which the half width is given, make a tenth of a foot.
+    /// Parts per tenth of a foot; the half width is given in parts.
     pub scale: i64,
-    /// How far it reaches to each side of the line, in parts.
+    /// Extent to each side of the line, in parts.
     pub half: i64,
     ghost sized: { HasRectangleSizes scale half },
 }
@@ -30,7 +30,7 @@ impl RectangleOutline {
     ghost use Rattle.outline_boxes.specs.Rectangles.{HasRectangle, HasRectangleWithin, OnRectangle};
     ghost use Rattle.outline_boxes.specs.Reaches.{AreRectangleEdges};
 
-    /// Its edge that crosses the line at its start, as both of its edges there.
+    /// The edges for both ends: the edge at the start, used as near and as far edge.
     fn edges(&self) -> Edges
         ensures { AreRectangleEdges (rectangle_shape self.now) result }
     {
@@ -45,16 +45,17 @@ impl RectangleOutline {
         }
     }
 
-    /// The least whole box that holds its four corners, which holds each point of the grid that lies on it.
+    /// The least whole box that contains the four corners, and so every point of the grid on the rectangle.
     pub fn area(&self) -> Area
         ensures exact { IsLeastBox (HasRectangle (rectangle_shape self.now)) result }
-        ensures has { (x : Point) → OnRectangle (rectangle_shape self.now) (offset (rectangle_shape self.now).line x) → Has result x }
+        ensures has { (x : Point) → OnRectangle (rectangle_shape self.now)
+            (offset (rectangle_shape self.now).line x) → Has result x }
         ensures size { IsNearBox result }
     {
         let edges = self.edges();
         let from = self.axis.from;
         let way = self.axis.way;
-        // both ends of the line have a whole way between them, so that one reach serves both
+        // both ends differ by a whole vector, so one extent serves both
         let east = edges.reach(0, way.y.unsigned_abs());
         let north = edges.reach(0, way.x.unsigned_abs());
         Area {
@@ -64,7 +65,7 @@ impl RectangleOutline {
             y1: past(higher(from.y, way.y), north),
         }
     }
-    /// The least whole box that holds its four corners with a margin all round, in tenths of a foot.
+    /// The least whole box that contains the four corners with a margin on each side, in tenths of a foot.
     pub fn area_within(&self, margin: i64) -> Area
         requires margin { unsigned_abs margin ≤ 2 ^ 26 }
         ensures exact { IsLeastBox (HasRectangleWithin (rectangle_shape self.now) margin) result }

@@ -2,7 +2,7 @@
 
 ghost use Rattle.std.specs.Prelude.{◌≡◌, ◌⊎◌, ◌+◌, ◌*◌, ◌^◌, ◌≤◌, ◌+ℤ◌, ◌-ℤ◌, ◌≤ℤ◌, neg_ℤ, unsigned_abs};
 
-/// The opposite of a coordinate of a vector.
+/// The negative of a component of a vector.
 pub(crate) fn opposite(way: i64) -> i64
     requires size { unsigned_abs way ≤ 2 ^ 27 }
     ensures value { result ≡ neg_ℤ way }
@@ -10,7 +10,7 @@ pub(crate) fn opposite(way: i64) -> i64
     -way
 }
 
-/// The lower of the coordinates at which a line starts and ends.
+/// The lower of a line's two end coordinates.
 pub(crate) fn lower(from: i64, way: i64) -> i64
     requires from { unsigned_abs from ≤ 2 ^ 25 }
     requires way { unsigned_abs way ≤ 2 ^ 19 }
@@ -22,7 +22,7 @@ pub(crate) fn lower(from: i64, way: i64) -> i64
     if way < 0 { from + way } else { from }
 }
 
-/// The higher of both.
+/// The higher of a line's two end coordinates.
 pub(crate) fn higher(from: i64, way: i64) -> i64
     requires from { unsigned_abs from ≤ 2 ^ 25 }
     requires way { unsigned_abs way ≤ 2 ^ 19 }
@@ -34,7 +34,7 @@ pub(crate) fn higher(from: i64, way: i64) -> i64
     if way < 0 { from } else { from + way }
 }
 
-/// As far below a coordinate.
+/// The coordinate minus the reach.
 pub(crate) fn short_of(from: i64, reach: i64) -> i64
     requires from { unsigned_abs from ≤ 2 ^ 25 + 2 ^ 19 }
     requires reach { unsigned_abs reach ≤ 2 ^ 21 }
@@ -44,7 +44,7 @@ pub(crate) fn short_of(from: i64, reach: i64) -> i64
     from - reach
 }
 
-/// As far above it.
+/// The coordinate plus the reach.
 pub(crate) fn past(from: i64, reach: i64) -> i64
     requires from { unsigned_abs from ≤ 2 ^ 25 + 2 ^ 19 }
     requires reach { unsigned_abs reach ≤ 2 ^ 21 }

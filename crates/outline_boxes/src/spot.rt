@@ -1,4 +1,4 @@
-//! Points made ready for the tests of many boxes.
+//! Points prepared for tests against many boxes.
 
 ghost use Rattle.std.specs.Prelude.{◌≡◌, ◌≤ℤ◌, neg_ℤ};
 ghost use Rattle.grid_exact.specs.declared.point.TheConstants.{COORDINATE_LIMIT};
@@ -6,8 +6,8 @@ ghost use Rattle.grid_exact.specs.declared.point.TheConstants.{COORDINATE_LIMIT}
 use grid_exact::Point;
 use std::marker::Model;
 
-/// A point of the grid, with its coordinates and their opposites in the order in which `Bounds` keeps the ends of an area: a processor then
-/// tests an area by one instruction, with nothing to work out before. Seen as the point.
+/// A point of the grid, stored as its coordinates and their negatives in the order in which `Bounds` stores the ends of an area: a
+/// processor then tests an area by one instruction, without preparation. Its view in contracts is the point.
 #[derive(Drop)]
 pub struct Spot {
     pub(crate) x: i32,
@@ -28,7 +28,7 @@ impl Model for Spot {
     ghost invariant = { λ s. IsSpot s.x s.opposite_x s.y s.opposite_y s.at };
 }
 
-/// A coordinate of the grid.
+/// A coordinate of the grid as 32 bits.
 fn narrow(coordinate: i64) -> i32
     requires low { neg_ℤ COORDINATE_LIMIT ≤ℤ coordinate }
     requires high { coordinate ≤ℤ COORDINATE_LIMIT }
@@ -37,7 +37,7 @@ fn narrow(coordinate: i64) -> i32
     coordinate as i32
 }
 
-/// The opposite of a coordinate of the grid.
+/// The negative of a coordinate of the grid.
 fn opposite(coordinate: i64) -> i32
     requires low { neg_ℤ COORDINATE_LIMIT ≤ℤ coordinate }
     requires high { coordinate ≤ℤ COORDINATE_LIMIT }
@@ -47,7 +47,7 @@ fn opposite(coordinate: i64) -> i32
 }
 
 impl Spot {
-    /// The point, made ready.
+    /// Prepares a point.
     pub fn of(point: &Point) -> Spot
         ensures { result ≡ point.now }
     {

@@ -9,17 +9,17 @@ use crate::guess::root_in_parts;
 use crate::sides::{opposite, past, short_of};
 use grid_exact::{Area, Axis};
 
-/// A trapezoid about a line, from its start on as far as a length, as an approach surface (77.19(d), 77.23(b)).
+/// A trapezoid about a line, from its start over a given length, such as an approach surface (77.19(d), 77.23(b)).
 #[derive(Clone, Copy)]
 pub struct TrapezoidOutline {
     pub axis: Axis,
-    /// How many of its parts, in which half widths are given, make a tenth of a foot.
+    /// Parts per tenth of a foot; the half widths are given in parts.
     pub scale: i64,
-    /// How far it reaches to each side of the line at its start, in parts.
+    /// Extent to each side of the line at its start, in parts.
     pub near: i64,
-    /// How far it reaches to each side where it ends, in parts.
+    /// Extent to each side at its far end, in parts.
     pub far: i64,
-    /// How long it is, in tenths of a foot.
+    /// Length along the line, in tenths of a foot.
     pub length: i64,
     ghost sized: { HasTrapezoidSizes scale near far length },
 }
@@ -35,7 +35,7 @@ impl TrapezoidOutline {
     ghost use Rattle.outline_boxes.specs.Trapezoids.{HasBoxAndTrapezoid, HasTrapezoid, OnTrapezoid};
     ghost use Rattle.outline_boxes.specs.Reaches.{AreTrapezoidEdges};
 
-    /// How long it is, in parts.
+    /// The length in parts.
     #[tactic(auto, using(crate::proofs::EdgeSizes::lengths))]
     fn ahead(&self) -> i64
         ensures value { result ≡ self.now.scale *ℤ self.now.length }
@@ -59,10 +59,11 @@ impl TrapezoidOutline {
         }
     }
 
-    /// The least whole box that holds its four corners, which holds each point of the grid that lies on it.
+    /// The least whole box that contains the four corners, and so every point of the grid on the trapezoid.
     pub fn area(&self) -> Area
         ensures exact { IsLeastBox (HasTrapezoid (trapezoid_shape self.now)) result }
-        ensures has { (x : Point) → OnTrapezoid (trapezoid_shape self.now) (offset (trapezoid_shape self.now).line x) → Has result x }
+        ensures has { (x : Point) → OnTrapezoid (trapezoid_shape self.now)
+            (offset (trapezoid_shape self.now).line x) → Has result x }
         ensures size { IsNearBox result }
     {
         let edges = self.edges();
@@ -76,11 +77,12 @@ impl TrapezoidOutline {
             y1: past(from.y, edges.reach(way.y, along_x)),
         }
     }
-    /// The least whole box that holds a box and its four corners, which holds each point of the grid that lies in the box or on it.
+    /// The least whole box that contains a box and the four corners, and so every point of the grid in the box or on the trapezoid.
     pub fn area_with(&self, held: &Area) -> Area
         ensures exact { IsLeastBox (HasBoxAndTrapezoid held.now (trapezoid_shape self.now)) result }
         ensures held { (x : Point) → Has held.now x → Has result x }
-        ensures has { (x : Point) → OnTrapezoid (trapezoid_shape self.now) (offset (trapezoid_shape self.now).line x) → Has result x }
+        ensures has { (x : Point) → OnTrapezoid (trapezoid_shape self.now)
+            (offset (trapezoid_shape self.now).line x) → Has result x }
     {
         joined(held, &self.area())
     }

@@ -1,4 +1,4 @@
-//! The fields of a record, one after the other.
+//! The fields of a record, taken one after the other.
 
 ghost use Rattle.std.specs.Prelude.{◌≡◌, ◌∷◌, [], ◌==◌, ◌<◌, ◌+◌, ◌^◌, true, false, take, get_or, length, All, IfSome, IfNone};
 ghost use Rattle.std.specs.List.{slice_split};
@@ -7,20 +7,20 @@ ghost use Rattle.csv.specs.Records.{fields_of};
 use csv::ByteRecord;
 use std::marker::Model;
 
-/// What is left of the fields of a record.
+/// The fields of a record that are still to be taken.
 #[derive(Clone, Copy)]
 enum Left<'a> {
-    /// The text of a line without quotes, from the next field on, with commas between the fields.
+    /// The rest of a line without quotes, from the next field on, with commas between the fields.
     Text(&'a [u8]),
-    /// Nothing.
+    /// No fields are left.
     Nothing,
-    /// The fields of a row after so many that were taken.
+    /// The fields of a row, from this place on.
     Row(&'a ByteRecord, usize),
 }
 
-/// The fields of a record that are still to be taken; seen as their list.
+/// The fields of a record that are still to be taken; contracts see it as their list.
 ///
-/// A line without quotes is cut where a field is taken, and nothing is stored of it.
+/// A line without quotes is split as fields are taken; nothing is stored.
 #[derive(Drop)]
 pub struct Fields<'a> {
     left: Left<'a>,
@@ -58,7 +58,7 @@ fn first_comma(text: &[u8]) -> Option<usize>
 }
 
 impl<'a> Fields<'a> {
-    /// The parts of a text between its commas.
+    /// The fields of a text, split at its commas.
     #[tactic(auto, using(crate::proofs::PlainFacts::few_parts))]
     pub(crate) fn of_text(text: &'a [u8]) -> Fields<'a>
         ensures parts { result ≡ slice_split (λ b. b == 44) text.now }
@@ -81,7 +81,7 @@ impl<'a> Fields<'a> {
         }
     }
 
-    // The text up to its first comma, which is then taken.
+    // The text up to its first comma; it and the comma are removed.
     #[inline(always)]
     #[tactic(auto, using(crate::proofs::PlainFacts::first_part, crate::proofs::PlainFacts::only_part))]
     fn cut(&mut self, text: &'a [u8]) -> &'a [u8]
@@ -101,7 +101,7 @@ impl<'a> Fields<'a> {
         }
     }
 
-    /// The next field, which is then taken.
+    /// Removes and returns the next field.
     #[inline(always)]
     #[tactic(auto, using(crate::proofs::RowFacts::row_next, crate::proofs::RowFacts::row_end))]
     pub fn next(&mut self) -> Option<&'a [u8]>

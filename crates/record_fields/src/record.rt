@@ -9,8 +9,8 @@ use crate::plain::is_plain;
 use csv::{ByteRecord, ReaderBuilder};
 use std::alloc::{AllocError, Global};
 
-/// The fields of a line that is one record, or `None` where it is not. A row of them is kept in `row` where the line cannot be cut at its
-/// commas.
+/// The fields of a line that is one record, or `None` where it is not. Where the line cannot be split at its commas, its fields are
+/// stored in `row`.
 ///
 /// # Errors
 ///
@@ -39,7 +39,7 @@ pub fn find_fields<'a>(
     }
 }
 
-// The same, by a reader of records.
+// The same, using a `csv` reader.
 #[inline(never)]
 fn read_one(alloc: Global, line: &[u8]) -> Result<Option<ByteRecord>, AllocError>
     ensures { IfOk result (λ row. option_map fields_of row ≡ one_record line.now) }

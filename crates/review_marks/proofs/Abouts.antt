@@ -22,7 +22,7 @@ use Rattle.airfields.specs.declared.airfield.Airfield.TheVariants.{Airport as An
 use Rattle.airfields.specs.declared.airfield.Airport.{Airport}
 use Rattle.airfields.specs.declared.airfield.Heliport.{Heliport}
 use Rattle.airfields.specs.declared.runway.Runway.{Runway}
-use Rattle.airport_register.specs.Amendments.{airfield_at, replaced}
+use Rattle.airport_register.specs.Amendments.{airfield_at, list_with_replaced}
 use Rattle.airport_register.proofs.Rules.{same_name}
 use Rattle.grid_exact.specs.declared.point.Point.{Point}
 use Rattle.grid_exact.specs.declared.cap.Cap.{Cap}
@@ -40,15 +40,15 @@ use Rattle.runway_notice.specs.Notices.{notice_slope}
 use Rattle.runway_notice.specs.declared.slope.Slope.{Slope}
 use Rattle.notice_slopes.specs.OnAirfields.{is_on_described}
 use Rattle.airfield_findings.specs.Entries.{entries, no_key, field_key, runway_key, of_runway, of_runways, of_surfaces, of_pad, of_airfield, rule_b3, slope_finding, slope_entries}
-use Rattle.airfield_findings.specs.declared.finding.Finding.{Finding}
-use Rattle.airfield_findings.specs.declared.finding.SurfaceKey.{SurfaceKey}
-use Rattle.airfield_findings.specs.declared.finding.Rule.{Rule}
-use Rattle.airfield_findings.specs.declared.finding.Rule.TheVariants as rules
+use Rattle.finding_lists.specs.declared.finding.Finding.{Finding}
+use Rattle.finding_lists.specs.declared.finding.SurfaceKey.{SurfaceKey}
+use Rattle.finding_lists.specs.declared.finding.Rule.{Rule}
+use Rattle.finding_lists.specs.declared.finding.Rule.TheVariants as rules
 use Rattle.oe_findings.specs.List.{rule_a, on_airfield, notices_of, notices_if_due, findings_of}
 use Rattle.review_marks.specs.Books.{differs}
 use Rattle.review_marks.specs.Turns.{Leads, Shows}
 use Rattle.review_marks.specs.declared.share.Share.{Share}
-use Rattle.review_marks.specs.Shares.{AirfieldChange, about, entries_by, given, is_about, is_described_field, is_due, names, on_entries, share_of}
+use Rattle.review_marks.specs.Shares.{AirfieldChange, about, entries_by, findings_of_field, is_about, is_described_field, is_due, names, on_entries, share_of}
 use Rattle.review_marks.proofs.Unconcerned.{same_lists, not_differing}
 
 -- ---- names
@@ -165,15 +165,15 @@ about_slopes site (AHeliport h) = about_entry h.id (rule_b3 site) (field_key h.i
 
 module _ (f : Airfield → List Finding) (h : (a : Airfield) → AreAbout (id_of a) (f a)) where
   at_step : (id : List ℕ) (y : Airfield) (ys : List Airfield) (o : Ordering) → name_cmp id (id_of y) ≡ o → Rises name_cmp id_of (y ∷ ys)
-      → about id (flat_map f ys) ≡ given f (airfield_at ys id) → about id (f y) ++ about id (flat_map f ys) ≡ given f (cond (is_eq o) (Some y) (airfield_at ys id))
+      → about id (flat_map f ys) ≡ findings_of_field f (airfield_at ys id) → about id (f y) ++ about id (flat_map f ys) ≡ findings_of_field f (cond (is_eq o) (Some y) (airfield_at ys id))
   at_step id y ys Less e r rest = ap (λ zs. zs ++ about id (flat_map f ys)) (none_of id (id_of y) (not_itself id (id_of y) (λ q. cc (q, e))) (f y) (h y)) ∙ rest
   at_step id y ys Equal e r rest =
       let is : id ≡ id_of y = same_name id (id_of y) e in
       let later : airfield_at ys id ≡ None = missing name_cmp nat_list_cmp_total id_of id ys (λ j d l t. (let a : name_cmp id (id_of (get_or ys j d)) ≡ name_cmp (id_of y) (id_of (get_or ys j d)) = alike name_cmp nat_list_cmp_total id (id_of y) (id_of (get_or ys j d)) e in let b : name_cmp (id_of y) (id_of (get_or ys j d)) ≡ Less = r.0 j d l in cc)) in
-      ap (λ zs. about id (f y) ++ zs) (rest ∙ ap (given f) later) ∙ append-nil (about id (f y)) ∙ ap (λ k. about k (f y)) is ∙ own (id_of y) (f y) (h y)
+      ap (λ zs. about id (f y) ++ zs) (rest ∙ ap (findings_of_field f) later) ∙ append-nil (about id (f y)) ∙ ap (λ k. about k (f y)) is ∙ own (id_of y) (f y) (h y)
   at_step id y ys Greater e r rest = ap (λ zs. zs ++ about id (flat_map f ys)) (none_of id (id_of y) (not_itself id (id_of y) (λ q. cc (q, e))) (f y) (h y)) ∙ rest
 
-  pub about_all : (id : List ℕ) (xs : List Airfield) → Rises name_cmp id_of xs → about id (flat_map f xs) ≡ given f (airfield_at xs id)
+  pub about_all : (id : List ℕ) (xs : List Airfield) → Rises name_cmp id_of xs → about id (flat_map f xs) ≡ findings_of_field f (airfield_at xs id)
   about_all id [] r = refl
   about_all id (y ∷ ys) r = filter-append (is_about id) (f y) (flat_map f ys) ∙ at_step id y ys (name_cmp id (id_of y)) refl r (about_all id ys r.1)
 
@@ -206,14 +206,14 @@ about_on id xs site None e = rw (e) refl
 about_on id xs site (Some k) e = rw (e) (on_named id k xs (pointwise nat_eq id k) refl)
 
 about_notices : (id : List ℕ) (xs : List Airfield) (site : Site) (b : Bool) → Rises name_cmp id_of xs
-    → about id (if b then notices_of xs site else []) ≡ (if b then given (slope_entries site) (airfield_at xs id) else []) ++ on_entries id (b && (names id site && is_described_field (airfield_at xs id)))
+    → about id (if b then notices_of xs site else []) ≡ (if b then findings_of_field (slope_entries site) (airfield_at xs id) else []) ++ on_entries id (b && (names id site && is_described_field (airfield_at xs id)))
 about_notices id xs site false r = refl
 about_notices id xs site true r =
     let first = entries (rule_a site) no_key (notice_excess site) in
     let slopes = flat_map (slope_entries site) xs in
     filter-append (is_about id) (first ++ slopes) (on_airfield xs site)
     ∙ ap (λ zs. zs ++ about id (on_airfield xs site)) (filter-append (is_about id) first slopes ∙ ap (λ zs. zs ++ about id slopes) (keyless id (rule_a site) (notice_excess site)) ∙ about_all (slope_entries site) (about_slopes site) id xs r)
-    ∙ ap (λ zs. given (slope_entries site) (airfield_at xs id) ++ zs) (about_on id xs site site.on refl)
+    ∙ ap (λ zs. findings_of_field (slope_entries site) (airfield_at xs id) ++ zs) (about_on id xs site site.on refl)
 
 pub about_list : (id : List ℕ) (xs : List Airfield) (site : Site) → Rises name_cmp id_of xs → about id (findings_of xs site) ≡ entries_by id site (share_of id (airfield_at xs id) site)
 about_list id xs site r =
@@ -222,8 +222,8 @@ about_list id xs site r =
     let notices = notices_if_due xs site in
     filter-append (is_about id) (first ++ standards) notices
     ∙ ap (λ zs. zs ++ about id notices) (filter-append (is_about id) first standards ∙ ap (λ zs. zs ++ about id standards) (keyless id rules.H499 (height_excess site)) ∙ about_all (of_airfield site) (about_standards site) id xs r)
-    ∙ ap (λ zs. given (of_airfield site) (airfield_at xs id) ++ zs) (about_notices id xs site (is_due site) r)
-    ∙ sym (append_assoc (given (of_airfield site) (airfield_at xs id)) (if is_due site then given (slope_entries site) (airfield_at xs id) else []) (on_entries id (is_due site && (names id site && is_described_field (airfield_at xs id)))))
+    ∙ ap (λ zs. findings_of_field (of_airfield site) (airfield_at xs id) ++ zs) (about_notices id xs site (is_due site) r)
+    ∙ sym (append_assoc (findings_of_field (of_airfield site) (airfield_at xs id)) (if is_due site then findings_of_field (slope_entries site) (airfield_at xs id) else []) (on_entries id (is_due site && (names id site && is_described_field (airfield_at xs id)))))
 
 -- a stored list with other entries about an airfield than this gives is another list than the one over the airfields
 pub other_entries : (id : List ℕ) (o : Option Airfield) (xs : List Airfield) (site : Site) (stored : List Finding) → Rises name_cmp id_of xs → o ≡ airfield_at xs id
@@ -243,7 +243,7 @@ marked_at_once xs c site stored share b s is told marked =
     sym (other_entries c.id c.is_now xs site stored s.rises s.is_there (sym (ap (λ h. differs (about c.id stored) (entries_by c.id site h)) is) ∙ sym told ∙ marked))
 
 -- the airfields after a change are those that it leads to
-rises_replaced : (id : List ℕ) (o : Option Airfield) (xs : List Airfield) → Rises name_cmp id_of xs → Rises name_cmp id_of (replaced id o xs)
+rises_replaced : (id : List ℕ) (o : Option Airfield) (xs : List Airfield) → Rises name_cmp id_of xs → Rises name_cmp id_of (list_with_replaced id o xs)
 rises_replaced id None xs r = Rises-removed name_cmp nat_list_cmp_total id_of id xs r
 rises_replaced id (Some v) xs r = Rises-put name_cmp nat_list_cmp_total id_of v xs r
 

@@ -7,11 +7,11 @@ use Rattle.airfields.specs.Sites.{Site, IsSite}
 use Rattle.airfields.specs.declared.airfield.Airfield.{Airfield}
 use Rattle.airfield_findings.specs.Entries.{of_airfield, slope_entries}
 use Rattle.airfield_findings.specs.Prepared.{airfield_of}
-use Rattle.airfield_findings.specs.declared.finding.Finding.{Finding}
+use Rattle.finding_lists.specs.declared.finding.Finding.{Finding}
 use Rattle.airfield_findings.specs.declared.prepared.Prepared.{Prepared}
 use Rattle.oe_findings.proofs.Sights.{levels_of}
 use Rattle.review_marks.specs.Near.{area_of, lies_in, IsAround}
-use Rattle.review_marks.specs.Shares.{AirfieldChange, concerns, differ_shares, given, is_due, is_described_field, names, share_of}
+use Rattle.review_marks.specs.Shares.{AirfieldChange, concerns, differ_shares, findings_of_field, is_due, is_described_field, names, share_of}
 use Rattle.review_marks.specs.declared.share.Share.{Share}
 use Rattle.review_marks.proofs.Unconcerned.{same_lists}
 
@@ -28,22 +28,22 @@ if_nothing : (b : Bool) (xs : List Finding) → xs ≡ [] → (if b then xs else
 if_nothing true xs h = h
 if_nothing false xs h = refl
 
-no_share : (id : List ℕ) (o : Option Airfield) (site : Site) → given (of_airfield site) o ≡ [] → given (slope_entries site) o ≡ [] → names id site ≡ false → share_of id o site ≡ nothing
+no_share : (id : List ℕ) (o : Option Airfield) (site : Site) → findings_of_field (of_airfield site) o ≡ [] → findings_of_field (slope_entries site) o ≡ [] → names id site ≡ false → share_of id o site ≡ nothing
 no_share id o site p q n =
-    λ i. record { standards = p i; slope = if_nothing (is_due site) (given (slope_entries site) o) q i; is_on = ap (λ (b : Bool). b && is_described_field o) n i }
+    λ i. record { standards = p i; slope = if_nothing (is_due site) (findings_of_field (slope_entries site) o) q i; is_on = ap (λ (b : Bool). b && is_described_field o) n i }
 
 -- where neither the airfield before nor the one after gives anything, the change does not concern the structure
-pub not_reached : (c : AirfieldChange) (site : Site) → given (of_airfield site) c.was ≡ [] → given (slope_entries site) c.was ≡ [] → given (of_airfield site) c.is_now ≡ [] → given (slope_entries site) c.is_now ≡ []
+pub not_reached : (c : AirfieldChange) (site : Site) → findings_of_field (of_airfield site) c.was ≡ [] → findings_of_field (slope_entries site) c.was ≡ [] → findings_of_field (of_airfield site) c.is_now ≡ [] → findings_of_field (slope_entries site) c.is_now ≡ []
     → names c.id site ≡ false → concerns c site ≡ false
 not_reached c site p q r s n =
     ap (λ (x : Share). differ_shares x (share_of c.id c.is_now site)) (no_share c.id c.was site p q n) ∙ ap (differ_shares nothing) (no_share c.id c.is_now site r s n)
     ∙ ap (λ (b : Bool). (b || b) || false) (same_lists [] [] refl)
 
-no_standards : (o : Option Prepared) (site : Site) → IsSite site → lies_in (area_of o) site.at ≡ false → given (of_airfield site) (option_map airfield_of o) ≡ []
+no_standards : (o : Option Prepared) (site : Site) → IsSite site → lies_in (area_of o) site.at ≡ false → findings_of_field (of_airfield site) (option_map airfield_of o) ≡ []
 no_standards None site is out = refl
 no_standards (Some p) site is out = nothing_standards p site is out
 
-no_slope : (o : Option Prepared) (site : Site) → IsSite site → lies_in (area_of o) site.at ≡ false → given (slope_entries site) (option_map airfield_of o) ≡ []
+no_slope : (o : Option Prepared) (site : Site) → IsSite site → lies_in (area_of o) site.at ≡ false → findings_of_field (slope_entries site) (option_map airfield_of o) ≡ []
 no_slope None site is out = refl
 no_slope (Some p) site is out = nothing_slope p site is out
 

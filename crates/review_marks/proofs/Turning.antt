@@ -6,9 +6,9 @@ use mathlib.Core.Bool.{beq}
 use Rattle.std.proofs.lemmas.Option.{slice_get-get_or}
 use Rattle.airfields.specs.declared.airfield.Airfield.{Airfield}
 use Rattle.oe_findings.specs.List.{findings_of}
-use Rattle.review_marks.specs.Books.{row_at, joined, marked_as, changed_place, with_mark, with_marks, differs, IsExact, IsExactRow}
+use Rattle.review_marks.specs.Books.{row_at, joined, row_marked_as, changed_place, with_mark, with_marks, differs, IsExact, IsExactRow}
 use Rattle.review_marks.specs.Shares.{AirfieldChange, concerns, concerns_row}
-use Rattle.review_marks.specs.Turns.{Leads, turned, turned_if, by_mark, among, IsTurnedTo, ClimbsTo, HasReached, concerned_count}
+use Rattle.review_marks.specs.Turns.{Leads, row_after_change, row_after_change_if, by_mark, among, IsTurnedTo, ClimbsTo, HasReached, concerned_count}
 use Rattle.review_marks.specs.declared.row.Row.{Row}
 use Rattle.review_marks.specs.declared.change.Mark.{Mark}
 use Rattle.review_marks.proofs.Unconcerned.{unconcerned}
@@ -66,25 +66,25 @@ pub apart : (c n : ℕ) → (c == 0) ≡ true → (n == 0) ≡ false → nat_eq 
 apart c n h k = grind (arith, common_steps, h, k)
 
 marked_by : (m : Mark) (rows : List (Option Row)) (n : ℕ) (b d : Bool) → (m.case == 0) ≡ b → (n == 0) ≡ d
-    → cond d None (joined (slice_get (cond b rows (changed_place rows (m.case - 1) (marked_as m.marked) (slice_get rows (m.case - 1)))) (n - 1)))
-    ≡ option_map (λ r. cond (nat_eq m.case n) (marked_as m.marked r) r) (cond d None (joined (slice_get rows (n - 1))))
+    → cond d None (joined (slice_get (cond b rows (changed_place rows (m.case - 1) (row_marked_as m.marked) (slice_get rows (m.case - 1)))) (n - 1)))
+    ≡ option_map (λ r. cond (nat_eq m.case n) (row_marked_as m.marked r) r) (cond d None (joined (slice_get rows (n - 1))))
 marked_by m rows n b true h k = refl
 marked_by m rows n true false h k =
-    map_same (joined (slice_get rows (n - 1))) ∙ ap (λ (e : Bool). option_map (λ r. cond e (marked_as m.marked r) r) (joined (slice_get rows (n - 1)))) (sym (apart m.case n h k))
+    map_same (joined (slice_get rows (n - 1))) ∙ ap (λ (e : Bool). option_map (λ r. cond e (row_marked_as m.marked r) r) (joined (slice_get rows (n - 1)))) (sym (apart m.case n h k))
 marked_by m rows n false false h k =
-    placed rows (marked_as m.marked) (m.case - 1) (n - 1) ∙ ap (λ (e : Bool). option_map (λ r. cond e (marked_as m.marked r) r) (joined (slice_get rows (n - 1)))) (by_places m.case n h k)
+    placed rows (row_marked_as m.marked) (m.case - 1) (n - 1) ∙ ap (λ (e : Bool). option_map (λ r. cond e (row_marked_as m.marked r) r) (joined (slice_get rows (n - 1)))) (by_places m.case n h k)
 
 -- a mark is put at its place
-pub put_mark : (m : Mark) (rows : List (Option Row)) (o new : Option Row) → (m.case ≡ 0 → ⊥) → m.case - 1 < length rows → o ≡ slice_index_or rows (m.case - 1) o → new ≡ option_map (marked_as m.marked) o
+pub put_mark : (m : Mark) (rows : List (Option Row)) (o new : Option Row) → (m.case ≡ 0 → ⊥) → m.case - 1 < length rows → o ≡ slice_index_or rows (m.case - 1) o → new ≡ option_map (row_marked_as m.marked) o
     → slice_set rows (m.case - 1) new ≡ with_mark m rows
 put_mark m rows o new h short e put =
     let not_zero : (m.case == 0) ≡ false = grind (arith, common_steps, h) in
     let there : slice_get rows (m.case - 1) ≡ Some o = slice_get-get_or rows (m.case - 1) o short ∙ ap Some (sym e) in
-    ap (slice_set rows (m.case - 1)) put ∙ ap (changed_place rows (m.case - 1) (marked_as m.marked)) (sym there)
-    ∙ ap (λ (b : Bool). cond b rows (changed_place rows (m.case - 1) (marked_as m.marked) (slice_get rows (m.case - 1)))) (sym not_zero)
+    ap (slice_set rows (m.case - 1)) put ∙ ap (changed_place rows (m.case - 1) (row_marked_as m.marked)) (sym there)
+    ∙ ap (λ (b : Bool). cond b rows (changed_place rows (m.case - 1) (row_marked_as m.marked) (slice_get rows (m.case - 1)))) (sym not_zero)
 
 -- the row of a case after a mark
-pub marked_row : (m : Mark) (rows : List (Option Row)) (n : ℕ) → row_at (with_mark m rows) n ≡ option_map (λ r. cond (nat_eq m.case n) (marked_as m.marked r) r) (row_at rows n)
+pub marked_row : (m : Mark) (rows : List (Option Row)) (n : ℕ) → row_at (with_mark m rows) n ≡ option_map (λ r. cond (nat_eq m.case n) (row_marked_as m.marked r) r) (row_at rows n)
 marked_row m rows n = marked_by m rows n (m.case == 0) (n == 0) refl refl
 
 pub one_more : (ms : List Mark) (m : Mark) (rows : List (Option Row)) → with_marks (ms ++ m ∷ []) rows ≡ with_mark m (with_marks ms rows)
@@ -118,7 +118,7 @@ module _ (airfields : List Airfield) (c : AirfieldChange) (rows : List (Option R
   pub turned_none : IsTurnedTo airfields c rows [] []
   turned_none n = map_same (row_at rows n)
 
-  marked_turned : (r : Row) (x a b : Bool) → marked_as x (cond a (if b then marked_as (differs r.stored (findings_of airfields r.filing)) r else r) r) ≡ marked_as x r
+  marked_turned : (r : Row) (x a b : Bool) → row_marked_as x (cond a (if b then row_marked_as (differs r.stored (findings_of airfields r.filing)) r else r) r) ≡ row_marked_as x r
   marked_turned r x true true = refl
   marked_turned r x true false = refl
   marked_turned r x false b = refl
@@ -132,45 +132,45 @@ module _ (airfields : List Airfield) (c : AirfieldChange) (rows : List (Option R
   any_false false = refl
 
   -- of one case, by whether it is the one whose mark was worked out
-  one_none : (a b : Bool) (o : Option Row) → ((r : Row) → b ≡ true → o ≡ Some r → r ≡ turned airfields c r) → option_map (turned_if a airfields c) o ≡ option_map (turned_if (a || b) airfields c) o
+  one_none : (a b : Bool) (o : Option Row) → ((r : Row) → b ≡ true → o ≡ Some r → r ≡ row_after_change airfields c r) → option_map (row_after_change_if a airfields c) o ≡ option_map (row_after_change_if (a || b) airfields c) o
   one_none a b None h = refl
   one_none true b (Some r) h = refl
   one_none false true (Some r) h = ap Some (h r refl refl)
   one_none false false (Some r) h = refl
 
-  one_some : (x a b : Bool) (o : Option Row) → ((r : Row) → b ≡ true → o ≡ Some r → marked_as x r ≡ turned airfields c r)
-      → option_map (λ r. cond b (marked_as x r) r) (option_map (turned_if a airfields c) o) ≡ option_map (turned_if (a || b) airfields c) o
+  one_some : (x a b : Bool) (o : Option Row) → ((r : Row) → b ≡ true → o ≡ Some r → row_marked_as x r ≡ row_after_change airfields c r)
+      → option_map (λ r. cond b (row_marked_as x r) r) (option_map (row_after_change_if a airfields c) o) ≡ option_map (row_after_change_if (a || b) airfields c) o
   one_some x a b None h = refl
   one_some x a true (Some r) h =
-      ap Some (marked_turned r x a (concerns c r.filing) ∙ h r refl refl) ∙ ap (λ (e : Bool). Some (turned_if e airfields c r)) (sym (any_true a))
-  one_some x a false (Some r) h = ap (λ (e : Bool). Some (turned_if e airfields c r)) (sym (any_false a))
+      ap Some (marked_turned r x a (concerns c r.filing) ∙ h r refl refl) ∙ ap (λ (e : Bool). Some (row_after_change_if e airfields c r)) (sym (any_true a))
+  one_some x a false (Some r) h = ap (λ (e : Bool). Some (row_after_change_if e airfields c r)) (sym (any_false a))
 
-  pub turned_on : (ms : List Mark) (ks : List ℕ) (k : ℕ) (o : Option Mark) → IsTurnedTo airfields c rows ms ks → IfSome o (λ m. m.case ≡ k) → ((r : Row) → row_at rows k ≡ Some r → by_mark o r ≡ turned airfields c r)
+  pub turned_on : (ms : List Mark) (ks : List ℕ) (k : ℕ) (o : Option Mark) → IsTurnedTo airfields c rows ms ks → IfSome o (λ m. m.case ≡ k) → ((r : Row) → row_at rows k ≡ Some r → by_mark o r ≡ row_after_change airfields c r)
       → IsTurnedTo airfields c rows (with_found ms o) (ks ++ k ∷ [])
   turned_on ms ks k None h at turns n =
       h n ∙ one_none (among ks n) (nat_eq k n) (row_at rows n) (λ r e s. turns r (ap (row_at rows) (same_number k n e) ∙ s))
-      ∙ ap (λ (b : Bool). option_map (turned_if b airfields c) (row_at rows n)) (sym (among_more ks k n))
+      ∙ ap (λ (b : Bool). option_map (row_after_change_if b airfields c) (row_at rows n)) (sym (among_more ks k n))
   turned_on ms ks k (Some m) h at turns n =
       ap (λ (xs : List (Option Row)). row_at xs n) (one_more ms m rows) ∙ marked_row m (with_marks ms rows) n
-      ∙ ap (λ (j : ℕ). option_map (λ r. cond (nat_eq j n) (marked_as m.marked r) r) (row_at (with_marks ms rows) n)) at
-      ∙ ap (option_map (λ r. cond (nat_eq k n) (marked_as m.marked r) r)) (h n)
+      ∙ ap (λ (j : ℕ). option_map (λ r. cond (nat_eq j n) (row_marked_as m.marked r) r) (row_at (with_marks ms rows) n)) at
+      ∙ ap (option_map (λ r. cond (nat_eq k n) (row_marked_as m.marked r) r)) (h n)
       ∙ one_some m.marked (among ks n) (nat_eq k n) (row_at rows n) (λ r e s. turns r (ap (row_at rows) (same_number k n e) ∙ s))
-      ∙ ap (λ (b : Bool). option_map (turned_if b airfields c) (row_at rows n)) (sym (among_more ks k n))
+      ∙ ap (λ (b : Bool). option_map (row_after_change_if b airfields c) (row_at rows n)) (sym (among_more ks k n))
 
-  pub not_concerned : (r : Row) → concerns c r.filing ≡ false → r ≡ turned airfields c r
-  not_concerned r h = ap (λ (b : Bool). if b then marked_as (differs r.stored (findings_of airfields r.filing)) r else r) (sym h)
+  pub not_concerned : (r : Row) → concerns c r.filing ≡ false → r ≡ row_after_change airfields c r
+  not_concerned r h = ap (λ (b : Bool). if b then row_marked_as (differs r.stored (findings_of airfields r.filing)) r else r) (sym h)
 
-  concerned : (r : Row) → concerns c r.filing ≡ true → marked_as (differs r.stored (findings_of airfields r.filing)) r ≡ turned airfields c r
-  concerned r h = ap (λ (b : Bool). if b then marked_as (differs r.stored (findings_of airfields r.filing)) r else r) (sym h)
+  concerned : (r : Row) → concerns c r.filing ≡ true → row_marked_as (differs r.stored (findings_of airfields r.filing)) r ≡ row_after_change airfields c r
+  concerned r h = ap (λ (b : Bool). if b then row_marked_as (differs r.stored (findings_of airfields r.filing)) r else r) (sym h)
 
   -- a case that is concerned is turned by its mark, and where its mark is that already, it is turned as it is
-  pub turned_to : (r : Row) (m : Bool) → concerns c r.filing ≡ true → m ≡ differs r.stored (findings_of airfields r.filing) → marked_as m r ≡ turned airfields c r
-  turned_to r m h e = ap (λ (x : Bool). marked_as x r) e ∙ concerned r h
+  pub turned_to : (r : Row) (m : Bool) → concerns c r.filing ≡ true → m ≡ differs r.stored (findings_of airfields r.filing) → row_marked_as m r ≡ row_after_change airfields c r
+  turned_to r m h e = ap (λ (x : Bool). row_marked_as x r) e ∙ concerned r h
 
-  pub turned_same : (r : Row) (m : Bool) → concerns c r.filing ≡ true → m ≡ differs r.stored (findings_of airfields r.filing) → m ≡ r.marked → r ≡ turned airfields c r
-  turned_same r m h e same = ap (λ (x : Bool). marked_as x r) (sym same) ∙ turned_to r m h e
+  pub turned_same : (r : Row) (m : Bool) → concerns c r.filing ≡ true → m ≡ differs r.stored (findings_of airfields r.filing) → m ≡ r.marked → r ≡ row_after_change airfields c r
+  turned_same r m h e same = ap (λ (x : Bool). row_marked_as x r) (sym same) ∙ turned_to r m h e
 
-  all_by : (b : Bool) (o : Option Row) → ((r : Row) → o ≡ Some r → concerns c r.filing ≡ true → b ≡ true) → option_map (turned_if b airfields c) o ≡ option_map (turned airfields c) o
+  all_by : (b : Bool) (o : Option Row) → ((r : Row) → o ≡ Some r → concerns c r.filing ≡ true → b ≡ true) → option_map (row_after_change_if b airfields c) o ≡ option_map (row_after_change airfields c) o
   all_by true o h = refl
   all_by false None h = refl
   all_by false (Some r) h = ap Some (not_concerned r (other (concerns c r.filing) (h r refl)))
@@ -181,19 +181,19 @@ module _ (airfields : List Airfield) (c : AirfieldChange) (rows : List (Option R
 
   -- where all that the change concerns are among them, all are turned
   pub turned_all : (ms : List Mark) (ks : List ℕ) → ((n : ℕ) (r : Row) → row_at rows n ≡ Some r → concerns c r.filing ≡ true → among ks n ≡ true) → IsTurnedTo airfields c rows ms ks
-      → (n : ℕ) → row_at (with_marks ms rows) n ≡ option_map (turned airfields c) (row_at rows n)
+      → (n : ℕ) → row_at (with_marks ms rows) n ≡ option_map (row_after_change airfields c) (row_at rows n)
   turned_all ms ks all h n = h n ∙ all_by (among ks n) (row_at rows n) (all n)
 
   -- and the marks are exact, where they were exact over the airfields before
-  turned_exact : (before : List Airfield) (b : Bool) (r : Row) → Leads before airfields c → concerns c r.filing ≡ b → IsExactRow before r → IsExactRow airfields (if b then marked_as (differs r.stored (findings_of airfields r.filing)) r else r)
+  turned_exact : (before : List Airfield) (b : Bool) (r : Row) → Leads before airfields c → concerns c r.filing ≡ b → IsExactRow before r → IsExactRow airfields (if b then row_marked_as (differs r.stored (findings_of airfields r.filing)) r else r)
   turned_exact before true r l h e = refl
   turned_exact before false r l h e = e ∙ ap (differs r.stored) (unconcerned before airfields c r.filing l h)
 
-  one_exact : (before : List Airfield) (o : Option Row) → Leads before airfields c → IfSome o (IsExactRow before) → IfSome (option_map (turned airfields c) o) (IsExactRow airfields)
+  one_exact : (before : List Airfield) (o : Option Row) → Leads before airfields c → IfSome o (IsExactRow before) → IfSome (option_map (row_after_change airfields c) o) (IsExactRow airfields)
   one_exact before None l e = tt
   one_exact before (Some r) l e = turned_exact before (concerns c r.filing) r l refl e
 
-  pub exact_after : (before : List Airfield) (new : List (Option Row)) → Leads before airfields c → ((n : ℕ) → row_at new n ≡ option_map (turned airfields c) (row_at rows n)) → IsExact before rows → IsExact airfields new
+  pub exact_after : (before : List Airfield) (new : List (Option Row)) → Leads before airfields c → ((n : ℕ) → row_at new n ≡ option_map (row_after_change airfields c) (row_at rows n)) → IsExact before rows → IsExact airfields new
   exact_after before new l turns e n = subst (λ (o : Option Row). IfSome o (IsExactRow airfields)) (sym (turns n)) (one_exact before (row_at rows n) l (e n))
 
 -- ---- the numbers that were reached
@@ -260,7 +260,7 @@ module _ (c : AirfieldChange) where
   count_all (o ∷ rows) zero = omega arith
   count_all (o ∷ rows) (suc b) = omega (arith, count_all rows b)
 
-row_suc : (rows : List (Option Row)) (j : ℕ) → row_at rows (suc j) ≡ joined (slice_get rows j)
+pub row_suc : (rows : List (Option Row)) (j : ℕ) → row_at rows (suc j) ≡ joined (slice_get rows j)
 row_suc rows j =
     let some : (suc j == 0) ≡ false = grind (arith, common_steps) in
     let place : suc j - 1 ≡ j = omega arith in
@@ -319,6 +319,6 @@ row_there rows n r false h at = absurd (let none : row_at rows n ≡ None = beyo
     beyond rows n false e h = past rows (n - 1) (omega (arith, h))
 
 pub turned_done : (airfields : List Airfield) (c : AirfieldChange) (rows : List (Option Row)) (ms : List Mark) (ns : List ℕ) (i : ℕ) → length ns ≤ i → HasReached c rows ns (length rows)
-    → IsTurnedTo airfields c rows ms (take i ns) → (n : ℕ) → row_at (with_marks ms rows) n ≡ option_map (turned airfields c) (row_at rows n)
+    → IsTurnedTo airfields c rows ms (take i ns) → (n : ℕ) → row_at (with_marks ms rows) n ≡ option_map (row_after_change airfields c) (row_at rows n)
 turned_done airfields c rows ms ns i done all h =
     turned_all airfields c rows ms ns (λ n r at on. all n r (row_there rows n r (nat_le n (length rows)) refl at) at on) (subst (λ (ks : List ℕ). IsTurnedTo airfields c rows ms ks) (all_taken ns i done) h)

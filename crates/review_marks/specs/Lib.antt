@@ -2,3 +2,4 @@ pub mod Books
 pub mod Near
 pub mod Shares
 pub mod Turns
+pub mod Nearby

@@ -1,4 +1,4 @@
--- What one airfield gives to the list of findings of a structure, and which cases a change of it concerns.
+-- The entries that one airfield gives to a structure's list of findings, and the cases that a change of it concerns.
 use Rattle.std.specs.Prelude.{◌≡◌, ℕ, ◌&&◌, ◌||◌, nat_eq, not, Bool, true, false, is_none, List, [], ◌∷◌, ◌++◌, Option, Some, None, if◌then◌else◌}
 use Rattle.std.specs.Option.{option_map, option_map_or}
 use Rattle.std.specs.Cmp.Lexicographic.{pointwise}
@@ -11,15 +11,15 @@ use Rattle.airfields.specs.declared.airfield.Airfield.{Airfield}
 use Rattle.airport_register.specs.declared.amendment.Changed.{Changed}
 use Rattle.notice_slopes.specs.Exemptions.{exemption_of}
 use Rattle.airfield_findings.specs.Entries.{field_key, of_airfield, slope_entries}
-use Rattle.airfield_findings.specs.declared.finding.Finding.{Finding}
-use Rattle.airfield_findings.specs.declared.finding.Rule.TheVariants as rules
+use Rattle.finding_lists.specs.declared.finding.Finding.{Finding}
+use Rattle.finding_lists.specs.declared.finding.Rule.TheVariants as rules
 use Rattle.review_marks.specs.Books.{differs}
 use Rattle.review_marks.specs.declared.row.Row.{Row}
 use Rattle.review_marks.specs.declared.share.Share.{Share}
 
-abbrev pub given : (Airfield → List Finding) → Option Airfield → List Finding
-given f None = []
-given f (Some field) = f field
+abbrev pub findings_of_field : (Airfield → List Finding) → Option Airfield → List Finding
+findings_of_field f None = []
+findings_of_field f (Some field) = f field
 
 -- the structure is on the airfield of this name
 abbrev pub names : List ℕ → Site → Bool
@@ -34,8 +34,8 @@ is_due site = is_none (exemption_of site)
 abbrev pub share_of : List ℕ → Option Airfield → Site → Share
 share_of id o site =
     record {
-      standards = given (of_airfield site) o;
-      slope = if is_due site then given (slope_entries site) o else [];
+      standards = findings_of_field (of_airfield site) o;
+      slope = if is_due site then findings_of_field (slope_entries site) o else [];
       is_on = names id site && is_described_field o;
     }
 
@@ -45,13 +45,13 @@ differ_bools a b = (a && not b) || (not a && b)
 abbrev pub differ_shares : Share → Share → Bool
 differ_shares a b = differs a.standards b.standards || differs a.slope b.slope || differ_bools a.is_on b.is_on
 
--- ---- what it gives to the list, whole
+-- ---- all its entries in the list
 
 -- an entry is about the airfield of this name
 abbrev pub is_about : List ℕ → Finding → Bool
 is_about id f = option_map_or (pointwise nat_eq id) f.key.field false
 
--- the entries of a list that are about it
+-- the entries of a list on the airfield
 abbrev pub about : List ℕ → List Finding → List Finding
 about id list = filter (is_about id) list
 
@@ -59,7 +59,7 @@ about id list = filter (is_about id) list
 abbrev pub on_entries : List ℕ → Bool → List Finding
 on_entries id is_on = if is_on then record { rule = rules.NoticeD; key = field_key id 0; excess = 0 } ∷ [] else []
 
--- its entries in the list of a structure: its standards, and where notice is due its notice slope and that of construction on it
+-- its entries in the list of a structure: its standards, and where notice is due its notice slope and construction on it
 abbrev pub entries_by : List ℕ → Site → Share → List Finding
 entries_by id site share = share.standards ++ share.slope ++ on_entries id (is_due site && share.is_on)
 
@@ -74,8 +74,8 @@ pub record AirfieldChange : Type 0 where
 abbrev pub change_of : Changed → AirfieldChange
 change_of c = record { id = c.id; was = option_map arc_value c.before; is_now = option_map arc_value c.after }
 
--- the airfield as it was and as it is now give different entries to the list of a structure: the change concerns the case. So its point
--- lies under a surface or a slope of one of the two, or its structure is on the airfield
+-- the airfield before and after the change gives different entries to the list of a structure: the change concerns the case. Its point
+-- then lies under a surface or a slope of one of the two, or its structure is on the airfield
 abbrev pub concerns : AirfieldChange → Site → Bool
 concerns c site = differ_shares (share_of c.id c.was site) (share_of c.id c.is_now site)
 

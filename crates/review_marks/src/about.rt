@@ -3,8 +3,8 @@
 ghost use Rattle.std.specs.Prelude.{◌≡◌, ◌∷◌, ◌++◌, [], IfOk, OnOk, cond};
 ghost use Rattle.review_marks.specs.Shares.{about, is_about as is_about_of};
 
-use airfield_findings::{Finding, Findings};
 use airfields::FieldId;
+use finding_lists::{Finding, Findings};
 use grid_exact::NoMemory;
 use std::alloc::Global;
 
@@ -18,9 +18,10 @@ fn is_about(id: &FieldId, finding: &Finding) -> bool
     }
 }
 
-/// Puts a finding behind others, where it is about the airfield.
+/// Appends a finding, where it is about the airfield.
 fn put_about(own: &mut Findings, id: &FieldId, finding: &Finding) -> Result<(), NoMemory>
-    ensures { OnOk result (own.new ≡ own.old ++ cond (is_about_of id.now finding.now) (finding.now ∷ []) []) }
+    ensures { OnOk result (own.new ≡ own.old ++ cond (is_about_of id.now finding.now)
+        (finding.now ∷ []) []) }
 {
     if is_about(id, finding) {
         own.push(*finding)?;

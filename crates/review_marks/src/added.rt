@@ -1,16 +1,17 @@
-//! A case comes into the book, and goes out of it.
+//! Adding cases to the book, and removing them.
 
-ghost use Rattle.std.specs.Prelude.{◌≡◌, ◌≤◌, ◌+◌, ◌-◌, ℕ, false, length, None, OnOk, IfOk, slice_set};
+ghost use Rattle.std.specs.Prelude.{◌≡◌, ◌≤◌, ◌+◌, ◌-◌, ℕ, List, false, length, None, OnOk, IfOk, slice_set};
+ghost use Rattle.airfields.specs.declared.airfield.Airfield.{Airfield as AnAirfield};
 ghost use Rattle.oe_findings.specs.List.{findings_of};
-ghost use Rattle.review_marks.specs.Books.{committed, differs, row_at, HasRoom, closed};
+ghost use Rattle.review_marks.specs.Books.{rows_after_commit, differs, row_at, HasRoom, IsExact, rows_after_close};
 ghost use Rattle.review_marks.specs.declared.change.MarkChange.TheVariants as changes;
 
 use crate::book::MarkBook;
 use crate::change::MarkChange;
 use crate::listing::{differ, findings};
 use crate::row::Row;
-use airfield_findings::Findings;
 use airfields::Filing;
+use finding_lists::Findings;
 use grid_exact::{NoMemory, Steps};
 use oe_findings::Sky;
 use std::sync::ledger::Ledger;
@@ -27,8 +28,32 @@ impl MarkBook {
         Ok(())
     }
 
-    /// The change by which a case comes into the book whose stored list is its list over the airfields as they stand: it is not marked.
-    /// The book stands for what it stood for.
+    /// The change that adds a case to the book, with this mark. The book itself is unchanged.
+    fn change_to_add(
+        &mut self,
+        case: u32,
+        filing: &Filing,
+        stored: &Findings,
+        marked: bool,
+    ) -> Result<MarkChange, NoMemory>
+        ensures same { (n : ℕ) → row_at self.new n ≡ row_at self.old n }
+        ensures room { OnOk result (case ≤ length self.new) }
+        ensures change { IfOk result (λ c. c ≡ changes.Added case
+            (record { filing = filing.now; stored = stored.now; marked = marked })) }
+    {
+        self.reserve(case)?;
+        Ok(MarkChange::Added {
+            case,
+            row: Row {
+                filing: *filing,
+                stored: stored.copy(self.alloc)?,
+                marked,
+            },
+        })
+    }
+
+    /// The change that adds a case to the book, unmarked, where its stored list is its list over the present airfields. The book itself
+    /// is unchanged.
     ///
     /// # Errors
     ///
@@ -41,21 +66,17 @@ impl MarkBook {
     ) -> Result<MarkChange, NoMemory>
         ensures same { (n : ℕ) → row_at self.new n ≡ row_at self.old n }
         ensures room { OnOk result (case ≤ length self.new) }
-        ensures change { IfOk result (λ c. c ≡ changes.Added case (record { filing = filing.now; stored = stored.now; marked = false })) }
+        ensures change { IfOk result (λ c. c ≡ changes.Added case
+            (record { filing = filing.now; stored = stored.now; marked = false })) }
+        ensures exact { IfOk result (λ c. (airfields : List AnAirfield)
+            → differs stored.now (findings_of airfields filing.now) ≡ false
+            → IsExact airfields self.old → IsExact airfields (rows_after_commit c self.new)) }
     {
-        self.reserve(case)?;
-        Ok(MarkChange::Added {
-            case,
-            row: Row {
-                filing: *filing,
-                stored: stored.copy(self.alloc)?,
-                marked: false,
-            },
-        })
+        self.change_to_add(case, filing, stored, false)
     }
 
-    /// The change by which a case comes into the book, marked exactly where its stored list differs from its list over the airfields of
-    /// `sky`. A step is one list worked out. The book stands for what it stood for.
+    /// The change that adds a case to the book, marked exactly where its stored list differs from its list over the airfields of
+    /// `sky`. A step is one computed list. The book itself is unchanged.
     ///
     /// # Errors
     ///
@@ -70,26 +91,26 @@ impl MarkBook {
     ) -> Result<MarkChange, NoMemory>
         ensures same { (n : ℕ) → row_at self.new n ≡ row_at self.old n }
         ensures room { OnOk result (case ≤ length self.new) }
-        ensures change { IfOk result (λ c. c ≡ changes.Added case (record { filing = filing.now; stored = stored.now; marked = differs stored.now (findings_of sky.now filing.now) })) }
+        ensures change { IfOk result (λ c. c ≡ changes.Added case
+            (record {
+              filing = filing.now;
+              stored = stored.now;
+              marked = differs stored.now
+                  (findings_of sky.now filing.now);
+            })) }
+        ensures exact { IfOk result (λ c. IsExact sky.now self.old
+            → IsExact sky.now (rows_after_commit c self.new)) }
         ensures steps { steps.new ≤ steps.old + 1 }
     {
-        self.reserve(case)?;
         steps.tick();
         let list = findings(self.alloc, sky, filing)?;
-        Ok(MarkChange::Added {
-            case,
-            row: Row {
-                filing: *filing,
-                stored: stored.copy(self.alloc)?,
-                marked: differ(stored, &list),
-            },
-        })
+        self.change_to_add(case, filing, stored, differ(stored, &list))
     }
 
-    /// Makes a change that was worked out for the book as it is. It takes no memory.
+    /// Makes a change that was computed for the present book. It allocates nothing.
     pub fn commit(&mut self, change: MarkChange)
         requires room { HasRoom self.old change }
-        ensures { self.new ≡ committed change self.old }
+        ensures { self.new ≡ rows_after_commit change self.old }
     {
         match change {
             MarkChange::Added { case, row } => self.put_row(case, row),
@@ -97,9 +118,9 @@ impl MarkBook {
         }
     }
 
-    /// Takes a case out of the book, where it is in it: its determination no longer stands. It takes no memory.
-    pub fn close(&mut self, case: u32)
-        ensures { self.new ≡ closed case self.old }
+    /// Leaves no row in the place of a case, where there is such a place.
+    fn clear_row(&mut self, case: u32)
+        ensures { self.new ≡ rows_after_close case self.old }
     {
         if case == 0 {
             return;
@@ -107,5 +128,14 @@ impl MarkBook {
         if let Some(row) = self.rows.get_mut(case as usize - 1) {
             *row = None;
         }
+    }
+
+    /// Removes a case from the book, if it is there: its determination no longer stands. It allocates nothing.
+    pub fn close(&mut self, case: u32)
+        ensures rows { self.new ≡ rows_after_close case self.old }
+        ensures exact { (airfields : List AnAirfield) → IsExact airfields self.old
+            → IsExact airfields self.new }
+    {
+        self.clear_row(case);
     }
 }

@@ -1,7 +1,7 @@
 //! The book of marks.
 
 ghost use Rattle.std.specs.Prelude.{◌≡◌, ◌≤◌, ◌-◌, [], length, None, Some, option_copied, IfOk, option_map, slice_set};
-ghost use Rattle.review_marks.specs.Books.{row_at, is_marked_in, marked_as, marked_cases, committed, with_mark, with_marks};
+ghost use Rattle.review_marks.specs.Books.{row_at, is_marked_in, row_marked_as, marked_cases, rows_after_commit, with_mark, with_marks};
 
 use crate::change::{Mark, MarkChange};
 use crate::row::Row;
@@ -11,7 +11,7 @@ use std::alloc::Global;
 use std::marker::Model;
 
 /// The cases whose determinations are watched, each with its structure, the list that its determination was made on, and its mark. Seen as
-/// the rows of the cases in order of number, from case 1 on; a case that is not in the book has none.
+/// the rows of the cases in order of number, from case 1 on; a case that is not in the book has no row.
 #[derive(Drop)]
 pub struct MarkBook {
     pub(crate) rows: Vec<Option<Row>>,
@@ -29,9 +29,9 @@ impl Model for MarkBook {
     ghost invariant = { λ b. length b.rows.items < 2 ^ 32 };
 }
 
-/// Puts the mark of a row, where there is one.
+/// Sets the mark of a row, if there is one.
 fn set_mark(row: &mut Option<Row>, marked: bool)
-    ensures { row.new ≡ option_map (marked_as marked) row.old }
+    ensures { row.new ≡ option_map (row_marked_as marked) row.old }
 {
     if let Some(row) = row {
         row.marked = marked;
@@ -39,7 +39,7 @@ fn set_mark(row: &mut Option<Row>, marked: bool)
 }
 
 impl MarkBook {
-    /// A book without cases. It takes no memory.
+    /// A book without cases. It allocates nothing.
     pub fn empty(alloc: Global) -> MarkBook
         ensures { result ≡ [] }
     {
@@ -69,7 +69,7 @@ impl MarkBook {
         self.rows.len() as u32
     }
 
-    /// Whether the case is in the book and marked: its list over the airfields as they stand differs from the list that its determination
+    /// Whether the case is in the book and marked: its list over the present airfields differs from the list that its determination
     /// was made on.
     pub fn is_marked(&self, case: u32) -> bool
         ensures { result ≡ is_marked_in self.now case }
@@ -80,7 +80,7 @@ impl MarkBook {
         }
     }
 
-    /// How many cases are marked.
+    /// The number of marked cases.
     pub fn marked(&self) -> u32
         ensures { result ≡ length (marked_cases self.now) }
     {
@@ -94,7 +94,7 @@ impl MarkBook {
         count
     }
 
-    /// The marked cases, by their numbers, rising.
+    /// The numbers of the marked cases, in rising order.
     ///
     /// # Errors
     ///
@@ -112,7 +112,7 @@ impl MarkBook {
         Ok(list)
     }
 
-    /// Puts the mark of a case, where the case is in the book.
+    /// Sets the mark of a case, if the case is in the book.
     fn put(&mut self, mark: Mark)
         ensures { self.new ≡ with_mark mark self.old }
     {
@@ -126,7 +126,7 @@ impl MarkBook {
         set_mark(&mut self.rows[place], mark.marked);
     }
 
-    /// Puts the marks of several cases.
+    /// Sets the marks of several cases.
     pub(crate) fn put_all(&mut self, marks: &[Mark])
         ensures { self.new ≡ with_marks marks.now self.old }
     {
@@ -135,7 +135,7 @@ impl MarkBook {
         }
     }
 
-    /// Puts a row in the place of its case, for which there is room.
+    /// Stores the row of a case, for which there is room.
     pub(crate) fn put_row(&mut self, case: u32, row: Row)
         requires number { 1 ≤ case }
         requires room { case ≤ length self.old }

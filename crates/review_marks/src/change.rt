@@ -1,19 +1,19 @@
-//! Changes of the book that are worked out before they are made.
+//! Changes of the book, computed before they are made.
 
 use crate::row::Row;
 
-/// That a case is marked, or is not.
+/// Whether a case is marked.
 #[derive(Clone, Copy, Debug, PartialEq, Eq)]
 pub struct Mark {
     pub case: u32,
     pub marked: bool,
 }
 
-/// A change of the book, with all memory that it needs.
+/// A change of the book, with all memory that it needs already allocated.
 #[derive(Drop)]
 pub enum MarkChange {
-    /// The case of this number comes into the book.
+    /// A case is added to the book.
     Added { case: u32, row: Row },
-    /// These cases are marked or not, as it says; all others stay as they are.
+    /// These cases are marked or unmarked; all others are unchanged.
     Marked(Vec<Mark>),
 }

@@ -1,7 +1,7 @@
-//! Marks for review: which standing determinations stand on a list of findings that is no longer the list of their structure.
+//! Marks for review: the standing determinations whose list of findings is no longer the present list of their structure.
 //!
-//! A determination under 77.31 was made on the airfields as they stood. When an airfield changes, the desk marks exactly those whose list
-//! would now be another one, in an entry, in its excess or in its order.
+//! A determination under 77.31 is made on the airfields as they are that day. When an airfield changes, the desk marks exactly those whose
+//! list would now differ, in an entry, an excess or the order.
 #![tactic(auto)]
 
 mod about;

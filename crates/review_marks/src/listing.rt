@@ -1,18 +1,18 @@
-//! The list of a structure, worked out anew.
+//! Computes the list of a structure anew.
 
 ghost use Rattle.std.specs.Prelude.{◌≡◌, ◌<◌, IfOk};
 ghost use Rattle.oe_findings.specs.List.{findings_of};
 ghost use Rattle.review_marks.specs.Books.{differs};
 
-use airfield_findings::Findings;
 use airfields::Filing;
+use finding_lists::Findings;
 use grid_exact::{NoMemory, Steps};
 use oe_findings::Sky;
 use std::alloc::Global;
 use std::marker::Brand;
 use std::sync::ledger::{Blank, Ledger};
 
-/// The findings of a structure, whose steps are counted in the ledger that `blank` opens.
+/// The findings of a structure; the steps are counted in the ledger that `blank` opens.
 fn counted_findings<L: Ledger>(
     alloc: Global,
     sky: &Sky,
@@ -34,7 +34,7 @@ pub fn findings(alloc: Global, sky: &Sky, filing: &Filing) -> Result<Findings, N
     counted_findings::<Brand>(alloc, sky, filing, Blank::new(1))
 }
 
-/// Whether the two lists differ, in an entry, in an excess or in their order.
+/// Whether two lists differ, in an entry, an excess or their order.
 #[tactic(auto, using(crate::proofs::Unconcerned::differing_from))]
 pub(crate) fn differ(stored: &Findings, found: &Findings) -> bool
     ensures { result ≡ differs stored.now found.now }

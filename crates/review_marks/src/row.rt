@@ -1,9 +1,9 @@
-//! What the book has of a case.
+//! The book's row of a case.
 
-use airfield_findings::Findings;
 use airfields::Filing;
+use finding_lists::Findings;
 
-/// A case whose determination is watched: its structure, the list that the determination was made on, and whether it is marked.
+/// A case whose determination is watched: its structure, the list that the determination was made on, and its mark.
 #[derive(Drop)]
 pub struct Row {
     pub filing: Filing,

@@ -1,23 +1,25 @@
-//! What one airfield gives to the list of findings of a structure.
+//! The entries that one airfield gives to a structure's list of findings.
 
 ghost use Rattle.std.specs.Prelude.{◌≡◌, Some, None, IfOk, IfSome, option_map, is_some, false};
 ghost use Rattle.std.specs.Arc.{arc_value};
 ghost use Rattle.airfields.specs.declared.airfield.Airfield.{Airfield as AnAirfield};
 ghost use Rattle.airfields.specs.Airfields.{IsHeld, category_of};
+ghost use Rattle.airfields.specs.Sites.{IsSite};
 ghost use Rattle.airfields.specs.Categories.{is_described};
 ghost use Rattle.airfield_findings.specs.Prepared.{airfield_of};
 ghost use Rattle.airfield_findings.specs.Entries.{field_key, of_airfield, slope_entries};
 ghost use Rattle.review_marks.specs.Books.{differs};
 ghost use Rattle.review_marks.specs.Near.{area_of, IsAround};
-ghost use Rattle.review_marks.specs.Shares.{about, entries_by, given, names, is_described_field, is_due as is_due_of, share_of, differ_shares, AirfieldChange, AreHeld, change_of, concerns};
+ghost use Rattle.review_marks.specs.Shares.{about, entries_by, findings_of_field, names, is_described_field, is_due as is_due_of, share_of, differ_shares, AirfieldChange, AreHeld, change_of, concerns};
 ghost use Rattle.std.specs.Prelude.{if◌then◌else◌, []};
 
 use crate::about::entries_about;
 use crate::listing::differ;
 use crate::near::{around, lies_in};
-use airfield_findings::{Finding, Findings, Prepared, Rule, SurfaceKey, put_airfield, put_slope};
+use airfield_findings::{Prepared, put_airfield, put_slope};
 use airfields::{Airfield, FieldId, Filing};
 use airport_register::Changed;
+use finding_lists::{Finding, Findings, Rule, SurfaceKey};
 use grid_exact::{Area, NoMemory};
 use height_rules::Structure;
 use notice_slopes::exempt;
@@ -26,7 +28,7 @@ use std::marker::Model;
 use std::sync::Arc;
 use surface_tree::Placed;
 
-/// An airfield with its surfaces, as it was before a change or as it is after it, where there is one.
+/// An airfield with its surfaces, before or after a change, where there is one.
 #[derive(Drop)]
 pub(crate) struct Side {
     prepared: Option<Prepared>,
@@ -44,7 +46,7 @@ fn is_described_one(airfield: &Option<Arc<Airfield>>) -> bool
     }
 }
 
-/// An airfield with its surfaces prepared.
+/// An airfield with its surfaces, computed once.
 fn prepared(alloc: Global, airfield: &Option<Arc<Airfield>>) -> Result<Option<Prepared>, NoMemory>
     requires held { (f : AnAirfield) → option_map arc_value airfield.now ≡ Some f → IsHeld f }
     ensures { IfOk result (λ p. option_map airfield_of p ≡ option_map arc_value airfield.now) }
@@ -55,7 +57,7 @@ fn prepared(alloc: Global, airfield: &Option<Arc<Airfield>>) -> Result<Option<Pr
     }
 }
 
-/// Whether the structure stands where the airfield may give an entry.
+/// Whether the airfield may give an entry to a structure at this point.
 #[tactic(auto, using(crate::proofs::Reaching::nothing_standards, crate::proofs::Reaching::nothing_slope))]
 fn is_reached(prepared: &Prepared, filing: &Filing) -> bool
     ensures standards { result ≡ false → of_airfield filing.now (airfield_of prepared.now) ≡ [] }
@@ -64,7 +66,7 @@ fn is_reached(prepared: &Prepared, filing: &Filing) -> bool
     prepared.plot().area.has(&filing.at)
 }
 
-/// The standards of an airfield.
+/// The entries of an airfield's standards.
 fn standards_of(alloc: Global, prepared: &Prepared, filing: &Filing) -> Result<Findings, NoMemory>
     ensures { IfOk result (λ l. l ≡ of_airfield filing.now (airfield_of prepared.now)) }
 {
@@ -73,7 +75,7 @@ fn standards_of(alloc: Global, prepared: &Prepared, filing: &Filing) -> Result<F
     Ok(list)
 }
 
-/// The notice slope of an airfield.
+/// The entries of an airfield's notice slope.
 fn slope_of(alloc: Global, prepared: &Prepared, filing: &Filing) -> Result<Findings, NoMemory>
     ensures { IfOk result (λ l. l ≡ slope_entries filing.now (airfield_of prepared.now)) }
 {
@@ -83,14 +85,15 @@ fn slope_of(alloc: Global, prepared: &Prepared, filing: &Filing) -> Result<Findi
 }
 
 impl Side {
-    /// The airfield with its surfaces prepared.
+    /// The airfield with its surfaces, computed once.
     ///
     /// # Errors
     ///
     /// `NoMemory` where memory was refused.
     pub(crate) fn of(alloc: Global, airfield: &Option<Arc<Airfield>>) -> Result<Side, NoMemory>
         requires held { (f : AnAirfield) → option_map arc_value airfield.now ≡ Some f → IsHeld f }
-        ensures { IfOk result (λ s. option_map airfield_of s.prepared ≡ option_map arc_value airfield.now) }
+        ensures { IfOk result (λ s. option_map airfield_of s.prepared
+            ≡ option_map arc_value airfield.now) }
     {
         let prepared = prepared(alloc, airfield)?;
         let is_described = is_described_one(airfield);
@@ -100,10 +103,12 @@ impl Side {
         })
     }
 
-    /// Whether it may give an entry to the list of a structure, by the point where that stands.
+    /// Whether it may give an entry to the list of a structure, judged by the structure's point.
     fn reaches(&self, filing: &Filing) -> bool
-        ensures standards { result ≡ false → given (of_airfield filing.now) (option_map airfield_of self.now.prepared) ≡ [] }
-        ensures slope { result ≡ false → given (slope_entries filing.now) (option_map airfield_of self.now.prepared) ≡ [] }
+        ensures standards { result ≡ false → findings_of_field (of_airfield filing.now)
+            (option_map airfield_of self.now.prepared) ≡ [] }
+        ensures slope { result ≡ false → findings_of_field (slope_entries filing.now)
+            (option_map airfield_of self.now.prepared) ≡ [] }
     {
         match &self.prepared {
             Some(prepared) => is_reached(prepared, filing),
@@ -111,7 +116,7 @@ impl Side {
         }
     }
 
-    /// The area outside of which it gives no entry, where there is an airfield.
+    /// The area outside which it gives no entry, where there is an airfield.
     fn area(&self) -> Option<Area>
         ensures { result ≡ area_of self.now.prepared }
     {
@@ -121,9 +126,10 @@ impl Side {
         }
     }
 
-    /// Its standards.
+    /// The entries of its standards.
     fn standards(&self, alloc: Global, filing: &Filing) -> Result<Findings, NoMemory>
-        ensures { IfOk result (λ l. l ≡ given (of_airfield filing.now) (option_map airfield_of self.now.prepared)) }
+        ensures { IfOk result (λ l. l ≡ findings_of_field (of_airfield filing.now)
+            (option_map airfield_of self.now.prepared)) }
     {
         match &self.prepared {
             Some(prepared) => standards_of(alloc, prepared, filing),
@@ -131,9 +137,10 @@ impl Side {
         }
     }
 
-    /// Its notice slope.
+    /// The entries of its notice slope.
     fn slope(&self, alloc: Global, filing: &Filing) -> Result<Findings, NoMemory>
-        ensures { IfOk result (λ l. l ≡ (if is_due_of filing.now then given (slope_entries filing.now) (option_map airfield_of self.now.prepared) else [])) }
+        ensures { IfOk result (λ l. l ≡ (if is_due_of filing.now then findings_of_field
+            (slope_entries filing.now) (option_map airfield_of self.now.prepared) else [])) }
     {
         if exempt(filing).is_some() {
             return Ok(Findings::new(alloc));
@@ -144,9 +151,10 @@ impl Side {
         }
     }
 
-    /// What it gives to the list of a structure.
+    /// The entries that it gives to the list of a structure.
     fn share(&self, alloc: Global, id: &FieldId, filing: &Filing) -> Result<Share, NoMemory>
-        ensures { IfOk result (λ s. s ≡ share_of id.now (option_map airfield_of self.now.prepared) filing.now) }
+        ensures { IfOk result (λ s. s ≡ share_of id.now
+            (option_map airfield_of self.now.prepared) filing.now) }
     {
         Ok(Share {
             standards: self.standards(alloc, filing)?,
@@ -166,7 +174,7 @@ pub(crate) fn is_on(id: &FieldId, filing: &Filing) -> bool
     }
 }
 
-/// What an airfield gives to the list of a structure: its standards, its notice slope where notice is due, and whether 77.9(d) asks
+/// The entries of an airfield for a structure: its standards, its notice slope where notice is due, and whether 77.9(d) requires
 /// notice of construction on it.
 #[derive(Drop)]
 pub(crate) struct Share {
@@ -176,7 +184,7 @@ pub(crate) struct Share {
 }
 
 impl Share {
-    /// Whether the other airfield gives something else.
+    /// Whether the other airfield gives other entries.
     fn differs(&self, other: &Share) -> bool
         ensures { result ≡ differ_shares self.now other.now }
     {
@@ -214,7 +222,7 @@ fn construction(id: &FieldId) -> Finding
     }
 }
 
-/// An airfield before and after a change, with their surfaces, and a box about the areas of both.
+/// An airfield before and after a change, with their surfaces, and a box that contains the areas of both.
 #[derive(Drop)]
 pub(crate) struct FieldChange {
     id: FieldId,
@@ -236,7 +244,7 @@ impl Model for FieldChange {
 }
 
 impl FieldChange {
-    /// A change of the register with the surfaces of the airfield before and after it.
+    /// A change of the register, with the surfaces of the airfield before and after it.
     ///
     /// # Errors
     ///
@@ -256,11 +264,12 @@ impl FieldChange {
         })
     }
 
-    /// Whether the airfield may have an entry in the list of a structure, before the change or after it: by the point where the structure
-    /// stands, or because it is on the airfield.
+    /// Whether the airfield may have an entry in the list of a structure, before or after the change: judged by the structure's
+    /// point, or because the structure is on the airfield.
     #[tactic(auto, using(crate::proofs::Reaching::not_reached))]
     pub(crate) fn reaches(&self, filing: &Filing) -> bool
-        ensures { result ≡ false → concerns self.now filing.now ≡ false }
+        ensures far { result ≡ false → concerns self.now filing.now ≡ false }
+        ensures site { IsSite filing.now }
     {
         if !lies_in(&self.area, &filing.at) {
             return is_on(&self.id, filing);
@@ -268,14 +277,15 @@ impl FieldChange {
         self.before.reaches(filing) || self.after.reaches(filing) || is_on(&self.id, filing)
     }
 
-    /// What the airfield gives to the list of a structure now, where that is something else than before.
+    /// The entries that the airfield gives to the list of a structure now, where they differ from those before.
     pub(crate) fn new_share(
         &self,
         alloc: Global,
         filing: &Filing,
     ) -> Result<Option<Share>, NoMemory>
         ensures concerned { IfOk result (λ o. is_some o ≡ concerns self.now filing.now) }
-        ensures share { IfOk result (λ o. IfSome o (λ s. s ≡ share_of self.now.id self.now.is_now filing.now)) }
+        ensures share { IfOk result (λ o. IfSome o
+            (λ s. s ≡ share_of self.now.id self.now.is_now filing.now)) }
     {
         let before = self.before.share(alloc, &self.id, filing)?;
         let after = self.after.share(alloc, &self.id, filing)?;
@@ -285,7 +295,7 @@ impl FieldChange {
         Ok(None)
     }
 
-    /// Whether a stored list has other entries about the airfield than it gives now.
+    /// Whether a stored list has other entries on the airfield than it gives now.
     pub(crate) fn contradicts(
         &self,
         alloc: Global,
@@ -293,7 +303,8 @@ impl FieldChange {
         share: Share,
         stored: &Findings,
     ) -> Result<bool, NoMemory>
-        ensures { IfOk result (λ b. b ≡ differs (about self.now.id stored.now) (entries_by self.now.id filing.now share)) }
+        ensures { IfOk result (λ b. b ≡ differs (about self.now.id stored.now)
+            (entries_by self.now.id filing.now share)) }
     {
         let told = entries_about(alloc, &self.id, stored)?;
         let given = share.entries(&self.id, filing)?;

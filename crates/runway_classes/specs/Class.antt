@@ -30,8 +30,8 @@ width false NonprecisionAbove = pos 5000
 width false NonprecisionLow = pos 10000
 width false Precision = pos 10000
 
--- the radius of the arcs of the horizontal surface (77.19(a)): 5,000 feet for utility and visual runways, 10,000 for all others; the
--- arcs at both ends of a runway have the higher of its two ends' radii
+-- the radius of the arcs of the horizontal surface (77.19(a)): 5,000 feet for utility and visual runways, 10,000 for all others;
+-- the arcs at both ends of a runway have the greater of the radii of its two ends
 abbrev pub radius : Bool → ApproachKind → ℤ
 radius true most = pos 50000
 radius false Visual = pos 50000
@@ -43,8 +43,8 @@ radius false Precision = RADIUS_MOST
 abbrev pub single : ℤ → ℤ → ℤ → ℤ → EndClass
 single outer length slope k = record { outer = outer; length = length; slope = slope; split = length; slope2 = slope; k = k }
 
--- the approach surface of an end (77.19(d)) by use, the approach to that end, and the most precise approach to either end, which
--- gives the width at its inner end: outer width, length, slope, and what its half width grows by in the widening's scale
+-- the approach surface of an end (77.19(d)), from the use, the approach to that end, and the most precise approach to either end, which
+-- gives the width at the inner end: outer width, length, slope, and the growth of the half width per 40 of distance
 abbrev pub end_class : Bool → ApproachKind → ApproachKind → EndClass
 end_class true Visual Visual = single (pos 12500) (pos 50000) (pos 20) (pos 4)
 end_class true Visual NonprecisionAbove = single (pos 12500) (pos 50000) (pos 20) (pos 3)
@@ -62,7 +62,7 @@ end_class false NonprecisionAbove NonprecisionAbove = single (pos 35000) (pos 10
 end_class false NonprecisionAbove NonprecisionLow = single (pos 35000) (pos 100000) (pos 34) (pos 5)
 end_class false NonprecisionAbove Precision = single (pos 35000) (pos 100000) (pos 34) (pos 5)
 end_class false NonprecisionLow most = single (pos 40000) (pos 100000) (pos 34) (pos 6)
--- a precision approach rises by one in 50 for its inner 10,000 feet and by one in 40 for a further 40,000
+-- a precision approach rises 50 to 1 for its inner 10,000 feet and 40 to 1 for a further 40,000 feet
 end_class false Precision most =
     record { outer = pos 160000; length = pos 500000; slope = PRECISION_SLOPE; split = PRECISION_SPLIT; slope2 = PRECISION_SLOPE2; k = pos 6 }
 
@@ -72,15 +72,15 @@ runway_class utility a b =
     let most = more_precise a b in
     record { width = width utility most; radius = radius utility most; end1 = end_class utility a most; end2 = end_class utility b most }
 
--- a utility runway with a precision approach, which 77.3 has not
+-- a utility runway with a precision approach, which 77.3 excludes
 abbrev pub IsPrecisionOnUtility : Bool → ApproachKind → ApproachKind → Type 0
 IsPrecisionOnUtility utility a b = (utility ≡ true) × ((a ≡ Precision) ⊎ (b ≡ Precision))
 
--- the surface has its outer width where it ends: both its half widths have grown by k in the widening's scale over its length
+-- the surface widens to its outer width: over its length both half widths grow by k per 40 of distance
 abbrev pub IsFlared : ℤ → EndClass → Type 0
 IsFlared width end = WIDENING_SCALE *ℤ end.outer ≡ WIDENING_SCALE *ℤ width +ℤ pos 2 *ℤ (end.k *ℤ end.length)
 
--- sizes that each approach surface of the table has
+-- bounds on the sizes of each approach surface of the table
 pub record HasSizes (end : EndClass) : Type 0 where
   pub outer_least : pos 0 <ℤ end.outer
   pub outer_most : end.outer ≤ℤ pos 160000
@@ -95,7 +95,7 @@ pub record HasSizes (end : EndClass) : Type 0 where
   pub k_least : pos 0 <ℤ end.k
   pub k_most : end.k ≤ℤ pos 6
 
--- the width and the radius of a class have these sizes
+-- bounds on the width and the radius of a class
 pub record IsSized (class : RunwayClass) : Type 0 where
   pub width_least : pos 0 <ℤ class.width
   pub width_most : class.width ≤ℤ pos 10000

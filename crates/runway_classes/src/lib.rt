@@ -1,18 +1,17 @@
-//! Classes of runways: the widths, lengths and slopes that 77.19(a), (c) and (d) give a runway by its use and by the
+//! Classes of runways: the widths, lengths and slopes of a runway's surfaces (77.19(a), (c) and (d)) by its use and by the
 //! approaches to its ends. All lengths are in tenths of a foot.
 #![tactic(auto)]
 
 mod class;
+mod laws;
 mod table;
 
 pub use class::{
     EndClass, PRECISION_SLOPE, PRECISION_SLOPE2, PRECISION_SPLIT, PrecisionOnUtility, RunwayClass,
     WIDENING_SCALE,
 };
+pub use laws::numbers;
 pub use table::{RADIUS_MOST, classify};
-
-#[cfg(test)]
-mod tests;
 
 /// The kind of approach that a runway end has or is planned for (77.19), in rising order of precision.
 #[derive(Clone, Copy, Debug, PartialEq, Eq)]

@@ -1,4 +1,4 @@
-//! The table of the classes.
+//! The table of runway classes.
 
 ghost use Rattle.std.specs.Prelude.{◌≡◌, MatchResult, IfOk};
 ghost use Rattle.runway_classes.specs.Class.{more_precise as more_precise_of, width as width_of, radius as radius_of, end_class as end_class_of, single as single_of, runway_class as runway_class_of, IsPrecisionOnUtility, IsFlared, IsSized};
@@ -8,7 +8,7 @@ use crate::class::{
     EndClass, PRECISION_SLOPE, PRECISION_SLOPE2, PRECISION_SPLIT, PrecisionOnUtility, RunwayClass,
 };
 
-/// The greater of the two radii of the horizontal surface's arcs, in tenths of a foot: 10,000 feet (77.19(a)).
+/// The greater radius of the horizontal surface's arcs, in tenths of a foot: 10,000 feet (77.19(a)).
 pub const RADIUS_MOST: i64 = 100_000;
 
 /// The more precise of two kinds.
@@ -18,7 +18,7 @@ fn more_precise(a: ApproachKind, b: ApproachKind) -> ApproachKind
     if (a as u8) < (b as u8) { b } else { a }
 }
 
-/// The width of the primary surface.
+/// The width of the primary surface, in tenths of a foot (77.19(c)).
 fn width(utility: bool, most: ApproachKind) -> i64
     ensures { result ≡ width_of utility most }
 {
@@ -30,7 +30,7 @@ fn width(utility: bool, most: ApproachKind) -> i64
     }
 }
 
-/// The radius of the arcs of the horizontal surface.
+/// The radius of the arcs of the horizontal surface, in tenths of a foot (77.19(a)).
 fn radius(utility: bool, most: ApproachKind) -> i64
     ensures { result ≡ radius_of utility most }
 {
@@ -70,7 +70,7 @@ fn visual(utility: bool, most: ApproachKind) -> EndClass
     }
 }
 
-/// The approach surface of an end with a nonprecision instrument approach of the greater minimums.
+/// The approach surface of an end with a nonprecision approach with minimums above three-fourths of a mile.
 fn nonprecision_above(utility: bool, most: ApproachKind) -> EndClass
     ensures { result ≡ end_class_of utility ApproachKind.NonprecisionAbove most }
 {
@@ -85,7 +85,7 @@ fn nonprecision_above(utility: bool, most: ApproachKind) -> EndClass
     }
 }
 
-/// The approach surface of an end with this kind of approach, where `most` is the more precise kind of both ends.
+/// The approach surface of an end with this kind of approach, where `most` is the more precise of the kinds of both ends.
 fn end_class(utility: bool, kind: ApproachKind, most: ApproachKind) -> EndClass
     ensures { result ≡ end_class_of utility kind most }
 {
@@ -105,7 +105,7 @@ fn end_class(utility: bool, kind: ApproachKind, most: ApproachKind) -> EndClass
     }
 }
 
-/// The class of a runway that is not refused.
+/// The class of a runway that may exist: a utility runway has no precision end.
 fn runway_class(utility: bool, a: ApproachKind, b: ApproachKind) -> RunwayClass
     ensures { result ≡ runway_class_of utility a b }
 {
@@ -118,7 +118,7 @@ fn runway_class(utility: bool, a: ApproachKind, b: ApproachKind) -> RunwayClass
     }
 }
 
-/// The class of a runway, by its use and the approaches to its two ends: 77.19(a), (c) and (d).
+/// The class of a runway, by its use and the approaches to its two ends (77.19(a), (c) and (d)).
 ///
 /// # Errors
 ///
@@ -128,7 +128,8 @@ pub fn classify(
     a: ApproachKind,
     b: ApproachKind,
 ) -> Result<RunwayClass, PrecisionOnUtility>
-    ensures exact { MatchResult result (λ c. (c ≡ runway_class_of utility a b) × (¬ IsPrecisionOnUtility utility a b)) (λ _. IsPrecisionOnUtility utility a b) }
+    ensures exact { MatchResult result (λ c. (c ≡ runway_class_of utility a b)
+        × (¬ IsPrecisionOnUtility utility a b)) (λ _. IsPrecisionOnUtility utility a b) }
     ensures flared { IfOk result (λ c. IsFlared c.width c.end1 × IsFlared c.width c.end2) }
     ensures sized { IfOk result (λ c. IsSized c) }
 {

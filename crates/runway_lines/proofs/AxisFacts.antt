@@ -5,13 +5,13 @@ use Rattle.std.proofs.lemmas.Int.{ints, by_lt_z}
 use Rattle.grid_exact.specs.Vector.{length_of}
 use Rattle.grid_exact.proofs.RootSums.{le_from_squares}
 use Rattle.airfields.specs.declared.runway.Runway.{Runway}
-use Rattle.airfields.specs.Runways.{apart, length_square}
+use Rattle.airfields.specs.Runways.{distance_apart, length_square}
 use Rattle.runway_lines.specs.declared.end.End.{End}
 use Rattle.runway_lines.specs.declared.end.End.TheVariants.{One, Two}
 use Rattle.airfields.specs.Runways.{IsWithinLength}
 use Rattle.grid_exact.specs.Lines.{IsSquare}
-use Rattle.runway_lines.specs.Centers.{IsCenter, center, extended}
-use Rattle.runway_lines.specs.Ends.{AreCenters, center_x, center_y, centers, other}
+use Rattle.runway_lines.specs.Centers.{IsCenter, center, point_beyond}
+use Rattle.runway_lines.specs.Ends.{AreCenters, center_x, center_y, centers, other_end}
 use Rattle.runway_lines.proofs.CenterFacts.{extended_above, extended_below, extended_is, extended_near}
 
 -- the two sizes differ by at most 4,000, and the first is the smaller
@@ -22,10 +22,10 @@ pub record Spreads (u v : ℕ) : Type 0 where
 pub swapped : (p q : ℤ) → unsigned_abs (p -ℤ q) ≡ unsigned_abs (q -ℤ p)
 swapped p q = omega (arith, ints)
 
-extended_spreads : (p q : ℤ) (n : ℕ) → apart p q * apart p q ≤ n → 0 < n → Spreads (apart p q) (unsigned_abs (extended p q n -ℤ extended q p n))
+extended_spreads : (p q : ℤ) (n : ℕ) → distance_apart p q * distance_apart p q ≤ n → 0 < n → Spreads (distance_apart p q) (unsigned_abs (point_beyond p q n -ℤ point_beyond q p n))
 extended_spreads p q n h s =
-    let a = extended p q n in
-    let b = extended q p n in
+    let a = point_beyond p q n in
+    let b = point_beyond q p n in
     let ha = extended_is p q n (rw (swapped q p) h) s in
     let hb = extended_is q p n h s in
     let na = extended_near p q n in
@@ -40,7 +40,7 @@ extended_spreads p q n h s =
     record { least = omega (arith, ints, x, y, k); most = omega (arith, ints, x, y, k, na.1, nb.0) })
     (λ k. record { least = omega (arith, ints, k, l); most = omega (arith, ints, k, l, na.0, na.1, nb.0, nb.1) }))
 
-center_spreads : (hard : Bool) (p q : ℤ) (n : ℕ) → apart p q * apart p q ≤ n → 0 < n → Spreads (apart p q) (unsigned_abs (center hard p q n -ℤ center hard q p n))
+center_spreads : (hard : Bool) (p q : ℤ) (n : ℕ) → distance_apart p q * distance_apart p q ≤ n → 0 < n → Spreads (distance_apart p q) (unsigned_abs (center hard p q n -ℤ center hard q p n))
 center_spreads true p q n h s = extended_spreads p q n h s
 center_spreads false p q n h s = record { least = omega arith; most = omega arith }
 
@@ -57,10 +57,10 @@ square_of_spread u v U V x y low high =
     record { some = omega (arith, mu, mv, low); size = omega (arith, MU, MV) }
 
 -- a coordinate's way between the ends is part of the length
-pub part_x : (r : Runway) → apart r.end1.at.x r.end2.at.x * apart r.end1.at.x r.end2.at.x ≤ length_square r
+pub part_x : (r : Runway) → distance_apart r.end1.at.x r.end2.at.x * distance_apart r.end1.at.x r.end2.at.x ≤ length_square r
 part_x r = omega arith
 
-pub part_y : (r : Runway) → apart r.end1.at.y r.end2.at.y * apart r.end1.at.y r.end2.at.y ≤ length_square r
+pub part_y : (r : Runway) → distance_apart r.end1.at.y r.end2.at.y * distance_apart r.end1.at.y r.end2.at.y ≤ length_square r
 part_y r = omega arith
 
 pub length_is_square : (r : Runway) → IsWithinLength r → IsSquare (length_square r)
@@ -69,7 +69,7 @@ length_is_square r h = record { some = omega (arith, h.least); size = omega (ari
 pub axis_square : (r : Runway) → IsWithinLength r → IsSquare (length_of (center_x r One -ℤ center_x r Two) (center_y r One -ℤ center_y r Two))
 axis_square r h =
     let some : 0 < length_square r = (length_is_square r h).some in
-    square_of_spread (apart r.end1.at.x r.end2.at.x) (apart r.end1.at.y r.end2.at.y)
+    square_of_spread (distance_apart r.end1.at.x r.end2.at.x) (distance_apart r.end1.at.y r.end2.at.y)
     (unsigned_abs (center_x r One -ℤ center_x r Two)) (unsigned_abs (center_y r One -ℤ center_y r Two))
     (center_spreads r.hard r.end1.at.x r.end2.at.x (length_square r) (part_x r) some)
     (center_spreads r.hard r.end1.at.y r.end2.at.y (length_square r) (part_y r) some)
@@ -93,7 +93,7 @@ centers_are r h =
       y2 = center_is r.hard r.end2.at.y r.end1.at.y (length_square r) (part_y r) some;
     }
 
-pub outward_square : (r : Runway) (end : End) → IsWithinLength r → IsSquare (length_of (center_x r end -ℤ center_x r (other end)) (center_y r end -ℤ center_y r (other end)))
+pub outward_square : (r : Runway) (end : End) → IsWithinLength r → IsSquare (length_of (center_x r end -ℤ center_x r (other_end end)) (center_y r end -ℤ center_y r (other_end end)))
 outward_square r One h = axis_square r h
 outward_square r Two h = axis_square_back r h
 

@@ -8,7 +8,7 @@ use Rattle.grid_exact.proofs.IntLaws.{abs_neg, mul-neg}
 use Rattle.grid_exact.proofs.RootOrder.{AtMostRoot_less, AtMostRoot_more, AtMostRoot_not}
 use Rattle.grid_exact.proofs.RootSums.{AtMostRoot_add, AtMostRoot-scale, at_zero, in_np, in_pp}
 use Rattle.grid_exact.proofs.RootTables.{AboveRoot-not}
-use Rattle.runway_lines.specs.Centers.{IsExtended, IsSetback, extended}
+use Rattle.runway_lines.specs.Centers.{IsExtended, IsSetback, point_beyond}
 use Rattle.grid_exact.proofs.ExcessLemmas.{greatest_up_to-most, greatest_up_to-passes, greatest_up_to-within}
 use Rattle.grid_exact.proofs.TestFacts.{at_most_in, at_most_out}
 
@@ -33,8 +33,8 @@ pub part_within : (d : ℤ) (n : ℕ) → unsigned_abs d * unsigned_abs d ≤ n 
 part_within d n h = AtMostRoot_more (pos 2000 *ℤ d) (pos 2000) (pos 2097152) n (omega (arith, ints)) (part_most d n h)
 
 -- ---- the search finds the point
-pub extended_is : (here there : ℤ) (n : ℕ) → unsigned_abs (there -ℤ here) * unsigned_abs (there -ℤ here) ≤ n → 0 < n → IsExtended here there n (extended here there n)
-unfolding extended
+pub extended_is : (here there : ℤ) (n : ℕ) → unsigned_abs (there -ℤ here) * unsigned_abs (there -ℤ here) ≤ n → 0 < n → IsExtended here there n (point_beyond here there n)
+unfolding point_beyond
 extended_is here there n h p =
     let c = pos 2000 *ℤ (there -ℤ here) in
     let t : ℕ → Bool = λ e. is_at_most_root c (pos 2000 -ℤ pos e) n in
@@ -67,8 +67,8 @@ extended_back here there n w s =
       greatest = λ b r. omega (arith, ints, s.least (here -ℤ b) r);
     }
 
-pub extended_near : (here there : ℤ) (n : ℕ) → ((here -ℤ pos 2000) ≤ℤ extended here there n) × (extended here there n ≤ℤ (here +ℤ pos 2000))
-unfolding extended
+pub extended_near : (here there : ℤ) (n : ℕ) → ((here -ℤ pos 2000) ≤ℤ point_beyond here there n) × (point_beyond here there n ≤ℤ (here +ℤ pos 2000))
+unfolding point_beyond
 extended_near here there n =
     let t : ℕ → Bool = λ e. is_at_most_root (pos 2000 *ℤ (there -ℤ here)) (pos 2000 -ℤ pos e) n in
     let w = greatest_up_to-within t 4000 in

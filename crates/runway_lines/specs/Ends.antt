@@ -11,22 +11,22 @@ use Rattle.runway_lines.specs.declared.end.End.{End}
 use Rattle.runway_lines.specs.declared.end.End.TheVariants.{One, Two}
 use Rattle.runway_lines.specs.Centers.{IsCenter, center}
 
-abbrev pub other : End → End
-other One = Two
-other Two = One
+abbrev pub other_end : End → End
+other_end One = Two
+other_end Two = One
 
 abbrev pub end_of : Runway → End → RunwayEnd
 end_of r One = r.end1
 end_of r Two = r.end2
 
--- the center of the primary surface's end, at this end of the runway
+-- the center of the end of the primary surface at this end of the runway
 abbrev pub center_x : Runway → End → ℤ
-center_x r end = center r.hard (end_of r end).at.x (end_of r (other end)).at.x (length_square r)
+center_x r end = center r.hard (end_of r end).at.x (end_of r (other_end end)).at.x (length_square r)
 
 abbrev pub center_y : Runway → End → ℤ
-center_y r end = center r.hard (end_of r end).at.y (end_of r (other end)).at.y (length_square r)
+center_y r end = center r.hard (end_of r end).at.y (end_of r (other_end end)).at.y (length_square r)
 
--- the two centers are where 77.19(c) has them
+-- the two centers are those of 77.19(c)
 pub record AreCenters (r : Runway) (ends : (ℤ × ℤ) × (ℤ × ℤ)) : Type 0 where
   pub x1 : IsCenter r.hard r.end1.at.x r.end2.at.x (length_square r) ends.0.0
   pub y1 : IsCenter r.hard r.end1.at.y r.end2.at.y (length_square r) ends.0.1

@@ -3,7 +3,7 @@
 ghost use Rattle.std.specs.Prelude.{◌≡◌, ◌^◌, ◌≤◌, ◌≤ℤ◌, pos, unsigned_abs};
 ghost use Rattle.grid_exact.specs.Level.{IsLevel};
 ghost use Rattle.airfields.specs.Runways.{IsProper};
-ghost use Rattle.runway_lines.specs.Centerlines.{IsSloped, clamped};
+ghost use Rattle.runway_lines.specs.Centerlines.{IsSloped, clamped_length};
 
 use airfields::Runway;
 use grid_exact::{Axis, Offset, Point, Start, Vector, scale};
@@ -12,9 +12,9 @@ use grid_exact::{Axis, Offset, Point, Start, Vector, scale};
 #[derive(Clone, Copy)]
 pub struct Centerline {
     pub axis: Axis,
-    /// The elevation of the first end.
+    /// The elevation of the first end, in tenths of a foot.
     pub z: i64,
-    /// How much higher the second end is.
+    /// The elevation of the second end minus that of the first, in tenths of a foot.
     pub rise: i64,
     ghost sloped: { IsSloped z rise },
 }
@@ -40,14 +40,14 @@ impl Centerline {
         }
     }
 
-    /// Where a point lies by it.
+    /// The position of a point relative to the centerline.
     pub fn offset(&self, point: &Point) -> Offset
         ensures { result ≡ offset_of (profile self.now).line point.now }
     {
         self.axis.offset(point)
     }
 
-    /// How much higher than the first end it is where it is nearest to a point that lies so by it, rounded down.
+    /// The elevation of the centerline's point nearest to a point with this offset, minus that of the first end, rounded down.
     fn climb(&self, at: &Offset) -> i64
         ensures value { result ≡ climb_of (profile self.now) at.now }
         ensures size { unsigned_abs result ≤ 2 ^ 18 }
@@ -56,7 +56,7 @@ impl Centerline {
         scale(self.rise, progress(at)).div_euclid(square) as i64
     }
 
-    /// The elevation of it where it is nearest to a point that lies so by it, rounded down, in tenths of a foot.
+    /// The elevation of the centerline's point nearest to a point with this offset, rounded down, in tenths of a foot.
     pub fn elevation_at(&self, at: &Offset) -> i64
         ensures value { result ≡ elevation_at_of (profile self.now) at.now }
         ensures level { IsLevel result }
@@ -65,7 +65,7 @@ impl Centerline {
         self.z + self.climb(at)
     }
 
-    /// The elevation of it where it is nearest to a point, rounded down, in tenths of a foot.
+    /// The elevation of the centerline's point nearest to a point, rounded down, in tenths of a foot.
     pub fn elevation(&self, point: &Point) -> i64
         ensures value { result ≡ elevation_of (profile self.now) point.now }
         ensures level { IsLevel result }
@@ -75,9 +75,9 @@ impl Centerline {
     }
 }
 
-/// How far along a line the point of it lies that is nearest to a point that lies so by it, times its length.
+/// The distance along a line of its point nearest to a point with this offset, times the line's length.
 fn progress(at: &Offset) -> i128
-    ensures value { result ≡ clamped at.now.along at.now.square }
+    ensures value { result ≡ clamped_length at.now.along at.now.square }
     ensures least { pos 0 ≤ℤ result }
     ensures most { result ≤ℤ pos at.now.square }
 {

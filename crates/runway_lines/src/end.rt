@@ -12,7 +12,7 @@ pub enum End {
 }
 
 impl End {
-    ghost use Rattle.runway_lines.specs.Ends.{end_of, other as other_of};
+    ghost use Rattle.runway_lines.specs.Ends.{end_of, other_end as other_of};
 
     /// The other end.
     pub fn other(self) -> End

@@ -11,7 +11,7 @@ use airfields::Runway;
 use grid_exact::Start;
 use runway_classes::{EndClass, RunwayClass, classify};
 
-/// The center of the primary surface's end, at this end of a runway.
+/// The center of the end of the primary surface at this end of a runway: 200 feet past a hard runway's end, else the end (77.19(c)).
 pub fn center(runway: &Runway, end: End) -> Start
     requires proper { IsProper runway.now }
     ensures x { result.x ≡ center_x runway.now end }

@@ -3,12 +3,12 @@
 ghost use Rattle.std.specs.Prelude.{◌≡◌, ◌*◌, ◌<◌, ◌≤◌, ◌^◌, ◌+ℤ◌, ◌-ℤ◌, pos, unsigned_abs, true, IsTrue};
 ghost use Rattle.grid_exact.specs.Lines.{IsSquare};
 ghost use Rattle.grid_exact.specs.Root.{AtMostRoot};
-ghost use Rattle.runway_lines.specs.Centers.{IsSetback, extended as extended_of};
+ghost use Rattle.runway_lines.specs.Centers.{IsSetback, point_beyond as extended_of};
 
 use grid_exact::{Point, SETBACK, Start, Vector, is_at_most_root, least_coordinate, product};
 use std::num::{nearest_i64_to_f64, nearest_u64_to_f64, saturating_f64_to_u32};
 
-/// About how far back from an end that is: a guess, of which nothing is asked.
+/// The approximate setback in one coordinate; correctness does not depend on it.
 fn about_setback(toward: i64, square: u128) -> i64
     ensures size { unsigned_abs result ≤ 2 ^ 33 }
 {
@@ -31,8 +31,8 @@ fn is_least(part: i128, number: i64, square: u128) -> bool
         && !is_at_most_root(part, (number - 1) as i128, square)
 }
 
-/// How far back from an end, in one coordinate, a point 200 feet past it lies, rounded up: the other end is `toward` away in that
-/// coordinate, and at the root of `square` in all.
+/// The difference in one coordinate between an end and the point 200 feet past it, rounded up. `toward` is the difference to the other
+/// end in that coordinate, and `square` the square of the distance between the ends.
 fn setback(toward: i64, square: u128) -> i64
     requires part { unsigned_abs toward * unsigned_abs toward ≤ square }
     requires square { IsSquare square }
@@ -47,10 +47,12 @@ fn setback(toward: i64, square: u128) -> i64
     least_coordinate(part, 1, square)
 }
 
-/// The point 200 feet past an end of a runway, each coordinate rounded down: the other end is at `there`.
+/// The point 200 feet past an end of a runway, each coordinate rounded down; `there` is the other end.
 pub(crate) fn extended(here: &Point, there: &Point, square: u128) -> Start
-    requires part_x { unsigned_abs (there.now.x -ℤ here.now.x) * unsigned_abs (there.now.x -ℤ here.now.x) ≤ square }
-    requires part_y { unsigned_abs (there.now.y -ℤ here.now.y) * unsigned_abs (there.now.y -ℤ here.now.y) ≤ square }
+    requires part_x { unsigned_abs (there.now.x -ℤ here.now.x)
+        * unsigned_abs (there.now.x -ℤ here.now.x) ≤ square }
+    requires part_y { unsigned_abs (there.now.y -ℤ here.now.y)
+        * unsigned_abs (there.now.y -ℤ here.now.y) ≤ square }
     requires square { IsSquare square }
     ensures x { result.x ≡ extended_of here.now.x there.now.x square }
     ensures y { result.y ≡ extended_of here.now.y there.now.y square }

@@ -9,13 +9,14 @@ use Rattle.grid_exact.specs.Area.{Has}
 use Rattle.grid_exact.specs.declared.area.Area.{Area}
 use Rattle.grid_exact.specs.declared.point.Point.{Point}
 use Rattle.outline_boxes.specs.Boxes.{Encloses, HoldsBoth, IsLeastBox}
+use Rattle.outline_boxes.proofs.More.{Encloses_through}
 use Rattle.airfields.specs.Airfields.{IsHeldAirport}
 use Rattle.airfields.specs.Runways.{IsProper}
 use Rattle.airfields.specs.declared.airfield.Airport.{Airport}
 use Rattle.airfields.specs.declared.runway.Runway.{Runway}
 use Rattle.runway_notice.specs.Distances.{IsAtLeastRootOf}
 use Rattle.runway_notice.specs.Nearest.{distance_of}
-use Rattle.runway_notice.specs.NoticeAreas.{HoldsEnds, HoldsRunways, around}
+use Rattle.runway_notice.specs.NoticeAreas.{HoldsEnds, HoldsRunways, area_around}
 use Rattle.runway_notice.specs.Notices.{notice_slope}
 use Rattle.runway_notice.specs.Slopes.{range_of, sub_of}
 use Rattle.runway_notice.specs.Surfaces.{IsInRange, is_in_range, slope_excess}
@@ -24,18 +25,10 @@ use Rattle.runway_notice.proofs.NoticeFacts.{all_none}
 use Rattle.runway_notice.proofs.PastRange.{apart_above, apart_below, past_in_x, past_in_y}
 use Rattle.runway_notice.proofs.SlopeFacts.{range_in}
 
-encloses_all : (a b c : Area) → Encloses a b → Encloses b c → Encloses a c
-encloses_all a b c h k = record {
-  west = omega (arith, ints, h.west, k.west);
-  east = omega (arith, ints, h.east, k.east);
-  south = omega (arith, ints, h.south, k.south);
-  north = omega (arith, ints, h.north, k.north);
-}
-
 ends_in_more : (a b : Area) (radius : ℤ) (r : Runway) → Encloses a b → HoldsEnds radius r b → HoldsEnds radius r a
 ends_in_more a b radius r h k = record {
-  first = encloses_all a b (around r.end1.at radius) h k.first;
-  second = encloses_all a b (around r.end2.at radius) h k.second;
+  first = Encloses_through a b (area_around r.end1.at radius) h k.first;
+  second = Encloses_through a b (area_around r.end2.at radius) h k.second;
 }
 
 -- ---- a box that holds the ends of the first i runways, and lies in each that holds all

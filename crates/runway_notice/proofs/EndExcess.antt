@@ -14,7 +14,7 @@ use Rattle.airfields.specs.declared.runway.Runway.{Runway}
 use Rattle.airfields.specs.declared.runway.RunwayEnd.{RunwayEnd}
 use Rattle.runway_lines.specs.Profiles.{profile_of}
 use Rattle.runway_notice.specs.Distances.{Fraction, IsAtLeastRootOf, IsAboveRootOf}
-use Rattle.runway_notice.specs.EndSlopes.{end_surface, square_between, whole}
+use Rattle.runway_notice.specs.EndSlopes.{end_surface, square_between, whole_fraction}
 use Rattle.runway_notice.specs.LoneRunways.{IsLoneOf, IsReady}
 use Rattle.runway_notice.specs.Nearest.{distance_of, elevation_of, offset_of}
 use Rattle.runway_notice.specs.ShortEnds.{IsEnd}
@@ -76,14 +76,14 @@ same_excess s t top (Some e) c a b h = record {
   greatest = λ d k. h.greatest d ((b (top -ℤ pos d)).1 k);
 }
 
-at_least : (x : Point) (r : Runway) (q n : ℕ) (b : ℤ) → 0 < n → distance_of x r ≡ times q n → IsAtLeastRootOf (whole q) b ↔ IsAtLeastRootOf (distance_of x r) b
-at_least x r q n b p e = subst (λ (f : Fraction). IsAtLeastRootOf (whole q) b ↔ IsAtLeastRootOf f b) (sym e) (at_least_whole q n b p)
+at_least : (x : Point) (r : Runway) (q n : ℕ) (b : ℤ) → 0 < n → distance_of x r ≡ times q n → IsAtLeastRootOf (whole_fraction q) b ↔ IsAtLeastRootOf (distance_of x r) b
+at_least x r q n b p e = subst (λ (f : Fraction). IsAtLeastRootOf (whole_fraction q) b ↔ IsAtLeastRootOf f b) (sym e) (at_least_whole q n b p)
 
-above : (x : Point) (r : Runway) (q n : ℕ) (b : ℤ) → 0 < n → distance_of x r ≡ times q n → IsAboveRootOf (whole q) b ↔ IsAboveRootOf (distance_of x r) b
-above x r q n b p e = subst (λ (f : Fraction). IsAboveRootOf (whole q) b ↔ IsAboveRootOf f b) (sym e) (above_whole q n b p)
+above : (x : Point) (r : Runway) (q n : ℕ) (b : ℤ) → 0 < n → distance_of x r ≡ times q n → IsAboveRootOf (whole_fraction q) b ↔ IsAboveRootOf (distance_of x r) b
+above x r q n b p e = subst (λ (f : Fraction). IsAboveRootOf (whole_fraction q) b ↔ IsAboveRootOf f b) (sym e) (above_whole q n b p)
 
-in_range : (a : Airport) (r : Runway) (x : Point) (q : ℕ) → is_described a.category ≡ true → IsAtLeastRootOf (whole q) (range_of (sub_of a.runways)) ↔ IsAtLeastRootOf (distance_of x r) (range_of (sub_of a.runways)) →
-    IsAtLeastRootOf (whole q) (range_of (sub_of a.runways)) ↔ IsInRange a r x
+in_range : (a : Airport) (r : Runway) (x : Point) (q : ℕ) → is_described a.category ≡ true → IsAtLeastRootOf (whole_fraction q) (range_of (sub_of a.runways)) ↔ IsAtLeastRootOf (distance_of x r) (range_of (sub_of a.runways)) →
+    IsAtLeastRootOf (whole_fraction q) (range_of (sub_of a.runways)) ↔ IsInRange a r x
 in_range a r x q d h = (λ k. record { described = d; within = h.0 k }, λ k. h.1 k.within)
 
 lone_sub : (a : Airport) (r : Runway) (sub : Sub) → sub ≡ sub_of (r ∷ []) → a.runways ≡ (r ∷ []) → sub ≡ sub_of a.runways

@@ -7,9 +7,9 @@ use Rattle.std.proofs.lemmas.Int.{ints}
 use Rattle.grid_exact.specs.Vector.{along_of, across_of, length_of}
 use Rattle.grid_exact.proofs.IntLaws.{abs_square, add-mul, mul-add, mul-sub, mul_assoc, sub-mul}
 use Rattle.grid_exact.proofs.TestFacts.{lt_out}
-use Rattle.runway_lines.specs.Centerlines.{clamped}
+use Rattle.runway_lines.specs.Centerlines.{clamped_length}
 use Rattle.runway_notice.specs.Distances.{Fraction, IsAtLeastRootOf, IsAboveRootOf}
-use Rattle.runway_notice.specs.EndSlopes.{whole}
+use Rattle.runway_notice.specs.EndSlopes.{whole_fraction}
 
 -- ---- of two vectors the squares of the inner and the cross product make the product of the squares of their lengths
 paired : (a b c d : ℤ) → (a *ℤ b) *ℤ (c *ℤ d) ≡ (a *ℤ c) *ℤ (b *ℤ d)
@@ -74,10 +74,10 @@ pub lagrange_from : (ex ey vx vy : ℤ) →
 lagrange_from ex ey vx vy = rw (along_from ex ey vx vy, across_from ex ey vx vy) at (lagrange_squares (ex -ℤ vx) (ey -ℤ vy) vx vy)
 
 -- ---- how far a point lies beyond an end
-pub beyond_start : (m : ℤ) (n : ℕ) → m <ℤ pos 0 → unsigned_abs (m -ℤ clamped m n) ≡ unsigned_abs m
+pub beyond_start : (m : ℤ) (n : ℕ) → m <ℤ pos 0 → unsigned_abs (m -ℤ clamped_length m n) ≡ unsigned_abs m
 beyond_start m n l = let t : int_lt m (pos 0) ≡ true = lt_out m (pos 0) l in rw t (omega (arith, ints))
 
-pub beyond_end : (m : ℤ) (n : ℕ) → pos n <ℤ m → unsigned_abs (m -ℤ clamped m n) ≡ unsigned_abs (m -ℤ pos n)
+pub beyond_end : (m : ℤ) (n : ℕ) → pos n <ℤ m → unsigned_abs (m -ℤ clamped_length m n) ≡ unsigned_abs (m -ℤ pos n)
 beyond_end m n l =
     let f : int_lt m (pos 0) ≡ false = grind (arith, ints, l) in
     let t : int_lt (pos n) m ≡ true = lt_out (pos n) m l in
@@ -99,14 +99,14 @@ lt_cancel q s n h = elim (cases_lt q s) [
   | inr l ↦ absurd (omega (arith, mul-le-mul_right n l, h))
 ]
 
-pub at_least_whole : (q n : ℕ) (b : ℤ) → 0 < n → IsAtLeastRootOf (whole q) b ↔ IsAtLeastRootOf (times q n) b
+pub at_least_whole : (q n : ℕ) (b : ℤ) → 0 < n → IsAtLeastRootOf (whole_fraction q) b ↔ IsAtLeastRootOf (times q n) b
 at_least_whole q n b p =
     let s = unsigned_abs b * unsigned_abs b in (
       λ h. record { not_negative = h.not_negative; square = (let l : q ≤ s = omega (arith, h.square) in mul-le-mul_right n l) },
       λ h. record { not_negative = h.not_negative; square = (let l : q ≤ s = le_cancel q s n p h.square in omega (arith, l)) },
     )
 
-pub above_whole : (q n : ℕ) (b : ℤ) → 0 < n → IsAboveRootOf (whole q) b ↔ IsAboveRootOf (times q n) b
+pub above_whole : (q n : ℕ) (b : ℤ) → 0 < n → IsAboveRootOf (whole_fraction q) b ↔ IsAboveRootOf (times q n) b
 above_whole q n b p =
     let s = unsigned_abs b * unsigned_abs b in (
       λ h. record { not_negative = h.not_negative; square = (let l : q < s = omega (arith, h.square) in mul-lt-mul_of_pos_right l p) },

@@ -8,7 +8,7 @@ use Rattle.grid_exact.specs.Level.{IsLevel}
 use Rattle.grid_exact.proofs.ExcessLemmas.{IsExcess-unique}
 use Rattle.grid_exact.specs.declared.point.Point.{Point}
 use Rattle.airfields.specs.Airfields.{IsHeldAirport}
-use Rattle.airfields.specs.Runways.{HasNearEnds, IsProper, apart}
+use Rattle.airfields.specs.Runways.{HasNearEnds, IsProper, distance_apart}
 use Rattle.airfields.specs.declared.limits.TheConstants.{RUNWAY_REACH}
 use Rattle.airfields.specs.declared.airfield.Airport.{Airport}
 use Rattle.airfields.specs.declared.runway.Runway.{Runway}
@@ -28,7 +28,7 @@ use Rattle.runway_notice.proofs.NearestFacts.{kept, nearest_is}
 use Rattle.runway_notice.proofs.NoticeFacts.{all_none}
 use Rattle.runway_notice.proofs.SlopeFacts.{slope_excess_is}
 
-are_apart : (x c p q : ℤ) → SLOPE_REACH < apart x c → apart p c ≤ RUNWAY_REACH → apart q c ≤ RUNWAY_REACH → AreApart (past RANGE_B1) (x -ℤ p) (x -ℤ p -ℤ (q -ℤ p))
+are_apart : (x c p q : ℤ) → SLOPE_REACH < distance_apart x c → distance_apart p c ≤ RUNWAY_REACH → distance_apart q c ≤ RUNWAY_REACH → AreApart (past RANGE_B1) (x -ℤ p) (x -ℤ p -ℤ (q -ℤ p))
 are_apart x c p q far near_p near_q =
     by_lt_z x c
     (λ l. apart_below x p q RANGE_B1 (omega (arith, ints)) (omega (arith, ints, far, near_p, l)) (omega (arith, ints, far, near_q, l)))
@@ -37,9 +37,9 @@ are_apart x c p q far near_p near_q =
 -- no range comes to a point that is far
 far_runway : (arp x : Point) (r : Runway) → IsProper r → HasNearEnds arp r → is_far arp x ≡ true → IsAtLeastRootOf (distance_of x r) RANGE_B1 → ⊥
 far_runway arp x r proper near far h =
-    elim (or_cases (nat_lt SLOPE_REACH (apart x.x arp.x)) (nat_lt SLOPE_REACH (apart x.y arp.y)) far) [
-      | inl t ↦ past_in_x x r RANGE_B1 proper (are_apart x.x arp.x r.end1.at.x r.end2.at.x (ltb-true SLOPE_REACH (apart x.x arp.x) t) near.end1.x near.end2.x) h
-      | inr t ↦ past_in_y x r RANGE_B1 proper (are_apart x.y arp.y r.end1.at.y r.end2.at.y (ltb-true SLOPE_REACH (apart x.y arp.y) t) near.end1.y near.end2.y) h
+    elim (or_cases (nat_lt SLOPE_REACH (distance_apart x.x arp.x)) (nat_lt SLOPE_REACH (distance_apart x.y arp.y)) far) [
+      | inl t ↦ past_in_x x r RANGE_B1 proper (are_apart x.x arp.x r.end1.at.x r.end2.at.x (ltb-true SLOPE_REACH (distance_apart x.x arp.x) t) near.end1.x near.end2.x) h
+      | inr t ↦ past_in_y x r RANGE_B1 proper (are_apart x.y arp.y r.end1.at.y r.end2.at.y (ltb-true SLOPE_REACH (distance_apart x.y arp.y) t) near.end1.y near.end2.y) h
     ]
 
 range_most : (s : Sub) → range_of s ≤ℤ RANGE_B1

@@ -7,7 +7,7 @@ use Rattle.grid_exact.specs.Vector.{along_of, across_of, length_of}
 use Rattle.grid_exact.proofs.IntLaws.{add-mul, sub-mul, mul-sub}
 use Rattle.grid_exact.proofs.Sizes.{abs_add_le}
 use Rattle.grid_exact.proofs.Vectors.{lagrange}
-use Rattle.runway_lines.specs.Centerlines.{clamped}
+use Rattle.runway_lines.specs.Centerlines.{clamped_length}
 
 -- ---- over the natural numbers
 twice_up : (x k : ℕ) → 2 * (x * (x + k)) ≤ x * x + (x + k) * (x + k)
@@ -75,7 +75,7 @@ pub record IsPart (t : ℤ) (n : ℕ) : Type 0 where
   pub least : pos 0 ≤ℤ t
   pub most : t ≤ℤ pos n
 
-pub clamped_part : (m : ℤ) (n : ℕ) → IsPart (clamped m n) n
+pub clamped_part : (m : ℤ) (n : ℕ) → IsPart (clamped_length m n) n
 clamped_part m n = elim (cases_Bool (int_lt m (pos 0))) [
   | inl t ↦ rw t (record { least = omega (arith, ints); most = omega (arith, ints) })
   | inr f ↦ elim (cases_Bool (int_lt (pos n) m)) [
@@ -99,9 +99,9 @@ far_part vx wx t n w part side a b =
 
 -- the square of the distance to the line, where both ends are at least w away to one side in one coordinate
 pub far_aside : (vx vy wx wy : ℤ) (w : ℕ) → 0 < length_of wx wy → SameSide vx (vx -ℤ wx) → w ≤ unsigned_abs vx → w ≤ unsigned_abs (vx -ℤ wx) →
-    w * w * length_of wx wy ≤ unsigned_abs (along_of vx vy wx wy -ℤ clamped (along_of vx vy wx wy) (length_of wx wy)) * unsigned_abs (along_of vx vy wx wy -ℤ clamped (along_of vx vy wx wy) (length_of wx wy)) + unsigned_abs (across_of vx vy wx wy) * unsigned_abs (across_of vx vy wx wy)
+    w * w * length_of wx wy ≤ unsigned_abs (along_of vx vy wx wy -ℤ clamped_length (along_of vx vy wx wy) (length_of wx wy)) * unsigned_abs (along_of vx vy wx wy -ℤ clamped_length (along_of vx vy wx wy) (length_of wx wy)) + unsigned_abs (across_of vx vy wx wy) * unsigned_abs (across_of vx vy wx wy)
 far_aside vx vy wx wy w some side a b =
     let n = length_of wx wy in
-    let t = clamped (along_of vx vy wx wy) n in
+    let t = clamped_length (along_of vx vy wx wy) n in
     away (unsigned_abs (along_of vx vy wx wy -ℤ t)) (unsigned_abs (across_of vx vy wx wy)) (unsigned_abs wx) (unsigned_abs wy) w some
     (omega (arith, far_part vx wx t n w (clamped_part (along_of vx vy wx wy) n) side a b, parts_most vx vy wx wy t))

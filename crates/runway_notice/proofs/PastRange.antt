@@ -5,7 +5,7 @@ use Rattle.grid_exact.specs.Vector.{along_of, across_of, length_of}
 use Rattle.grid_exact.specs.declared.point.Point.{Point}
 use Rattle.airfields.specs.Runways.{IsProper}
 use Rattle.airfields.specs.declared.runway.Runway.{Runway}
-use Rattle.runway_lines.specs.Centerlines.{clamped}
+use Rattle.runway_lines.specs.Centerlines.{clamped_length}
 use Rattle.runway_lines.specs.Profiles.{profile_of}
 use Rattle.runway_notice.specs.Distances.{IsAtLeastRootOf}
 use Rattle.runway_notice.specs.Nearest.{distance_of}
@@ -49,7 +49,7 @@ apart_above x p q range r h k = record {
 
 -- the square of the distance, of a point m along and q aside of a line of square length n
 abbrev IsFarAside : ℕ → ℤ → ℕ → ℕ → Type 0
-IsFarAside w m q n = w * w * n ≤ unsigned_abs (m -ℤ clamped m n) * unsigned_abs (m -ℤ clamped m n) + q * q
+IsFarAside w m q n = w * w * n ≤ unsigned_abs (m -ℤ clamped_length m n) * unsigned_abs (m -ℤ clamped_length m n) + q * q
 
 far_in_x : (w : ℕ) (vx vy wx wy : ℤ) → 0 < length_of wx wy → AreApart w vx (vx -ℤ wx) → IsFarAside w (along_of vx vy wx wy) (unsigned_abs (across_of vx vy wx wy)) (length_of wx wy)
 far_in_x w vx vy wx wy some a = far_aside vx vy wx wy w some a.side a.first a.second

@@ -13,7 +13,7 @@ use Rattle.airfields.specs.Categories.{is_described}
 use Rattle.airfields.specs.Runways.{IsProper}
 use Rattle.airfields.specs.declared.airfield.Airport.{Airport}
 use Rattle.airfields.specs.declared.runway.Runway.{Runway}
-use Rattle.runway_lines.specs.Centerlines.{clamped, climb}
+use Rattle.runway_lines.specs.Centerlines.{clamped_length, climb}
 use Rattle.runway_lines.specs.Profiles.{profile_of}
 use Rattle.runway_lines.proofs.ElevationFacts.{climb_size}
 use Rattle.runway_notice.specs.Distances.{Fraction, IsAtLeastRootOf, IsAboveRootOf, is_at_least_root_of, is_above_root_of, run_of}
@@ -95,7 +95,7 @@ elevation_size x r p =
     let o = offset_of x r in
     let t = clamped_part o.along o.square in
     let rise : unsigned_abs (climb (profile_of r) o) ≤ unsigned_abs (profile_of r).rise =
-    climb_size (profile_of r).rise (clamped o.along o.square) o.square (profile_some r p.within_length) t.least t.most in
+    climb_size (profile_of r).rise (clamped_length o.along o.square) o.square (profile_some r p.within_length) t.least t.most in
     omega (arith, ints, rise, p.elevation1.least, p.elevation1.most, p.elevation2.least, p.elevation2.most)
 
 low_enough : (top base z : ℤ) → IsLevel top → unsigned_abs base ≤ 2 ^ 19 → base ≤ℤ z → (top -ℤ pos most_excess) ≤ℤ z

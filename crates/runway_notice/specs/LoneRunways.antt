@@ -1,4 +1,4 @@
--- For proofs alone: the runway of an airport that has no other.
+-- For proofs alone: the only runway of an airport.
 use Rattle.std.specs.Prelude.{ℤ, pos, ◌≡◌, true, [], ◌∷◌}
 use Rattle.grid_exact.specs.Lines.{square}
 use Rattle.airfields.specs.Categories.{is_described}
@@ -11,12 +11,12 @@ use Rattle.runway_notice.specs.Slopes.{sub_of}
 use Rattle.runway_notice.specs.declared.short_end.ShortEnd.{ShortEnd}
 use Rattle.runway_notice.specs.declared.slope.Sub.{Sub}
 
--- 77.9(d) describes the airport, and it has this runway alone
+-- 77.9(d) describes the airport, and this is its only runway
 pub record IsLoneOf (a : Airport) (r : Runway) : Type 0 where
   pub described : is_described a.category ≡ true
   pub alone : a.runways ≡ (r ∷ [])
 
--- what is kept of such a runway
+-- the stored form of such a runway
 pub record IsReady (r : Runway) (first second : ShortEnd) (n : ℤ) (sub : Sub) : Type 0 where
   pub proper : IsProper r
   pub first_is : IsEnd r.end1 first

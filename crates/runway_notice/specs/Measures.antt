@@ -1,4 +1,4 @@
--- For proofs alone: what a measured distance is.
+-- For proofs alone: the specs of a measured distance.
 use Rattle.runway_notice.specs.Distances.{Fraction}
 use Rattle.runway_notice.specs.declared.square_distance.SquareDistance.{SquareDistance}
 

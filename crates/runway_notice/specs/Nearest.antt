@@ -12,7 +12,7 @@ use Rattle.runway_lines.specs.Centerlines.{elevation_at}
 use Rattle.runway_lines.specs.Profiles.{profile_of}
 use Rattle.runway_notice.specs.Distances.{Fraction, fraction_cmp, square_distance}
 
--- where the point lies by the runway's centerline
+-- the position of the point relative to the runway's centerline
 abbrev pub offset_of : Point → Runway → Offset
 offset_of x r = offset (profile_of r).line x
 
@@ -24,25 +24,25 @@ distance_of x r = square_distance (offset_of x r)
 abbrev pub elevation_of : Point → Runway → ℤ
 elevation_of x r = elevation_at (profile_of r) (offset_of x r)
 
--- the order by the distance, and at one distance by the elevation of the nearest point
+-- ordered by distance, and at the same distance by the elevation of the nearest point
 abbrev pub nearness_cmp : Point → Runway → Runway → Ordering
 nearness_cmp x r s = ordering_then (fraction_cmp (distance_of x r) (distance_of x s)) (int_cmp (elevation_of x r) (elevation_of x s))
 
--- the same order, and at one elevation by the name
+-- the same order, and at the same elevation by name
 abbrev pub taking_cmp : Point → Runway → Runway → Ordering
 taking_cmp x r s = ordering_then (nearness_cmp x r s) (name_cmp r.name s.name)
 
--- the runway that is taken as the nearest one: in that order no other comes before it
+-- the runway that counts as the nearest: no other comes before it in that order
 pub record IsNearest (runways : List Runway) (x : Point) (r : Runway) : Type 0 where
   pub one_of : Contains runways r
   pub first : All (λ s. taking_cmp x r s ≢ Greater) runways
 
 -- ---- the same as a function
 
--- whether no runway comes before r
+-- no runway comes before r
 abbrev pub is_first : List Runway → Point → Runway → Bool
 is_first runways x r = list_all (λ s. is_le (taking_cmp x r s)) runways
 
--- the one before which no other comes; in runways of different names there is one at most
+-- the first runway in that order; among runways with different names there is at most one
 abbrev pub nearest : List Runway → Point → Option Runway
 nearest runways x = find (is_first runways x) runways

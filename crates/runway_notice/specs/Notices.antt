@@ -17,7 +17,7 @@ pub record ExceedsSlope (a : Airport) (x : Point) (top : ℤ) (s : Slope) : Type
   pub named : s.runway ≡ nearest_one.name
   pub by_sub : s.sub ≡ sub_of a.runways
 
--- there is none exactly where there is no runway, or the surface from the nearest one does not cover the point or is not exceeded
+-- `None` exactly where there is no runway, or the surface from the nearest one does not cover the point or is not exceeded
 abbrev pub IsNoticeSlope : Airport → Point → ℤ → Option Slope → Type 0
 IsNoticeSlope a x top None = (r : Runway) → IsNearest a.runways x r → IsExcess (slope_surface a r x) top None
 IsNoticeSlope a x top (Some s) = ExceedsSlope a x top s

@@ -7,11 +7,11 @@ use Rattle.runway_notice.specs.declared.slope.TheConstants.{RANGE_B1, RANGE_B2, 
 use Rattle.runway_notice.specs.declared.slope.Sub.{Sub}
 use Rattle.runway_notice.specs.declared.slope.Sub.TheVariants.{B1, B2}
 
--- (1) is for an airport whose longest runway is more than 3,200 feet long, (2) for one whose longest runway is not
+-- (1) is for an airport with a runway longer than 3,200 feet, (2) for an airport without one
 abbrev pub sub_of : List Runway → Sub
 sub_of runways = if list_any is_long runways then B1 else B2
 
--- for a horizontal distance of 20,000 feet, or of 10,000
+-- a horizontal distance of 20,000 feet, or of 10,000
 abbrev pub range_of : Sub → ℤ
 range_of B1 = RANGE_B1
 range_of B2 = RANGE_B2

@@ -9,16 +9,16 @@ use Rattle.runway_notice.specs.Distances.{IsAtLeastRootOf, IsAboveRootOf, run_of
 use Rattle.runway_notice.specs.Nearest.{distance_of, elevation_of}
 use Rattle.runway_notice.specs.Slopes.{sub_of, range_of, ratio_of}
 
--- the airport is one of those that 77.9(d) describes, and the point is within the horizontal distance of the runway
+-- 77.9(d) describes the airport, and the point is within the horizontal distance of the runway
 pub record IsInRange (a : Airport) (r : Runway) (x : Point) : Type 0 where
   pub described : is_described a.category ≡ true
   pub within : IsAtLeastRootOf (distance_of x r) (range_of (sub_of a.runways))
 
--- the distance at which the slope from the nearest point of the runway comes to the level z
+-- the distance at which the slope from the nearest point of the runway has the level z
 abbrev pub run_to : Airport → Runway → Point → ℤ → ℤ
 run_to a r x z = run_of (ratio_of (sub_of a.runways)) (elevation_of x r) z
 
--- the surface outward and upward at the slope from the nearest point of the runway
+-- the surface that rises outward from the nearest point of the runway
 abbrev pub slope_surface : Airport → Runway → Point → Surface
 slope_surface a r x = record {
   Covers = IsInRange a r x;
@@ -26,7 +26,7 @@ slope_surface a r x = record {
   AtOrAbove = λ z. IsAtLeastRootOf (distance_of x r) (run_to a r x z);
 }
 
--- ---- the same as tests that compute
+-- ---- the same predicates as tests that compute
 
 unfoldable pub is_in_range : Airport → Runway → Point → Bool
 is_in_range a r x = is_described a.category && is_at_least_root_of (distance_of x r) (range_of (sub_of a.runways))

@@ -1,4 +1,4 @@
-//! The area of the slope from the runways of an airport.
+//! The area of the notice slope from the runways of an airport.
 
 ghost use Rattle.std.specs.Prelude.{◌≡◌, ◌<◌, ◌≤ℤ◌, ℤ, pos, length, None};
 ghost use Rattle.std.specs.List.{Contains};
@@ -8,7 +8,7 @@ ghost use Rattle.grid_exact.specs.declared.point.Point.{Point};
 ghost use Rattle.outline_boxes.specs.Boxes.{IsLeastBox};
 ghost use Rattle.airfields.specs.Airfields.{IsHeldAirport};
 ghost use Rattle.airfields.specs.declared.runway.Runway.{Runway};
-ghost use Rattle.runway_notice.specs.NoticeAreas.{HasSlope, HoldsEnds, HoldsRunways, IsNoticeArea, around as around_of};
+ghost use Rattle.runway_notice.specs.NoticeAreas.{HasSlope, HoldsEnds, HoldsRunways, IsNoticeArea, area_around as around_of};
 ghost use Rattle.runway_notice.specs.Notices.{notice_slope};
 ghost use Rattle.runway_notice.specs.Surfaces.{slope_surface};
 
@@ -32,7 +32,7 @@ fn around(point: &Point, radius: i64) -> Area
     }
 }
 
-/// The least box that holds the discs about both ends of a runway.
+/// The least box that contains the discs about both ends of a runway.
 fn ends_box(runway: &Runway, radius: i64) -> Area
     requires least { pos 0 ≤ℤ radius }
     requires most { radius ≤ℤ RANGE_B1 }
@@ -44,7 +44,7 @@ fn ends_box(runway: &Runway, radius: i64) -> Area
     )
 }
 
-/// The least box that holds those about the ends of all runways.
+/// The least box that contains the discs about the ends of all runways.
 fn runways_box(runways: &[Runway], radius: i64) -> Area
     requires some { 0 < length runways.now }
     requires least { pos 0 ≤ℤ radius }
@@ -58,15 +58,17 @@ fn runways_box(runways: &[Runway], radius: i64) -> Area
     least
 }
 
-/// The area of the slope of 77.9(b)(1) or (2) from the runways of an airport: the least whole box that holds the ends of all runways with
-/// the slope's horizontal distance all round, 20,000 feet where one is longer than 3,200 feet, and else 10,000 feet. It has every point
-/// that a slope from one of them covers. `None` exactly where no slope goes out: where the airport is of no described category or has no
-/// runway.
+/// The area of the slope of 77.9(b)(1) or (2) from the runways of an airport: the least whole box that contains the ends of all runways
+/// with a margin of the slope's horizontal distance, 20,000 feet where a runway is longer than 3,200 feet, else 10,000 feet. It contains
+/// every point that a slope from a runway covers. `None` exactly where the airport has no slope: where its category is not described, or
+/// it has no runway.
 pub fn notice_area(a: &Airport) -> Option<Area>
     requires held { IsHeldAirport a.now }
     ensures exact { MatchOption result (¬ HasSlope a.now) (IsNoticeArea a.now) }
-    ensures covers { (r : Runway) (x : Point) → Contains a.now.runways r → (slope_surface a.now r x).Covers → IsSomeAnd result (λ area. Has area x) }
-    ensures skips { (x : Point) (top : ℤ) → ¬ IsSomeAnd result (λ area. Has area x) → notice_slope a.now x top ≡ None }
+    ensures covers { (r : Runway) (x : Point) → Contains a.now.runways r →
+        (slope_surface a.now r x).Covers → IsSomeAnd result (λ area. Has area x) }
+    ensures skips { (x : Point) (top : ℤ) → ¬ IsSomeAnd result (λ area. Has area x) →
+        notice_slope a.now x top ≡ None }
 {
     if !a.category.described() {
         return None;

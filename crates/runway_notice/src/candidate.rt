@@ -1,4 +1,4 @@
-//! Runways on the way to the nearest one.
+//! Candidates for the nearest runway.
 
 ghost use Rattle.std.specs.Prelude.{◌≡◌, ◌^◌, ◌≤◌, ◌≤ℤ◌, ◌*ℤ◌, pos, unsigned_abs};
 ghost use Rattle.std.specs.Int.{int_div_euclid};
@@ -15,7 +15,7 @@ use grid_exact::{Point, Vector};
 use runway_lines::Centerline;
 use std::cmp::Ordering;
 
-/// A runway with its centerline, and where one point lies by that.
+/// A runway with its centerline, and the position of one point relative to it.
 #[derive(Clone, Copy)]
 pub(crate) struct Candidate<'a> {
     pub(crate) runway: &'a Runway,
@@ -26,9 +26,9 @@ pub(crate) struct Candidate<'a> {
 impl<'a> Candidate<'a> {
     ghost use Rattle.runway_notice.specs.Candidates.{IsCandidate};
     ghost use Rattle.runway_notice.specs.Measures.{fraction};
-    ghost use Rattle.runway_notice.specs.Places.{placed};
+    ghost use Rattle.runway_notice.specs.Places.{place_offset};
 
-    /// The runway, as a point lies by it.
+    /// The candidate for a runway and a point.
     pub(crate) fn of(runway: &'a Runway, point: &Point) -> Candidate<'a>
         requires proper { IsProper runway.now }
         ensures runway { result.runway.now ≡ runway.now }
@@ -42,18 +42,19 @@ impl<'a> Candidate<'a> {
         }
     }
 
-    /// How far the point is from the centerline.
+    /// The distance of the point from the centerline.
     pub(crate) fn distance(&self) -> SquareDistance
-        ensures { fraction result ≡ square_distance (placed self.now.at) }
+        ensures { fraction result ≡ square_distance (place_offset self.now.at) }
     {
         SquareDistance::of(&self.at)
     }
 
-    /// How much higher than the first end the centerline is where it is nearest to the point, rounded down.
+    /// The elevation of the centerline's nearest point minus that of the first end, rounded down.
     fn climb(&self, guesses: &Guesses) -> i64
         requires least { pos 0 ≤ℤ self.now.at.along }
         requires most { self.now.at.along ≤ℤ pos self.now.at.square }
-        ensures value { result ≡ int_div_euclid (self.now.line.rise *ℤ self.now.at.along) (pos self.now.at.square) }
+        ensures value { result ≡ int_div_euclid (self.now.line.rise
+            *ℤ self.now.at.along) (pos self.now.at.square) }
         ensures size { unsigned_abs result ≤ 2 ^ 18 }
     {
         let at = &self.at;
@@ -64,8 +65,7 @@ impl<'a> Candidate<'a> {
         )
     }
 
-    /// How high the centerline is where it is nearest to the point, in tenths of a foot. The contracts name the point; the code has it
-    /// as the offset.
+    /// The elevation of the centerline's nearest point, in tenths of a foot. The contract uses the point itself; the code uses its offset.
     #[inline(always)]
     pub(crate) fn elevation(&self, point: &Point, guesses: &Guesses) -> i64
         requires { IsCandidate point.now self.now }
@@ -81,7 +81,7 @@ impl<'a> Candidate<'a> {
         self.line.z + self.climb(guesses)
     }
 
-    /// About how far the point is from the centerline, in tenths of a foot: a guess, of which nothing is asked.
+    /// The approximate distance of the point from the centerline, in tenths of a foot; correctness does not depend on it.
     pub(crate) fn about_distance(&self, point: &Point, guesses: &Guesses) -> f64 {
         if self.at.is_before() {
             return about_length(&Vector::between(&self.runway.end1.at, point));
@@ -92,17 +92,18 @@ impl<'a> Candidate<'a> {
         guesses.distance(self.at.aside as i64)
     }
 
-    /// Compares how high its centerline and the other's are, each where it is nearest to the point.
+    /// Compares the elevations of the two centerlines, each at its nearest point.
     fn cmp_elevation(&self, other: &Candidate, point: &Point) -> Ordering
         requires this { IsCandidate point.now self.now }
         requires other { IsCandidate point.now other.now }
-        ensures { result ≡ int_cmp (elevation_of point.now self.now.runway.now) (elevation_of point.now other.now.runway.now) }
+        ensures { result ≡ int_cmp (elevation_of point.now self.now.runway.now) (elevation_of
+            point.now other.now.runway.now) }
     {
         let own = self.elevation(point, &Guesses::of(self.runway));
         own.cmp(&other.elevation(point, &Guesses::of(other.runway)))
     }
 
-    /// Whether it is nearer to the point than the other, or as near where its centerline is lower.
+    /// Whether it is nearer to the point than the other, or equally near with a lower centerline.
     #[tactic(auto, using(crate::proofs::CandidateFacts::ranked))]
     pub(crate) fn is_nearer(&self, other: &Candidate, point: &Point) -> bool
         requires this { IsCandidate point.now self.now }

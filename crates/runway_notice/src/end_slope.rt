@@ -1,25 +1,25 @@
-//! The slope from the end of a runway that is nearest to a point: there the square of the distance is a whole number of 64 bits.
+//! The slope where the end of a runway is nearest to a point: there the squared distance is a whole number of 64 bits.
 
 ghost use Rattle.std.specs.Prelude.{◌≡◌, ◌↔◌, ◌≤◌, ◌^◌, ◌≤ℤ◌, ℤ, IfSome, IsTrue, unsigned_abs};
-ghost use Rattle.grid_exact.specs.Excess.{IsExcess, covering};
+ghost use Rattle.grid_exact.specs.Excess.{IsExcess, covering_surface};
 ghost use Rattle.grid_exact.specs.Level.{IsLevel};
 ghost use Rattle.runway_notice.specs.Distances.{IsSlopeFrom, IsAboveRootOf, IsAtLeastRootOf, run_of};
-ghost use Rattle.runway_notice.specs.EndSlopes.{IsInReach, end_surface, whole};
+ghost use Rattle.runway_notice.specs.EndSlopes.{IsInReach, end_surface, whole_fraction};
 ghost use Rattle.runway_notice.specs.Slopes.{range_of, ratio_of};
 
 use crate::parts::squared;
 use crate::slope::{RANGE_B1, RANGE_B2, Sub};
 use grid_exact::{Rising, Sloping, least_reached};
 
-/// The greatest square of a distance to which the slope of 77.9(b)(1) goes out.
+/// The square of the range of the slope of 77.9(b)(1).
 const SQUARE_B1: u64 = (RANGE_B1 * RANGE_B1) as u64;
 
-/// The greatest square of a distance to which the slope of 77.9(b)(2) goes out.
+/// The square of the range of the slope of 77.9(b)(2).
 const SQUARE_B2: u64 = (RANGE_B2 * RANGE_B2) as u64;
 
-/// Whether a slope goes out to a distance that is the root of `square`.
+/// Whether a point at the squared distance `square` is within the range of the slope.
 fn is_in_range(sub: Sub, square: u64) -> bool
-    ensures range { IsTrue result ↔ IsAtLeastRootOf (whole square) (range_of sub) }
+    ensures range { IsTrue result ↔ IsAtLeastRootOf (whole_fraction square) (range_of sub) }
     ensures reach { IsTrue result → IsInReach square }
 {
     match sub {
@@ -28,10 +28,10 @@ fn is_in_range(sub: Sub, square: u64) -> bool
     }
 }
 
-/// Whether a number is at least the root of `square`. A number above the range of each slope is, and its square is not needed.
+/// Whether a number is at least the root of `square`. A number above the range of both slopes is, without computing its square.
 fn is_at_least_root(number: i64, square: u64) -> bool
     requires reach { IsInReach square }
-    ensures { IsTrue result ↔ IsAtLeastRootOf (whole square) number }
+    ensures { IsTrue result ↔ IsAtLeastRootOf (whole_fraction square) number }
 {
     if number < 0 {
         return false;
@@ -45,7 +45,7 @@ fn is_at_least_root(number: i64, square: u64) -> bool
 /// Whether a number is above the root of `square`.
 fn is_above_root(number: i64, square: u64) -> bool
     requires reach { IsInReach square }
-    ensures { IsTrue result ↔ IsAboveRootOf (whole square) number }
+    ensures { IsTrue result ↔ IsAboveRootOf (whole_fraction square) number }
 {
     if number < 0 {
         return false;
@@ -56,7 +56,7 @@ fn is_above_root(number: i64, square: u64) -> bool
     square < squared(number.unsigned_abs())
 }
 
-/// A slope of `ratio` to 1 from the elevation `base` of an end, over a point at the root of `square` from it.
+/// A slope of `ratio` to 1 from the elevation `base` of an end, at a point with the squared distance `square` from it.
 #[derive(Clone, Copy)]
 struct EndSlope {
     square: u64,
@@ -67,15 +67,16 @@ struct EndSlope {
 }
 
 impl EndSlope {
-    /// The lowest level that it has anywhere.
+    /// The lowest level of the slope.
     fn lowest(&self) -> i64
         ensures level { IsLevel result }
-        ensures lowest { (z : ℤ) → IsAtLeastRootOf (whole self.now.square) (run_of self.now.ratio self.now.base z) → result ≤ℤ z }
+        ensures lowest { (z : ℤ) → IsAtLeastRootOf (whole_fraction self.now.square)
+            (run_of self.now.ratio self.now.base z) → result ≤ℤ z }
     {
         self.base
     }
 
-    /// The distance at which it comes to a level.
+    /// The distance at which the slope has a level.
     fn run(&self, level: i64) -> i64
         requires { IsLevel level }
         ensures value { result ≡ run_of self.now.ratio self.now.base level }
@@ -87,40 +88,40 @@ impl EndSlope {
 
 impl Rising for EndSlope {
     ghost use Rattle.runway_notice.specs.Distances.{IsAtLeastRootOf, run_of};
-    ghost use Rattle.runway_notice.specs.EndSlopes.{whole};
+    ghost use Rattle.runway_notice.specs.EndSlopes.{whole_fraction};
     ghost use Rattle.runway_notice.specs.Laws.{slope_rises};
 
-    ghost reaches = { λ l z. IsAtLeastRootOf (whole l.square) (run_of l.ratio l.base z) };
+    ghost reaches = { λ l z. IsAtLeastRootOf (whole_fraction l.square) (run_of l.ratio l.base z) };
 
     fn is_reached(&self, level: i64) -> bool {
         is_at_least_root(self.run(level), self.square)
     }
 
-    ghost rises = { λ l y z h k. slope_rises (whole l.square) l.ratio l.base y z l.rises.rises h k };
+    ghost rises = { λ l y z h k. slope_rises (whole_fraction l.square) l.ratio l.base y z l.rises.rises h k };
 }
 
 impl Sloping for EndSlope {
     ghost use Rattle.runway_notice.specs.Distances.{IsAboveRootOf, run_of};
-    ghost use Rattle.runway_notice.specs.EndSlopes.{whole};
+    ghost use Rattle.runway_notice.specs.EndSlopes.{whole_fraction};
     ghost use Rattle.runway_notice.specs.Laws.{above_reaches};
 
-    ghost exceeds = { λ l z. IsAboveRootOf (whole l.square) (run_of l.ratio l.base z) };
+    ghost exceeds = { λ l z. IsAboveRootOf (whole_fraction l.square) (run_of l.ratio l.base z) };
 
     fn is_exceeded(&self, level: i64) -> bool {
         is_above_root(self.run(level), self.square)
     }
 
-    ghost exceeds_reaches = { λ l z h. above_reaches (whole l.square) (run_of l.ratio l.base z) h };
+    ghost exceeds_reaches = { λ l z h. above_reaches (whole_fraction l.square) (run_of l.ratio l.base z) h };
 }
 
 impl EndSlope {
-    /// About how far it has risen over the point, rounded up: a guess, of which nothing is asked. A sixteenth of the square is a number
-    /// of 32 bits, which the machine takes to a float in one step.
+    /// The approximate rise of the slope at the point, rounded up; correctness does not depend on it. A sixteenth of the square fits 32
+    /// bits, which convert to a float in one step.
     fn about_rise(&self, sub: Sub) -> u32 {
         sub.rise_at(4.0 * f64::from((self.square / 16) as u32).sqrt())
     }
 
-    /// The least level that reaches it by that guess, and none above `top`.
+    /// A guess at the least level that reaches it, at most `top`.
     fn guess(&self, sub: Sub, top: i64) -> i64
         requires top { IsLevel top }
         ensures level { IsLevel result }
@@ -132,8 +133,11 @@ impl EndSlope {
     /// Whether the level is the least that reaches it.
     fn is_least(&self, level: i64) -> bool
         requires level { IsLevel level }
-        ensures reached { IsTrue result → IsAtLeastRootOf (whole self.now.square) (run_of self.now.ratio self.now.base level) }
-        ensures least { IsTrue result → (z : ℤ) → IsAtLeastRootOf (whole self.now.square) (run_of self.now.ratio self.now.base z) → level ≤ℤ z }
+        ensures reached { IsTrue result → IsAtLeastRootOf (whole_fraction self.now.square)
+            (run_of self.now.ratio self.now.base level) }
+        ensures least { IsTrue result → (z : ℤ) →
+            IsAtLeastRootOf (whole_fraction self.now.square)
+            (run_of self.now.ratio self.now.base z) → level ≤ℤ z }
     {
         if level <= self.lowest() || self.is_reached(level - 1) {
             return false;
@@ -141,24 +145,30 @@ impl EndSlope {
         self.is_reached(level)
     }
 
-    /// The least level that reaches it, where `top` does. It stands apart, since it is seldom asked for.
+    /// The least level that reaches it; `top` must reach it. Not inlined, since it is seldom needed.
     #[inline(never)]
     fn searched(&self, top: i64) -> i64
         requires top { IsLevel top }
-        requires reached { IsAtLeastRootOf (whole self.now.square) (run_of self.now.ratio self.now.base top) }
-        ensures reached { IsAtLeastRootOf (whole self.now.square) (run_of self.now.ratio self.now.base result) }
-        ensures least { (z : ℤ) → IsAtLeastRootOf (whole self.now.square) (run_of self.now.ratio self.now.base z) → result ≤ℤ z }
+        requires reached { IsAtLeastRootOf (whole_fraction self.now.square)
+            (run_of self.now.ratio self.now.base top) }
+        ensures reached { IsAtLeastRootOf (whole_fraction self.now.square)
+            (run_of self.now.ratio self.now.base result) }
+        ensures least { (z : ℤ) → IsAtLeastRootOf (whole_fraction self.now.square)
+            (run_of self.now.ratio self.now.base z) → result ≤ℤ z }
         ensures level { IsLevel result }
     {
         least_reached(self, self.lowest(), top)
     }
 
-    /// The least level that reaches it, where `top` does: the guess, where it is that.
+    /// The least level that reaches it; `top` must reach it. The guess is used where it is right.
     fn least_level(&self, sub: Sub, top: i64) -> i64
         requires top { IsLevel top }
-        requires reached { IsAtLeastRootOf (whole self.now.square) (run_of self.now.ratio self.now.base top) }
-        ensures reached { IsAtLeastRootOf (whole self.now.square) (run_of self.now.ratio self.now.base result) }
-        ensures least { (z : ℤ) → IsAtLeastRootOf (whole self.now.square) (run_of self.now.ratio self.now.base z) → result ≤ℤ z }
+        requires reached { IsAtLeastRootOf (whole_fraction self.now.square)
+            (run_of self.now.ratio self.now.base top) }
+        ensures reached { IsAtLeastRootOf (whole_fraction self.now.square)
+            (run_of self.now.ratio self.now.base result) }
+        ensures least { (z : ℤ) → IsAtLeastRootOf (whole_fraction self.now.square)
+            (run_of self.now.ratio self.now.base z) → result ≤ℤ z }
         ensures level { IsLevel result }
     {
         let guess = self.guess(sub, top);
@@ -168,10 +178,14 @@ impl EndSlope {
         self.searched(top)
     }
 
-    /// How far `top` is above it, rounded down.
+    /// The excess of `top` over it, rounded down; `None` where it is not above.
     fn excess(&self, sub: Sub, top: i64) -> Option<u32>
         requires top { IsLevel top }
-        ensures excess { IsExcess (covering (λ z. IsAboveRootOf (whole self.now.square) (run_of self.now.ratio self.now.base z)) (λ z. IsAtLeastRootOf (whole self.now.square) (run_of self.now.ratio self.now.base z))) top result }
+        ensures excess { IsExcess (covering_surface
+            (λ z. IsAboveRootOf (whole_fraction self.now.square)
+            (run_of self.now.ratio self.now.base z))
+            (λ z. IsAtLeastRootOf (whole_fraction self.now.square)
+            (run_of self.now.ratio self.now.base z))) top result }
         ensures size { IfSome result (λ e. e ≤ 2 ^ 26) }
     {
         if !self.is_exceeded(top) {
@@ -196,8 +210,8 @@ fn slope(sub: Sub, base: i64, square: u64) -> EndSlope
     }
 }
 
-/// How far `top` is above the slope from an end at the elevation `base`, over a point at the root of `square` from it. A top that is
-/// not above the end is left out before the distance is asked for.
+/// The excess of `top` over the slope from an end at the elevation `base`, at a point with the squared distance `square` from it. A top
+/// that is not above the end is rejected before the distance is tested.
 #[inline(always)]
 pub(crate) fn end_excess(sub: Sub, base: i64, square: u64, top: i64) -> Option<u32>
     requires size { unsigned_abs base ≤ 2 ^ 19 }

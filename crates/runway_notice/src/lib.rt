@@ -19,7 +19,7 @@ mod slope;
 mod square_distance;
 
 pub use area::notice_area;
-pub use laws::notice_slope_is;
+pub use laws::{notice_slope_is, numbers};
 pub use lone_runway::LoneRunway;
 pub use notice::{SLOPE_REACH, excess_notice};
 pub use slope::{RANGE_B1, RANGE_B2, RATIO_B1, RATIO_B2, Slope, Sub};

@@ -1,4 +1,4 @@
-//! A slope over one point.
+//! A slope at one point.
 
 ghost use Rattle.std.specs.Prelude.{◌≡◌, ◌≤◌, ◌^◌, ◌≤ℤ◌, ℤ, unsigned_abs};
 ghost use Rattle.grid_exact.specs.Level.{IsLevel};
@@ -7,7 +7,7 @@ ghost use Rattle.runway_notice.specs.Distances.{IsSlopeFrom, IsAtLeastRootOf, ru
 use crate::square_distance::SquareDistance;
 use grid_exact::{Rising, Sloping};
 
-/// A slope of `ratio` to 1 from the elevation `base`, over a point at this distance from where it begins.
+/// A slope of `ratio` to 1 from the elevation `base`, at a point at this distance from its start.
 #[derive(Clone, Copy)]
 pub(crate) struct SlopeLimit {
     pub(crate) distance: SquareDistance,
@@ -19,15 +19,16 @@ pub(crate) struct SlopeLimit {
 impl SlopeLimit {
     ghost use Rattle.runway_notice.specs.Measures.{fraction};
 
-    /// The lowest level that it has anywhere.
+    /// The lowest level of the slope.
     pub(crate) fn lowest(&self) -> i64
         ensures level { IsLevel result }
-        ensures lowest { (z : ℤ) → IsAtLeastRootOf (fraction self.now.distance) (run_of self.now.ratio self.now.base z) → result ≤ℤ z }
+        ensures lowest { (z : ℤ) → IsAtLeastRootOf (fraction self.now.distance)
+            (run_of self.now.ratio self.now.base z) → result ≤ℤ z }
     {
         self.base
     }
 
-    /// The distance at which it comes to a level.
+    /// The distance at which the slope has a level.
     fn run(&self, level: i64) -> i64
         requires { IsLevel level }
         ensures value { result ≡ run_of self.now.ratio self.now.base level }

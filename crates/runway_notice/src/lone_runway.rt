@@ -1,4 +1,4 @@
-//! The one runway of an airport, ready for many points.
+//! The only runway of an airport, prepared for many points.
 
 ghost use Rattle.std.specs.Prelude.{◌≡◌, ◌∷◌, [], IfSome, pos};
 ghost use Rattle.grid_exact.specs.Level.{IsLevel};
@@ -22,11 +22,11 @@ use grid_exact::{Axis, Point};
 use runway_lines::Centerline;
 use std::marker::Model;
 
-/// The runway of an airport that 77.9(d) describes and that has no other, with what does not change from point to point; seen as the
-/// runway. Nothing is searched for, and the airport's other numbers are not asked for.
+/// The only runway of an airport that 77.9(d) describes, with everything that does not depend on the point; contracts see it as the
+/// runway. It needs no search for the nearest runway and no other data of the airport.
 #[derive(Drop)]
 pub struct LoneRunway {
-    /// Where its ends are, with the square of its length and the slope: most structures ask for no more, and so it stands first.
+    /// The ends, the square of the length and the slope are stored first, since most structures need only these.
     first: ShortEnd,
     second: ShortEnd,
     square: i64,
@@ -57,7 +57,7 @@ impl LoneRunway {
     ghost use Rattle.runway_notice.specs.Candidates.{IsCandidate};
     ghost use Rattle.runway_notice.specs.LoneRunways.{IsLoneOf};
 
-    /// The runway, where its airport has no other.
+    /// The prepared runway, which must be its airport's only one.
     fn ready(runway: &Runway, sub: Sub) -> LoneRunway
         requires proper { IsProper runway.now }
         requires sub { sub ≡ sub_of_runways (runway.now ∷ []) }
@@ -73,7 +73,7 @@ impl LoneRunway {
         }
     }
 
-    /// The runway of the airport, where it has one and no other and 77.9(d) describes it.
+    /// The runway of the airport, if it is the only one and 77.9(d) describes the airport.
     pub fn of(airport: &Airport) -> Option<LoneRunway>
         requires held { IsHeldAirport airport.now }
         ensures lone { IfSome result (λ r. IsLoneOf airport.now r) }
@@ -85,7 +85,7 @@ impl LoneRunway {
         Some(LoneRunway::ready(runway, sub_of(&airport.runways)))
     }
 
-    /// Its centerline, by the ends that are kept in little room.
+    /// The centerline, from the ends in their compact form.
     fn line(&self) -> Centerline
         ensures { profile result ≡ profile_of self.now }
     {
@@ -100,7 +100,7 @@ impl LoneRunway {
         }
     }
 
-    /// The runway, as a point lies by it.
+    /// The candidate for this runway and a point.
     fn candidate(&self, point: &Point) -> Candidate
         ensures runway { result.runway.now ≡ self.now }
         ensures candidate { IsCandidate point.now result }
@@ -113,8 +113,8 @@ impl LoneRunway {
         }
     }
 
-    /// How far `top` is above the slope from the runway at the point. Most points lie before the first end or past the second, and there
-    /// the end is nearest.
+    /// The excess of `top` over the slope from the runway at the point. Most points lie before the first end or past the second, where
+    /// the end is the nearest point.
     fn excess_over(&self, airport: &Airport, point: &Point, top: i64) -> Option<u32>
         requires lone { IsLoneOf airport.now self.now }
         requires top { IsLevel top }
@@ -133,7 +133,7 @@ impl LoneRunway {
         excess_over(airport, &runway, &self.guesses, self.sub, point, top)
     }
 
-    /// How far `top` is above the slope of 77.9(b)(1) or (2) from the runways of the airport, as `excess_notice` answers it.
+    /// The excess of `top` over the slope of 77.9(b)(1) or (2) from the runways of the airport, the same as `excess_notice`.
     pub fn excess(&self, airport: &Airport, point: &Point, top: i64) -> Option<Slope>
         requires held { IsHeldAirport airport.now }
         requires lone { IsLoneOf airport.now self.now }

@@ -1,4 +1,4 @@
-//! The runway that is nearest to a point.
+//! The runway nearest to a point.
 
 ghost use Rattle.std.specs.Prelude.{◌≡◌, IfSome, option_map};
 ghost use Rattle.std.specs.List.{All};
@@ -12,8 +12,8 @@ use crate::candidate::Candidate;
 use airfields::Runway;
 use grid_exact::Point;
 
-/// The runway that is nearest to the point: at one distance the one with the lower centerline, and at one height the one with
-/// the smaller name, which comes first in their order.
+/// The runway nearest to the point. Of runways at the same distance it is the one with the lower centerline, and of those the one with the
+/// smaller name, which comes first in the list.
 pub(crate) fn nearest<'a>(runways: &'a [Runway], point: &Point) -> Option<Candidate<'a>>
     requires proper { All IsProper runways.now }
     requires order { Rises name_cmp name_of runways.now }

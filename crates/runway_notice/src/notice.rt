@@ -20,26 +20,26 @@ use crate::square_distance::SquareDistance;
 use airfields::{Airport, RUNWAY_REACH, Runways};
 use grid_exact::Point;
 
-/// No slope from a runway of an airport comes to a point that is farther from the airport's reference point in a coordinate, in
-/// tenths of a foot: the ends of runways are within their reach of it, and no slope goes out farther than that of 77.9(b)(1).
+/// Greatest distance in one coordinate from the airport's reference point to a point that a runway's slope covers, in tenths of a foot:
+/// the reach of runway ends plus the range of the slope of 77.9(b)(1), the longer one.
 pub const SLOPE_REACH: u64 = RUNWAY_REACH + RANGE_B1 as u64;
 
-/// Which slope goes out from the runways of an airport.
+/// The slope that the runways of an airport have (77.9(b)(1), (2)).
 pub(crate) fn sub_of(runways: &Runways) -> Sub
     ensures { result ≡ sub_of_runways runways.now }
 {
     if runways.has_long() { Sub::B1 } else { Sub::B2 }
 }
 
-/// Whether the point is so far from the airport's reference point that no slope from a runway of the airport comes to it. It is
-/// asked first, since most airports are far from most structures, and their runways then need not be measured.
+/// Whether the point is too far from the airport's reference point for any slope from its runways. It is tested first, since most airports
+/// are far from most structures, and their runways then need not be measured.
 fn is_far(arp: &Point, point: &Point) -> bool
     ensures { result ≡ is_far_from arp.now point.now }
 {
     point.x.abs_diff(arp.x) > SLOPE_REACH || point.y.abs_diff(arp.y) > SLOPE_REACH
 }
 
-/// The slope from the elevation `base` over a point at this distance.
+/// The slope from the elevation `base` at a point at this distance.
 fn limit(distance: SquareDistance, base: i64, sub: Sub) -> SlopeLimit
     requires size { unsigned_abs base ≤ 2 ^ 19 }
     ensures distance { fraction result.distance ≡ fraction distance }
@@ -53,8 +53,8 @@ fn limit(distance: SquareDistance, base: i64, sub: Sub) -> SlopeLimit
     }
 }
 
-/// How far `top` is above the slope from a runway of the airport at the point. A top that is not above the runway is left out before
-/// any distance is compared.
+/// The excess of `top` over the slope from a runway of the airport at the point. A top that is not above the runway is rejected before any
+/// distance is compared.
 #[inline(always)]
 pub(crate) fn excess_over(
     airport: &Airport,
@@ -81,8 +81,8 @@ pub(crate) fn excess_over(
     limit(distance, base, sub).excess(runway, guesses, sub, point, top)
 }
 
-/// The slope that `top` is above, as `excess_notice` answers it. It stands apart so that what `excess_notice` says besides is proved
-/// once, from this and the law, and not at each return.
+/// The slope that `top` is above, the same as `excess_notice`. It is a function of its own so that the further contract of `excess_notice`
+/// is proved once, from this and the lemma, and not at each return.
 fn slope_over(a: &Airport, x: &Point, top: i64) -> Option<Slope>
     requires held { IsHeldAirport a.now }
     requires top { IsLevel top }
@@ -94,7 +94,7 @@ fn slope_over(a: &Airport, x: &Point, top: i64) -> Option<Slope>
     if is_far(&a.arp, x) {
         return None;
     }
-    // No `?` here: it gets no proof on a struct that holds an `Offset` beside a reference.
+    // No `?` here: it gets no proof on a struct with an `Offset` beside a reference.
     let Some(nearest) = nearest(a.runways.as_slice(), x) else {
         return None;
     };
@@ -108,10 +108,10 @@ fn slope_over(a: &Airport, x: &Point, top: i64) -> Option<Slope>
     })
 }
 
-/// How far `top` is above the slope of 77.9(b)(1) or (2) at the point: outward and upward from the nearest point of the nearest
-/// runway of an airport that 77.9(d) describes, 100 to 1 for 20,000 feet where its longest runway is more than 3,200 feet long, and
-/// else 50 to 1 for 10,000 feet. `None` where it is not above, farther away, and where the airport is of no described category or
-/// has no runway. Of runways at one distance the nearest is the one with the lower centerline there, then the first by name.
+/// The excess of `top` over the slope of 77.9(b)(1) or (2) at the point, in tenths of a foot, with the slope and the runway. The slope
+/// rises from the nearest point of the nearest runway of a described airport: 100 to 1 for 20,000 feet where the longest runway is longer
+/// than 3,200 feet, else 50 to 1 for 10,000 feet. `None` where the top is not above it, the point is farther away, the category is not
+/// described, or there is no runway. Of runways at the same distance the one with the lower centerline counts, then the first by name.
 pub fn excess_notice(a: &Airport, x: &Point, top: i64) -> Option<Slope>
     requires held { IsHeldAirport a.now }
     requires top { IsLevel top }

@@ -1,4 +1,4 @@
-//! Where a point lies by a runway, in numbers of 64 bits.
+//! The position of a point relative to a runway, in 64-bit numbers.
 
 ghost use Rattle.std.specs.Prelude.{◌≡◌, ◌↔◌, ◌+◌, ◌*◌, ◌^◌, ◌≤◌, ◌*ℤ◌, ◌<ℤ◌, pos, unsigned_abs, IsTrue};
 ghost use Rattle.grid_exact.specs.Axes.{line_of};
@@ -7,7 +7,7 @@ ghost use Rattle.grid_exact.specs.Vector.{along_of, across_of, length_of};
 
 use grid_exact::{Axis, Point, Vector};
 
-/// The product of two parts of vectors.
+/// The product of two components of vectors.
 #[tactic(auto, using(crate::proofs::PartFacts::short))]
 fn product(a: i64, b: i64) -> i64
     requires left { unsigned_abs a ≤ 2 ^ 27 }
@@ -34,7 +34,7 @@ fn cross(a: &Vector, b: &Vector) -> i64
     product(a.x, b.y) - product(a.y, b.x)
 }
 
-/// The square of a part of a vector.
+/// The square of a component of a vector.
 #[tactic(auto, using(crate::proofs::PartFacts::short))]
 pub(crate) fn squared(part: u64) -> u64
     requires { part ≤ 2 ^ 27 }
@@ -51,12 +51,12 @@ pub(crate) fn square_length(a: &Vector) -> u64
     squared(a.x.unsigned_abs()) + squared(a.y.unsigned_abs())
 }
 
-/// Where a point lies by a line: an offset whose numbers have 64 bits. What is worked out of them so needs no longer arithmetic.
+/// The position of a point relative to a line: an offset with 64-bit numbers, so that no wider arithmetic is needed.
 #[derive(Clone, Copy)]
 pub(crate) struct Place {
-    /// How far the point is along the line, times the line's length.
+    /// The distance along the line, times the line's length.
     pub(crate) along: i64,
-    /// How far it is to a side of the line, times the line's length.
+    /// The distance to a side of the line, times the line's length.
     pub(crate) aside: u64,
     /// The square of the line's length.
     pub(crate) square: u64,
@@ -64,11 +64,11 @@ pub(crate) struct Place {
 }
 
 impl Place {
-    ghost use Rattle.runway_notice.specs.Places.{placed};
+    ghost use Rattle.runway_notice.specs.Places.{place_offset};
 
-    /// Where the point lies by the line.
+    /// The position of the point relative to the line.
     pub(crate) fn of(line: &Axis, point: &Point) -> Place
-        ensures { placed result ≡ offset (line_of line.now) point.now }
+        ensures { place_offset result ≡ offset (line_of line.now) point.now }
     {
         let way = line.from.to_point(point);
         Place {

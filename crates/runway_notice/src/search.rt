@@ -1,7 +1,7 @@
-//! The least level that reaches a slope over a point: a guess, where that is right.
+//! The least level that reaches a slope at a point: a guess, replaced by a search where it is wrong.
 
 ghost use Rattle.std.specs.Prelude.{ℤ, ◌≤◌, ◌^◌, ◌≤ℤ◌, IfSome, IsTrue};
-ghost use Rattle.grid_exact.specs.Excess.{IsExcess, covering};
+ghost use Rattle.grid_exact.specs.Excess.{IsExcess, covering_surface};
 ghost use Rattle.grid_exact.specs.Level.{IsLevel};
 ghost use Rattle.runway_notice.specs.Distances.{IsAboveRootOf, IsAtLeastRootOf, run_of};
 ghost use Rattle.runway_notice.specs.Measures.{fraction};
@@ -13,7 +13,7 @@ use crate::slope::Sub;
 use grid_exact::{Point, Rising, Sloping, least_reached};
 
 impl SlopeLimit {
-    /// The least level that reaches it by a guess of how far above `base` it is, rounded up, and none above `top`.
+    /// A guess at the least level that reaches it, from a guess of its height above `base`, rounded up; at most `top`.
     fn guess(&self, about_rise: u32, top: i64) -> i64
         requires top { IsLevel top }
         ensures level { IsLevel result }
@@ -25,8 +25,11 @@ impl SlopeLimit {
     /// Whether the level is the least that reaches it.
     fn is_least(&self, level: i64) -> bool
         requires level { IsLevel level }
-        ensures reached { IsTrue result → IsAtLeastRootOf (fraction self.now.distance) (run_of self.now.ratio self.now.base level) }
-        ensures least { IsTrue result → (z : ℤ) → IsAtLeastRootOf (fraction self.now.distance) (run_of self.now.ratio self.now.base z) → level ≤ℤ z }
+        ensures reached { IsTrue result → IsAtLeastRootOf (fraction self.now.distance)
+            (run_of self.now.ratio self.now.base level) }
+        ensures least { IsTrue result → (z : ℤ) →
+            IsAtLeastRootOf (fraction self.now.distance) (run_of self.now.ratio self.now.base z) →
+            level ≤ℤ z }
     {
         if level <= self.lowest() || self.is_reached(level - 1) {
             return false;
@@ -34,12 +37,15 @@ impl SlopeLimit {
         self.is_reached(level)
     }
 
-    /// The least level that reaches it, where `top` does: the guess, where it is that.
+    /// The least level that reaches it; `top` must reach it. The guess is used where it is right.
     fn least_level(&self, about_rise: u32, top: i64) -> i64
         requires top { IsLevel top }
-        requires reached { IsAtLeastRootOf (fraction self.now.distance) (run_of self.now.ratio self.now.base top) }
-        ensures reached { IsAtLeastRootOf (fraction self.now.distance) (run_of self.now.ratio self.now.base result) }
-        ensures least { (z : ℤ) → IsAtLeastRootOf (fraction self.now.distance) (run_of self.now.ratio self.now.base z) → result ≤ℤ z }
+        requires reached { IsAtLeastRootOf (fraction self.now.distance)
+            (run_of self.now.ratio self.now.base top) }
+        ensures reached { IsAtLeastRootOf (fraction self.now.distance)
+            (run_of self.now.ratio self.now.base result) }
+        ensures least { (z : ℤ) → IsAtLeastRootOf (fraction self.now.distance)
+            (run_of self.now.ratio self.now.base z) → result ≤ℤ z }
         ensures level { IsLevel result }
     {
         let guess = self.guess(about_rise, top);
@@ -49,7 +55,8 @@ impl SlopeLimit {
         least_reached(self, self.lowest(), top)
     }
 
-    /// How far `top` is above it, rounded down. Where it is, the level is guessed from about how far the point is from the runway.
+    /// The excess of `top` over it, rounded down; `None` where it is not above. The level is guessed from the approximate distance of the
+    /// point.
     pub(crate) fn excess(
         &self,
         runway: &Candidate,
@@ -59,7 +66,11 @@ impl SlopeLimit {
         top: i64,
     ) -> Option<u32>
         requires top { IsLevel top }
-        ensures excess { IsExcess (covering (λ z. IsAboveRootOf (fraction self.now.distance) (run_of self.now.ratio self.now.base z)) (λ z. IsAtLeastRootOf (fraction self.now.distance) (run_of self.now.ratio self.now.base z))) top result }
+        ensures excess { IsExcess (covering_surface
+            (λ z. IsAboveRootOf (fraction self.now.distance)
+            (run_of self.now.ratio self.now.base z))
+            (λ z. IsAtLeastRootOf (fraction self.now.distance)
+            (run_of self.now.ratio self.now.base z))) top result }
         ensures size { IfSome result (λ e. e ≤ 2 ^ 26) }
     {
         if !self.is_exceeded(top) {

@@ -1,4 +1,4 @@
-//! Ends of runways in little room.
+//! Ends of runways in a compact form.
 
 ghost use Rattle.std.specs.Prelude.{◌≡◌, ◌≤◌, ◌^◌, ◌-ℤ◌, unsigned_abs};
 ghost use Rattle.grid_exact.specs.Grid.{OnGrid};
@@ -9,7 +9,7 @@ use crate::parts::{dot, square_length};
 use airfields::RunwayEnd;
 use grid_exact::{COORDINATE_LIMIT, Point, Start, Vector};
 
-/// Where an end of a runway lies and how high, in 12 bytes: each structure near an airport asks for the ends of its runway.
+/// The position and elevation of a runway end in 12 bytes: each structure near an airport reads the ends of its runway.
 #[derive(Clone, Copy)]
 pub(crate) struct ShortEnd {
     x: i32,
@@ -42,7 +42,7 @@ impl ShortEnd {
         }
     }
 
-    /// Its elevation.
+    /// The elevation, in tenths of a foot.
     pub(crate) fn elevation(&self) -> i64
         ensures value { result ≡ self.now.z }
         ensures allowed { IsElevation result }
@@ -51,7 +51,7 @@ impl ShortEnd {
         i64::from(self.z)
     }
 
-    /// The start of a line from it.
+    /// The start of a line at the end.
     pub(crate) fn start(&self) -> Start
         ensures x { result.x ≡ self.now.x }
         ensures y { result.y ≡ self.now.y }
@@ -62,7 +62,7 @@ impl ShortEnd {
         }
     }
 
-    /// The way from it to a point.
+    /// The vector from the end to a point.
     fn to_point(&self, point: &Point) -> Vector
         ensures x { result.x ≡ point.now.x -ℤ self.now.x }
         ensures y { result.y ≡ point.now.y -ℤ self.now.y }
@@ -73,7 +73,7 @@ impl ShortEnd {
         }
     }
 
-    /// The way from it to another end.
+    /// The vector from the end to another end.
     pub(crate) fn to_end(&self, other: &ShortEnd) -> Vector
         ensures x { result.x ≡ other.now.x -ℤ self.now.x }
         ensures y { result.y ≡ other.now.y -ℤ self.now.y }
@@ -91,9 +91,10 @@ impl ShortEnd {
         square_length(&self.to_point(point))
     }
 
-    /// How far a point is from it toward the other end of the runway, times the runway's length.
+    /// The distance of a point from it toward the other end of the runway, times the runway's length.
     pub(crate) fn along(&self, other: &ShortEnd, point: &Point) -> i64
-        ensures value { result ≡ along_of (point.now.x -ℤ self.now.x) (point.now.y -ℤ self.now.y) (other.now.x -ℤ self.now.x) (other.now.y -ℤ self.now.y) }
+        ensures value { result ≡ along_of (point.now.x -ℤ self.now.x) (point.now.y
+            -ℤ self.now.y) (other.now.x -ℤ self.now.x) (other.now.y -ℤ self.now.y) }
         ensures size { unsigned_abs result ≤ 2 ^ 55 }
     {
         dot(&self.to_point(point), &self.to_end(other))

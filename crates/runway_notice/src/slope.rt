@@ -3,35 +3,35 @@
 use crate::guesses::about_up;
 use airfields::RunwayName;
 
-/// How far the slope of 77.9(b)(1) goes out, in tenths of a foot: 20,000 feet.
+/// Range of the slope of 77.9(b)(1), in tenths of a foot: 20,000 feet.
 pub const RANGE_B1: i64 = 200_000;
 
-/// How far out the slope of 77.9(b)(1) rises by one.
+/// Slope of 77.9(b)(1): 100 to 1.
 pub const RATIO_B1: i64 = 100;
 
-/// How far the slope of 77.9(b)(2) goes out, in tenths of a foot: 10,000 feet.
+/// Range of the slope of 77.9(b)(2), in tenths of a foot: 10,000 feet.
 pub const RANGE_B2: i64 = 100_000;
 
-/// How far out the slope of 77.9(b)(2) rises by one.
+/// Slope of 77.9(b)(2): 50 to 1.
 pub const RATIO_B2: i64 = 50;
 
-/// Which of the two slopes an airport has.
+/// The notice slope of an airport: one of two.
 #[derive(Clone, Copy, Debug, PartialEq, Eq)]
 pub enum Sub {
-    /// 100 to 1 for 20,000 feet, where the longest runway is more than 3,200 feet long: 77.9(b)(1).
+    /// 100 to 1 for 20,000 feet, where the longest runway is longer than 3,200 feet: 77.9(b)(1).
     B1,
-    /// 50 to 1 for 10,000 feet, where it is not: 77.9(b)(2).
+    /// 50 to 1 for 10,000 feet, where no runway is longer than 3,200 feet: 77.9(b)(2).
     B2,
 }
 
-/// How far a structure is above the slope from the nearest runway of an airport.
+/// The excess of a structure over the slope from the nearest runway of an airport.
 #[derive(Clone, Copy, Debug, PartialEq, Eq)]
 pub struct Slope {
     /// The slope that the airport has.
     pub sub: Sub,
     /// The nearest runway.
     pub runway: RunwayName,
-    /// How far the top is above the slope, in tenths of a foot, rounded down.
+    /// The excess of the top over the slope, in tenths of a foot, rounded down.
     pub excess: u32,
 }
 
@@ -39,7 +39,7 @@ impl Sub {
     ghost use Rattle.std.specs.Prelude.{◌≡◌};
     ghost use Rattle.runway_notice.specs.Slopes.{range_of, ratio_of};
 
-    /// How far it goes out, in tenths of a foot.
+    /// The horizontal range of the slope, in tenths of a foot.
     pub(crate) fn range(self) -> i64
         ensures { result ≡ range_of self }
     {
@@ -49,7 +49,7 @@ impl Sub {
         }
     }
 
-    /// How far out it rises by one.
+    /// The horizontal distance per unit of rise.
     pub(crate) fn ratio(self) -> i64
         ensures { result ≡ ratio_of self }
     {
@@ -59,7 +59,7 @@ impl Sub {
         }
     }
 
-    /// How much it rises over a distance of one, as a float.
+    /// The rise per unit of distance, as a float.
     fn grade(self) -> f64 {
         match self {
             Sub::B1 => 1.0 / f64::from(RATIO_B1 as i32),
@@ -67,7 +67,7 @@ impl Sub {
         }
     }
 
-    /// About how far it has risen at a distance, rounded up.
+    /// The approximate rise at a distance, rounded up.
     pub(crate) fn rise_at(self, distance: f64) -> u32 {
         about_up(distance * self.grade())
     }

@@ -2,13 +2,13 @@
 
 ghost use Rattle.std.specs.Prelude.{◌≡◌, ◌↔◌, ◌*◌, ◌^◌, ◌≤◌, IsTrue, unsigned_abs};
 ghost use Rattle.grid_exact.specs.Lines.{IsReach};
-ghost use Rattle.runway_notice.specs.Distances.{IsMeasure, beyond as beyond_of};
-ghost use Rattle.runway_notice.specs.Places.{placed};
+ghost use Rattle.runway_notice.specs.Distances.{IsMeasure, distance_beyond as beyond_of};
+ghost use Rattle.runway_notice.specs.Places.{place_offset};
 
 use crate::parts::Place;
 use std::cmp::Ordering;
 
-/// The square of the distance from a point to a line, in square tenths of a foot: the fraction of `part` and `whole`.
+/// The square of the distance from a point to a line, in square tenths of a foot, as the fraction `part` / `whole`.
 #[derive(Clone, Copy)]
 pub(crate) struct SquareDistance {
     part: u128,
@@ -16,9 +16,9 @@ pub(crate) struct SquareDistance {
     ghost measure: { IsMeasure part whole },
 }
 
-/// How far before the start or past the end of a line a point lies that lies so by it, times the line's length.
+/// The distance of a point with this offset before the start or past the end of a line, times the line's length.
 fn beyond(at: &Place) -> u64
-    ensures value { result ≡ beyond_of (placed at.now) }
+    ensures value { result ≡ beyond_of (place_offset at.now) }
     ensures reach { IsReach result at.now.square }
 {
     if at.along < 0 {
@@ -31,7 +31,7 @@ fn beyond(at: &Place) -> u64
     0
 }
 
-/// The square of a number that is not too large.
+/// The square of a number that is small enough.
 fn squared(number: u64) -> u128
     requires { number ≤ 2 ^ 45 }
     ensures value { result ≡ number * number }
@@ -44,9 +44,9 @@ impl SquareDistance {
     ghost use Rattle.runway_notice.specs.Distances.{square_distance, fraction_cmp, IsAtLeastRootOf, IsAboveRootOf};
     ghost use Rattle.runway_notice.specs.Measures.{fraction};
 
-    /// From a line to a point that lies so by it.
+    /// The distance from a line to a point with this offset.
     pub(crate) fn of(at: &Place) -> SquareDistance
-        ensures { fraction result ≡ square_distance (placed at.now) }
+        ensures { fraction result ≡ square_distance (place_offset at.now) }
     {
         SquareDistance {
             part: squared(beyond(at)) + squared(at.aside),
@@ -54,7 +54,7 @@ impl SquareDistance {
         }
     }
 
-    /// Compares it with another.
+    /// Compares two distances.
     pub(crate) fn compare(&self, other: &SquareDistance) -> Ordering
         ensures { result ≡ fraction_cmp (fraction self.now) (fraction other.now) }
     {

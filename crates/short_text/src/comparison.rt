@@ -1,4 +1,4 @@
-//! Equality and order of short texts: those of their lists of bytes.
+//! Equality and order of short texts, which are those of their bytes.
 
 ghost use Rattle.std.specs.Prelude.{nat_eq, Some, refl};
 ghost use Rattle.std.specs.Ordering.{nat_cmp};

@@ -1,10 +1,7 @@
-//! Texts of few bytes, kept in place and copied.
+//! Texts of few bytes, stored in place and copied.
 #![tactic(auto)]
 
 mod comparison;
 mod short_text;
 
 pub use short_text::{LONGEST, ShortText};
-
-#[cfg(test)]
-mod tests;

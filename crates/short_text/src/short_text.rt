@@ -7,10 +7,10 @@ ghost use Rattle.std.specs.Cmp.Lexicographic.{slice_cmp};
 use std::cmp::Ordering;
 use std::marker::Model;
 
-/// How many bytes a short text may have, whatever its room: its length is kept in one byte.
+/// Most bytes of a short text, whatever its capacity: the length is stored in one byte.
 pub const LONGEST: usize = 255;
 
-/// A text of at most `MOST` bytes, kept in place.
+/// A text of at most `MOST` bytes, stored in place.
 #[derive(Clone, Copy)]
 pub struct ShortText<const MOST: usize> {
     bytes: [u8; MOST],
@@ -35,7 +35,8 @@ impl<const MOST: usize> Model for ShortText<MOST> {
 impl<const MOST: usize> ShortText<MOST> {
     /// The text, where it has at most `MOST` bytes and at most `LONGEST`; else `None`.
     pub fn new(text: &[u8]) -> Option<ShortText<MOST>>
-        ensures exact { MatchOption result (min MOST LONGEST < length text.now) (λ t. t ≡ text.now) }
+        ensures exact { MatchOption result (min MOST LONGEST < length text.now)
+            (λ t. t ≡ text.now) }
     {
         if text.len() > MOST {
             return None;
@@ -58,7 +59,7 @@ impl<const MOST: usize> ShortText<MOST> {
         &self.bytes[..usize::from(self.len)]
     }
 
-    /// The order of the two texts, byte by byte; a text stands before each longer one that it begins.
+    /// The order of the two texts, byte by byte; a text that is a prefix of another stands before it.
     pub fn compare(&self, other: &ShortText<MOST>) -> Ordering
         ensures order { result ≡ slice_cmp nat_cmp self.now other.now }
     {

@@ -1,19 +1,26 @@
-//! Worked values of the surfaces of runways and heliports, of the hull, of boxes, and of the tree that they stand in.
+//! Tests of exact comparisons, of airfields and their surfaces, of the register, and of whole screenings.
+//!
+//! They call what no worked session reaches: each generic type at a concrete one, limits, and calls for one surface alone. Values are worked out
+//! by hand.
 #![tactic(auto)]
 
 #[cfg(test)]
-mod bounds_tests;
+mod exact_tests;
+#[cfg(test)]
+mod fixtures;
+#[cfg(test)]
+mod height_tests;
+#[cfg(test)]
+mod heliport_tests;
 #[cfg(test)]
 mod hull_tests;
 #[cfg(test)]
-mod pad_area_tests;
+mod register_tests;
 #[cfg(test)]
-mod pad_tests;
+mod runway_tests;
 #[cfg(test)]
-mod strip_area_tests;
+mod screening_tests;
 #[cfg(test)]
-mod strip_tests;
-#[cfg(test)]
-mod transition_tests;
+mod shape_tests;
 #[cfg(test)]
 mod tree_tests;

@@ -14,7 +14,7 @@ use Rattle.surface_tree.specs.declared.entry.Entry.{Entry}
 use Rattle.surface_tree.specs.declared.placed.Plot.{Plot}
 use Rattle.surface_tree.specs.Levels.{side_of}
 use Rattle.surface_tree.specs.Squares.{in_cell, IsIn}
-use Rattle.surface_tree.specs.Visits.{close_area, hit_at, hits, looks}
+use Rattle.surface_tree.specs.Visits.{close_area, hit_at, hits, count_of_looks}
 use Rattle.outline_boxes.specs.Bounds.{box_of}
 use Rattle.surface_tree.specs.Parts.{item_of, IsEntry, HoldsOwn, HoldsNone}
 use Rattle.surface_tree.proofs.Sides.{side-pred}
@@ -78,7 +78,7 @@ module _ {T : Type 0} (plot : T → Plot) (value : List T) (w s : ℤ) (p : Poin
   own_number : (k : ℕ) (es : List (Entry T)) → HoldsOwn plot value k w s es → length es ≡ length (filter (λ i. in_cell k w s (plot i)) value)
   own_number k es h = let e : length (map item_of es) ≡ length (filter (λ i. in_cell k w s (plot i)) value) = ap length h.items in rw length-map at e
 
-  pub own_looks : (k : ℕ) (es : List (Entry T)) → IsIn k w s p → HoldsOwn plot value k w s es → length es + count_by (λ i. nat_lt (plot i).level k && close_area p (plot i)) value ≤ looks plot p k value
+  pub own_looks : (k : ℕ) (es : List (Entry T)) → IsIn k w s p → HoldsOwn plot value k w s es → length es + count_by (λ i. nat_lt (plot i).level k && close_area p (plot i)) value ≤ count_of_looks plot p k value
   own_looks k es i h =
       let A : T → Bool = λ x. in_cell k w s (plot x) in
       let B : T → Bool = λ x. nat_lt (plot x).level k && close_area p (plot x) in
@@ -102,13 +102,13 @@ module _ {T : Type 0} (plot : T → Plot) (value : List T) (w s : ℤ) (p : Poin
           ]
 
   -- a visit of a square whose level is above 0
-  pub cost_more : (k : ℕ) (es : List (Entry T)) (old mid new : ℕ) → 0 < k → IsIn k w s p → HoldsOwn plot value k w s es → mid ≡ old + 1 + length es → new ≤ mid + (k - 1 + 1) + looks plot p (k - 1) value → new ≤ old + (k + 1) + looks plot p k value
+  pub cost_more : (k : ℕ) (es : List (Entry T)) (old mid new : ℕ) → 0 < k → IsIn k w s p → HoldsOwn plot value k w s es → mid ≡ old + 1 + length es → new ≤ mid + (k - 1 + 1) + count_of_looks plot p (k - 1) value → new ≤ old + (k + 1) + count_of_looks plot p k value
   cost_more k es old mid new l i h m n =
       let e : k - 1 + 1 ≡ k = omega arith in
       let n' = rw e at n in
       omega (arith, l, m, n', own_looks k es i h)
 
-  pub cost_least : (k : ℕ) (es : List (Entry T)) (old new : ℕ) → IsIn k w s p → HoldsOwn plot value k w s es → new ≡ old + 1 + length es → new ≤ old + (k + 1) + looks plot p k value
+  pub cost_least : (k : ℕ) (es : List (Entry T)) (old new : ℕ) → IsIn k w s p → HoldsOwn plot value k w s es → new ≡ old + 1 + length es → new ≤ old + (k + 1) + count_of_looks plot p k value
   cost_least k es old new i h m = omega (arith, m, own_looks k es i h)
 
 -- the quarter that has the point

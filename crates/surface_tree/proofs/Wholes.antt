@@ -22,7 +22,7 @@ use Rattle.surface_tree.specs.Levels.{IsPlaced, side_of, level_up_to, level_of, 
 use Rattle.surface_tree.specs.Squares.{IsIn}
 use Rattle.outline_boxes.specs.declared.bounds.TheConstants.{PLANE_LIMIT}
 use Rattle.surface_tree.specs.Changes.{Fits, LiesIn}
-use Rattle.surface_tree.specs.Visits.{near_area, close_area, hit_at, hits, all_hits, looks}
+use Rattle.surface_tree.specs.Visits.{near_area, close_area, hit_at, hits, all_hits, count_of_looks}
 use Rattle.ordered_tree.proofs.Order.{not_removed, only_found}
 use Rattle.surface_tree.proofs.Boxes.{close_near}
 use Rattle.surface_tree.proofs.Visits.{filter_alike}
@@ -103,7 +103,7 @@ module _ {T : Type 0} (plot : T → Plot) (p : Point) where
   pub seen_whole : (Seen : List T → Type 0) (k : ℕ) (value xs : List T) → k ≡ 14 → All (λ i. IsPlaced (plot i)) value → Seen (xs ++ hits plot p k value) → (ys : List T) × IsPermutation (filter (λ i. has_point (plot i).area p) value) ys × Seen (xs ++ ys)
   seen_whole Seen k value xs h placed s = (hits plot p k value, hits_at k value h placed, s)
 
-  pub looks_whole : (k : ℕ) (value : List T) → k ≡ 14 → All (λ i. IsPlaced (plot i)) value → looks plot p k value ≡ count_by (λ i. close_area p (plot i)) value
+  pub looks_whole : (k : ℕ) (value : List T) → k ≡ 14 → All (λ i. IsPlaced (plot i)) value → count_of_looks plot p k value ≡ count_by (λ i. close_area p (plot i)) value
   looks_whole k value h placed =
       let e = filter_alike (λ i. close_area p (plot i)) (λ i. nat_lt (plot i).level (k + 1) && close_area p (plot i)) value (λ j d b. rw (whole_level k (plot (get_or value j d)) h (placed j d b)) refl) in
       sym (length-filter (λ i. nat_lt (plot i).level (k + 1) && close_area p (plot i)) value) ∙ ap length (sym e) ∙ length-filter (λ i. close_area p (plot i)) value

@@ -33,7 +33,7 @@ pub record IsPlaced (plot : Plot) : Type 0 where
   pub north : plot.area.y1 <ℤ PLANE_LIMIT
   pub level_most : plot.level ≤ level_of plot.area
 
--- what a change is made of: a plot in the plane, whose squares are of a level that there is
+-- a plot that a change can use: it lies in the plane, and its squares are of an existing level
 pub record IsEdit (plot : Plot) : Type 0 where
   pub placed : IsPlaced plot
   pub not_deep : plot.level ≤ TOP_LEVEL

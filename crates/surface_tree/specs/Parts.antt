@@ -1,4 +1,4 @@
--- What a part of the tree holds.
+-- The contents of a part of the tree.
 use Rattle.std.specs.Prelude.{◌≡◌, ℕ, ◌-◌, ◌<◌, ℤ, pos, neg_ℤ, ◌+ℤ◌, List, map, false}
 use Rattle.std.specs.List.{All, filter}
 use Rattle.std.specs.Arc.{arc_value}
@@ -19,7 +19,7 @@ use Rattle.surface_tree.specs.Squares.{in_cell, in_reach}
 abbrev pub item_of : {T : Type 0} → Entry T → T
 item_of e = arc_value e.item
 
--- what an entry has: its box and its item
+-- the contents of an entry: its box and its item
 abbrev pub content_of : {T : Type 0} → Entry T → Area × T
 content_of e = (box_of e.bounds, item_of e)
 
@@ -27,7 +27,7 @@ content_of e = (box_of e.bounds, item_of e)
 abbrev pub IsEntry : {T : Type 0} → (T → Plot) → Entry T → Type 0
 IsEntry plot e = box_of e.bounds ≡ (plot (item_of e)).area
 
--- the entries of a square are exactly those of all items that it holds itself, in their order
+-- the entries of a square are exactly those of all items that it holds itself, in the order of the items
 pub record HoldsOwn {T : Type 0} (plot : T → Plot) (all : List T) (level : ℕ) (west south : ℤ) (entries : List (Entry T)) : Type 0 where
   pub boxes : All (λ e. IsEntry plot e) entries
   pub items : map item_of entries ≡ filter (λ i. in_cell level west south (plot i)) all
@@ -36,7 +36,7 @@ pub record HoldsOwn {T : Type 0} (plot : T → Plot) (all : List T) (level : ℕ
 abbrev pub HoldsNone : {T : Type 0} → (T → Plot) → List T → ℕ → ℤ → ℤ → Type 0
 HoldsNone plot items level west south = All (λ i. in_reach level west south (plot i) ≡ false) items
 
--- the square and each part of it hold exactly what they hold of all items
+-- the square and each part of it hold exactly the items, out of `all`, that belong there
 abbrev pub Holds : {T : Type 0} → (T → Plot) → List T → ℕ → ℤ → ℤ → Part T → Type 0
 Holds plot items k w s Bare = HoldsNone plot items k w s
 Holds plot items k w s (Cell' p entries sw se nw ne) =
@@ -44,14 +44,14 @@ Holds plot items k w s (Cell' p entries sw se nw ne) =
     × (0 < k → Holds plot items (k - 1) w s sw × Holds plot items (k - 1) (w +ℤ pos (side_of (k - 1))) s se
     × Holds plot items (k - 1) w (s +ℤ pos (side_of (k - 1))) nw × Holds plot items (k - 1) (w +ℤ pos (side_of (k - 1))) (s +ℤ pos (side_of (k - 1))) ne)
 
--- the same of a square that is not bare
+-- the same for a square that is not bare
 abbrev pub HoldsCell : {T : Type 0} → (T → Plot) → List T → ℕ → ℤ → ℤ → Cell T → Type 0
 HoldsCell plot items k w s c =
     HoldsOwn plot items k w s c.entries.items
     × (0 < k → Holds plot items (k - 1) w s c.south_west × Holds plot items (k - 1) (w +ℤ pos (side_of (k - 1))) s c.south_east
     × Holds plot items (k - 1) w (s +ℤ pos (side_of (k - 1))) c.north_west × Holds plot items (k - 1) (w +ℤ pos (side_of (k - 1))) (s +ℤ pos (side_of (k - 1))) c.north_east)
 
--- both of a square that the code has
+-- the same for a square of the code
 abbrev pub PartHolds : {T : Type 0} → (T → Plot) → List T → Square → Part T → Type 0
 PartHolds plot items square part = Holds plot items square.level square.west square.south part
 

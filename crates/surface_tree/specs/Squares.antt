@@ -16,7 +16,7 @@ pub record IsSquare (west south side : ℤ) (level : ℕ) : Type 0 where
   pub east_in : (west +ℤ side) ≤ℤ PLANE_LIMIT
   pub north_in : (south +ℤ side) ≤ℤ PLANE_LIMIT
 
--- the closed interval from one end to the other meets the side from low on, which has its low end and not its high one
+-- the closed interval from one end to the other meets the side that starts at low, which includes its low end and not its high one
 abbrev pub meets : ℤ → ℕ → ℤ → ℤ → Bool
 meets low side from to = int_lt from (low +ℤ pos side) && int_le low to
 
@@ -24,11 +24,11 @@ meets low side from to = int_lt from (low +ℤ pos side) && int_le low to
 abbrev pub overlaps : ℕ → ℤ → ℤ → Area → Bool
 overlaps level west south area = meets west (side_of level) area.x0 area.x1 && meets south (side_of level) area.y0 area.y1
 
--- the square itself holds the plot
+-- the square itself stores items with this plot
 abbrev pub in_cell : ℕ → ℤ → ℤ → Plot → Bool
 in_cell level west south plot = nat_eq plot.level level && overlaps level west south plot.area
 
--- the square or a part of it holds the plot
+-- the square or a part of it stores items with this plot
 abbrev pub in_reach : ℕ → ℤ → ℤ → Plot → Bool
 in_reach level west south plot = nat_lt plot.level (level + 1) && overlaps level west south plot.area
 

@@ -1,4 +1,4 @@
--- What a tree holds.
+-- The invariant of a tree.
 use Rattle.std.specs.Prelude.{List}
 use Rattle.std.specs.List.{All}
 use Rattle.std.specs.declared.cmp.Ordering.{Ordering}

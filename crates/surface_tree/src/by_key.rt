@@ -1,9 +1,9 @@
-//! The order of the items by their keys. A change has to know where the item that stood under a key lies, and only this order tells.
+//! The order of the items by their keys. A change needs the squares of the item that was under a key, and only this order finds them.
 
 use crate::placed::Placed;
 use ordered_tree::KeyOf;
 
-/// Each item stands under the key that it has in a tree of areas.
+/// The key that each item has in a tree of areas.
 pub(crate) struct PlacedKey;
 
 impl<T: Placed> KeyOf<T> for PlacedKey {

@@ -1,6 +1,6 @@
-//! One change of the squares: new nodes beside the old ones, which stay as they are.
+//! One change of the squares: new nodes beside the old ones, which are unchanged.
 //!
-//! To put an item and to take one out is to go the same way: through the squares that the area meets, each of which is copied.
+//! Putting an item and removing one take the same path: through the squares that the area meets, each of which is copied.
 
 ghost use Rattle.std.specs.Prelude.{◌≡◌, ◌≤◌, IfOk, Option, option_map, true, ℕ, ℤ};
 ghost use Rattle.std.specs.Arc.{arc_value};
@@ -18,13 +18,18 @@ use outline_boxes::Bounds;
 use std::alloc::Global;
 use std::sync::Arc;
 
-/// The entries of a square that itself holds the area, after the change.
+/// The changed entries of a square that itself holds the area.
 fn edited_entries<T: Placed + Drop>(
     alloc: Global,
     entries: &[Entry<T>],
     edit: &Edit<T>,
 ) -> Result<Vec<Entry<T>>, NoMemory>
-    ensures { IfOk result (λ v. (level : ℕ) (west south : ℤ) → in_cell level west south edit.now.plot ≡ true → Follows T.Key.cmp T.key_of T.plot_of edit.now.key edit.now.plot (option_map arc_value edit.now.item) (λ xs. HoldsOwn T.plot_of xs level west south entries.now) (λ xs. HoldsOwn T.plot_of xs level west south v.items)) }
+    ensures { IfOk result (λ v. (level : ℕ) (west south : ℤ)
+        → in_cell level west south edit.now.plot ≡ true
+        → Follows T.Key.cmp T.key_of T.plot_of edit.now.key edit.now.plot
+        (option_map arc_value edit.now.item)
+        (λ xs. HoldsOwn T.plot_of xs level west south entries.now)
+        (λ xs. HoldsOwn T.plot_of xs level west south v.items)) }
 {
     let mut all = shared_entries(alloc, entries, entries.len() + 1)?;
     match &edit.item {
@@ -46,13 +51,18 @@ fn edited_entries<T: Placed + Drop>(
     }
 }
 
-/// The square that itself holds the area, after the change.
+/// The changed square, which itself holds the area.
 fn edited_cell<T: Placed + Drop>(
     alloc: Global,
     cell: &Cell<T>,
     edit: &Edit<T>,
 ) -> Result<Cell<T>, NoMemory>
-    ensures { IfOk result (λ c. (level : ℕ) (west south : ℤ) → in_cell level west south edit.now.plot ≡ true → Follows T.Key.cmp T.key_of T.plot_of edit.now.key edit.now.plot (option_map arc_value edit.now.item) (λ xs. HoldsCell T.plot_of xs level west south cell.now) (λ xs. HoldsCell T.plot_of xs level west south c)) }
+    ensures { IfOk result (λ c. (level : ℕ) (west south : ℤ)
+        → in_cell level west south edit.now.plot ≡ true
+        → Follows T.Key.cmp T.key_of T.plot_of edit.now.key edit.now.plot
+        (option_map arc_value edit.now.item)
+        (λ xs. HoldsCell T.plot_of xs level west south cell.now)
+        (λ xs. HoldsCell T.plot_of xs level west south c)) }
 {
     let entries = edited_entries(alloc, &cell.entries, edit)?;
     let south_west = shared_part(&cell.south_west)?;
@@ -68,7 +78,7 @@ fn edited_cell<T: Placed + Drop>(
     })
 }
 
-/// The part after the change.
+/// The part of the tree after the change.
 #[cycle(change)]
 pub(crate) fn changed_part<T: Placed + Drop>(
     alloc: Global,
@@ -77,7 +87,9 @@ pub(crate) fn changed_part<T: Placed + Drop>(
     edit: &Edit<T>,
 ) -> Result<Part<T>, NoMemory>
     requires deep { edit.now.plot.level ≤ square.now.level }
-    ensures { IfOk result (λ q. Follows T.Key.cmp T.key_of T.plot_of edit.now.key edit.now.plot (option_map arc_value edit.now.item) (λ xs. PartHolds T.plot_of xs square.now part.now) (λ xs. PartHolds T.plot_of xs square.now q)) }
+    ensures { IfOk result (λ q. Follows T.Key.cmp T.key_of T.plot_of edit.now.key edit.now.plot
+        (option_map arc_value edit.now.item) (λ xs. PartHolds T.plot_of xs square.now part.now)
+        (λ xs. PartHolds T.plot_of xs square.now q)) }
 {
     if !square.overlaps(&edit.plot.area) {
         return shared_part(part);
@@ -95,8 +107,11 @@ fn reached_cell<T: Placed + Drop>(
     edit: &Edit<T>,
 ) -> Result<Cell<T>, NoMemory>
     requires deep { edit.now.plot.level ≤ square.now.level }
-    requires met { overlaps square.now.level square.now.west square.now.south edit.now.plot.area ≡ true }
-    ensures { IfOk result (λ c. Follows T.Key.cmp T.key_of T.plot_of edit.now.key edit.now.plot (option_map arc_value edit.now.item) (λ xs. PartHolds T.plot_of xs square.now part.now) (λ xs. CellHolds T.plot_of xs square.now c)) }
+    requires met { overlaps square.now.level square.now.west square.now.south edit.now.plot.area
+        ≡ true }
+    ensures { IfOk result (λ c. Follows T.Key.cmp T.key_of T.plot_of edit.now.key edit.now.plot
+        (option_map arc_value edit.now.item) (λ xs. PartHolds T.plot_of xs square.now part.now)
+        (λ xs. CellHolds T.plot_of xs square.now c)) }
 {
     match part {
         Part::Bare => {
@@ -115,8 +130,11 @@ fn changed_cell<T: Placed + Drop>(
     edit: &Edit<T>,
 ) -> Result<Cell<T>, NoMemory>
     requires deep { edit.now.plot.level ≤ square.now.level }
-    requires met { overlaps square.now.level square.now.west square.now.south edit.now.plot.area ≡ true }
-    ensures { IfOk result (λ c. Follows T.Key.cmp T.key_of T.plot_of edit.now.key edit.now.plot (option_map arc_value edit.now.item) (λ xs. CellHolds T.plot_of xs square.now cell.now) (λ xs. CellHolds T.plot_of xs square.now c)) }
+    requires met { overlaps square.now.level square.now.west square.now.south edit.now.plot.area
+        ≡ true }
+    ensures { IfOk result (λ c. Follows T.Key.cmp T.key_of T.plot_of edit.now.key edit.now.plot
+        (option_map arc_value edit.now.item) (λ xs. CellHolds T.plot_of xs square.now cell.now)
+        (λ xs. CellHolds T.plot_of xs square.now c)) }
 {
     if edit.plot.level == square.level {
         return edited_cell(alloc, cell, edit);

@@ -1,4 +1,4 @@
-//! A change of what stands under a key.
+//! A change of the item under a key.
 
 ghost use Rattle.std.specs.Prelude.{◌≡◌, Some, None, option_map};
 ghost use Rattle.std.specs.Arc.{arc_value};
@@ -7,8 +7,8 @@ ghost use Rattle.surface_tree.specs.Levels.{IsEdit, IsPlaced};
 use crate::placed::{Placed, Plot};
 use std::sync::Arc;
 
-/// An item that is to stand under its key, or a key under which nothing is to stand any more. With the key goes the plot by which the
-/// squares are found: that of the item that is put or taken out. What stood under the key before lies in it.
+/// A change: an item to put under its key, or a key to clear. With the key goes a plot, by which the squares are found: that of the
+/// item put or removed. The area of the item under the key before the change lies in it.
 #[derive(Drop)]
 pub(crate) struct Edit<T: Placed + Drop> {
     pub(crate) key: T::Key,
@@ -18,7 +18,7 @@ pub(crate) struct Edit<T: Placed + Drop> {
 }
 
 impl<T: Placed + Drop> Edit<T> {
-    /// The item is put under its key.
+    /// The change that puts the item under its key.
     #[tactic(auto, using(crate::proofs::Wholes::placed_most))]
     pub(crate) fn put(item: Arc<T>) -> Edit<T>
         requires { IsPlaced (T.plot_of (arc_value item)) }
@@ -33,7 +33,7 @@ impl<T: Placed + Drop> Edit<T> {
         }
     }
 
-    /// What stands under the key, which has the plot of this item, is taken out.
+    /// The change that removes the item under the key; it has the plot of this item.
     #[tactic(auto, using(crate::proofs::Wholes::placed_most))]
     pub(crate) fn take(key: T::Key, old: &T) -> Edit<T>
         requires { IsPlaced (T.plot_of old.now) }

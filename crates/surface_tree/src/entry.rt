@@ -1,4 +1,4 @@
-//! An item as a square holds it.
+//! An item as a square stores it.
 
 ghost use Rattle.std.specs.Prelude.{◌≡◌, IfOk, OnOk, length, map};
 ghost use Rattle.std.specs.List.Sorted.{IsBinarySearchResult, IsSearchInRange};
@@ -11,14 +11,14 @@ use outline_boxes::Bounds;
 use std::alloc::Global;
 use std::sync::Arc;
 
-/// An item beside its area, so that a visit need not go to the item to see whether it is hit.
+/// An item beside its area, so that a visit can test the area without reading the item.
 #[derive(Drop)]
 pub(crate) struct Entry<T: Drop> {
     pub(crate) bounds: Bounds,
     pub(crate) item: Arc<T>,
 }
 
-/// The same entry, shared.
+/// The same entry, shared with the old tree.
 fn shared_entry<T: Drop>(entry: &Entry<T>) -> Result<Entry<T>, NoMemory>
     ensures { IfOk result (λ e. content_of e ≡ content_of entry.now) }
 {
@@ -29,7 +29,7 @@ fn shared_entry<T: Drop>(entry: &Entry<T>) -> Result<Entry<T>, NoMemory>
     })
 }
 
-/// The same entries, shared, with room for so many. Room that is asked for at once saves a third of the time.
+/// The same entries, shared, with room reserved at once; that saves a third of the time.
 pub(crate) fn shared_entries<T: Drop>(
     alloc: Global,
     entries: &[Entry<T>],
@@ -44,10 +44,11 @@ pub(crate) fn shared_entries<T: Drop>(
     Ok(all)
 }
 
-/// Where the entry under this key stands, or where it would stand.
+/// The place of the entry under this key, or the place where it would be inserted.
 fn place<T: Placed + Drop>(entries: &[Entry<T>], key: T::Key) -> Result<usize, usize>
     ensures within { IsSearchInRange result (length entries.now) }
-    ensures found { IsBinarySearchResult (λ e. T.Key.cmp (T.key_of (item_of e)) key) entries.now result }
+    ensures found { IsBinarySearchResult (λ e. T.Key.cmp
+        (T.key_of (item_of e)) key) entries.now result }
 {
     entries.binary_search_by_key(&key, |entry| entry.item.key())
 }
@@ -57,7 +58,9 @@ pub(crate) fn put_entry<T: Placed + Drop>(
     entries: &mut Vec<Entry<T>>,
     entry: Entry<T>,
 ) -> Result<(), NoMemory>
-    ensures { OnOk result (Rises T.Key.cmp (λ e. T.key_of (item_of e)) entries.old.items → entries.new.items ≡ put_by T.Key.cmp (λ e. T.key_of (item_of e)) entry entries.old.items) }
+    ensures { OnOk result (Rises T.Key.cmp (λ e. T.key_of (item_of e)) entries.old.items
+        → entries.new.items ≡ put_by T.Key.cmp (λ e. T.key_of
+        (item_of e)) entry entries.old.items) }
 {
     match place(entries, entry.item.key()) {
         Ok(i) => {
@@ -71,9 +74,11 @@ pub(crate) fn put_entry<T: Placed + Drop>(
     }
 }
 
-/// Takes the entry under the key out.
+/// Removes the entry under the key.
 pub(crate) fn take_entry<T: Placed + Drop>(entries: &mut Vec<Entry<T>>, key: T::Key)
-    ensures { Rises T.Key.cmp (λ e. T.key_of (item_of e)) entries.old.items → entries.new.items ≡ removed_by T.Key.cmp (λ e. T.key_of (item_of e)) key entries.old.items }
+    ensures { Rises T.Key.cmp (λ e. T.key_of (item_of e)) entries.old.items
+        → entries.new.items ≡ removed_by T.Key.cmp (λ e. T.key_of
+        (item_of e)) key entries.old.items }
 {
     match place(entries, key) {
         Ok(i) => {

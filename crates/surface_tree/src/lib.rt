@@ -1,9 +1,9 @@
-//! A tree of areas, from which one learns which areas have a point. It is copied where it is written: its nodes are shared between
-//! trees and never change, so a tree that others read stays as it is while a changed one is made beside it.
+//! A tree of areas that finds the areas containing a point. It is copy-on-write: nodes are shared between trees and never change, so a
+//! tree in use stays as it is while a changed one is made beside it.
 //!
-//! The plane is quartered into squares again and again. Each item names a size of squares, and stands in every square of that size that
-//! its area meets. So a visit of a point goes along one path of squares, from the whole plane down. Coordinates are whole tenths of a
-//! foot.
+//! The plane is divided into quarters repeatedly. Each item names the square size it is stored at, and stands in every square of that size
+//! that its area meets. So a visit of a point follows one path of squares, from the whole plane down. Coordinates are in whole tenths of
+//! a foot.
 #![tactic(auto)]
 
 mod by_key;

@@ -9,7 +9,7 @@ use grid_exact::NoMemory;
 use std::alloc::Global;
 use std::sync::Arc;
 
-/// What stands in a square and its parts.
+/// The contents of a square and its parts.
 #[derive(Drop)]
 #[cycle(part)]
 pub(crate) enum Part<T: Drop> {
@@ -18,7 +18,7 @@ pub(crate) enum Part<T: Drop> {
     Cell(Arc<Cell<T>>),
 }
 
-/// The items that a square itself holds, in order of their keys, and what stands in its four quarters.
+/// The items that a square itself holds, in order of their keys, and the contents of its four quarters.
 #[derive(Drop)]
 #[cycle(part)]
 pub(crate) struct Cell<T: Drop> {
@@ -29,9 +29,10 @@ pub(crate) struct Cell<T: Drop> {
     pub(crate) north_east: Part<T>,
 }
 
-/// The same part, shared.
+/// The same part, shared with the old tree.
 pub(crate) fn shared_part<T: Drop>(part: &Part<T>) -> Result<Part<T>, NoMemory>
-    ensures { IfOk result (λ q. (plot : T → Plot) (items : List T) (level : ℕ) (west south : ℤ) → Holds plot items level west south part.now → Holds plot items level west south q) }
+    ensures { IfOk result (λ q. (plot : T → Plot) (items : List T) (level : ℕ) (west south : ℤ)
+        → Holds plot items level west south part.now → Holds plot items level west south q) }
 {
     match part {
         Part::Bare => Ok(Part::Bare),
@@ -44,7 +45,8 @@ pub(crate) fn shared_part<T: Drop>(part: &Part<T>) -> Result<Part<T>, NoMemory>
 
 /// A square with no items.
 pub(crate) fn bare_cell<T: Drop>(alloc: Global) -> Cell<T>
-    ensures { (plot : T → Plot) (items : List T) (level : ℕ) (west south : ℤ) → HoldsNone plot items level west south → HoldsCell plot items level west south result }
+    ensures { (plot : T → Plot) (items : List T) (level : ℕ) (west south : ℤ)
+        → HoldsNone plot items level west south → HoldsCell plot items level west south result }
 {
     Cell {
         entries: Vec::new(alloc),

@@ -1,18 +1,18 @@
-//! What stands in a tree.
+//! Items of a tree.
 
 ghost use Rattle.std.specs.Prelude.{◌≡◌};
 ghost use Rattle.surface_tree.specs.declared.placed.Plot.{Plot as APlot};
 
 use grid_exact::Area;
 
-/// Where an item stands: its area, and the level of the squares that hold it.
+/// The placement of an item: its area, and the level of the squares that hold it.
 #[derive(Clone, Copy)]
 pub struct Plot {
     pub area: Area,
     pub level: u32,
 }
 
-/// A value with a plot, in whose area a point meets it, and a key, under which a tree holds it. The value fixes both.
+/// A value with a plot, whose area decides which points hit it, and a key, under which a tree holds it. Both are fixed by the value.
 pub trait Placed {
     type Key: Ord + Copy;
 
@@ -20,7 +20,7 @@ pub trait Placed {
 
     ghost key_of: { Self → Self.Key };
 
-    /// Where the value stands.
+    /// The plot of the value.
     fn plot(&self) -> Plot
         ensures { result ≡ plot_of self.now };
 

@@ -1,4 +1,4 @@
-//! The squares that quarter the plane.
+//! The squares that divide the plane.
 
 ghost use Rattle.std.specs.Prelude.{◌≡◌, ◌-◌, ◌+◌, ◌<◌, ◌≤◌, ◌^◌, ◌&&◌, ◌+ℤ◌, ◌≤ℤ◌, pos, neg_ℤ, unsigned_abs, int_le, int_lt};
 ghost use Rattle.surface_tree.specs.Levels.{side_of};
@@ -9,11 +9,11 @@ ghost use Rattle.surface_tree.specs.declared.square.TheConstants.{TOP_LEVEL};
 use grid_exact::{Area, is_at_most, is_below};
 use outline_boxes::{PLANE_LIMIT, Spot};
 
-/// The level of the whole plane, in which areas lie from `-PLANE_LIMIT` to below `PLANE_LIMIT` in each coordinate. A square of level 0
-/// has a side of 4,096 tenths of a foot, and one of each other level twice that of the level below.
+/// The level of the whole plane, where areas lie from `-PLANE_LIMIT` to below `PLANE_LIMIT` in each coordinate. A square of level 0
+/// has a side of 4,096 tenths of a foot, and the side doubles with each further level.
 pub const TOP_LEVEL: u32 = 14;
 
-/// A square, by its south-west corner: it has its south and west sides, and not its north and east sides.
+/// A square, given by its south-west corner. It includes its south and west sides, and not its north and east sides.
 #[derive(Clone, Copy)]
 pub(crate) struct Square {
     pub(crate) west: i64,
@@ -34,7 +34,7 @@ fn plus(a: i64, b: i64) -> i64
     a + b
 }
 
-/// Whether the interval from `from` to `to` meets the side from `low` on.
+/// Whether the closed interval from `from` to `to` meets the side that starts at `low`.
 fn is_met(low: i64, side: i64, from: i64, to: i64) -> bool
     requires low { unsigned_abs low ≤ 2 ^ 40 }
     requires side { unsigned_abs side ≤ 2 ^ 40 }
@@ -87,12 +87,13 @@ impl Square {
     /// Whether the point lies in the north half.
     pub(crate) fn is_north(&self, spot: &Spot) -> bool
         requires { 0 < self.now.level }
-        ensures { result ≡ int_le (self.now.south +ℤ pos (side_of (self.now.level - 1))) spot.now.y }
+        ensures { result ≡ int_le (self.now.south +ℤ pos
+            (side_of (self.now.level - 1))) spot.now.y }
     {
         is_at_most(plus(self.south, self.half()), spot.at().y)
     }
 
-    /// The quarter whose corner lies so far to the east and north of this one's.
+    /// The quarter whose corner lies `east` and `north` of this square's corner.
     fn quarter(&self, east: i64, north: i64) -> Square
         requires deep { 0 < self.now.level }
         requires east { (pos 0 ≤ℤ east) × (east ≤ℤ pos (side_of (self.now.level - 1))) }

@@ -28,7 +28,7 @@ use std::marker::Model;
 use std::sync::Arc;
 use std::sync::ledger::Ledger;
 
-/// Items under their keys, which are found by the points of their areas. Seen as the list of the items, in rising order of their keys.
+/// Items under their keys, found by the points of their areas. Contracts see it as the list of the items, in rising order of their keys.
 #[derive(Drop)]
 pub struct Tree<T: Placed + Drop> {
     root: Part<T>,
@@ -46,13 +46,15 @@ impl<T: Placed + Drop> Model for Tree<T> {
     ghost invariant = { λ t. IsTree T.Key.cmp T.key_of T.plot_of t.root t.by_key };
 }
 
-/// All squares after a change.
+/// The whole tree of squares after a change.
 fn changed_root<T: Placed + Drop>(
     alloc: Global,
     root: &Part<T>,
     edit: &Edit<T>,
 ) -> Result<Part<T>, NoMemory>
-    ensures { IfOk result (λ q. Follows T.Key.cmp T.key_of T.plot_of edit.now.key edit.now.plot (option_map arc_value edit.now.item) (λ xs. RootHolds T.plot_of xs root.now) (λ xs. RootHolds T.plot_of xs q)) }
+    ensures { IfOk result (λ q. Follows T.Key.cmp T.key_of T.plot_of edit.now.key edit.now.plot
+        (option_map arc_value edit.now.item) (λ xs. RootHolds T.plot_of xs root.now)
+        (λ xs. RootHolds T.plot_of xs q)) }
 {
     changed_part(alloc, root, &Square::whole(), edit)
 }
@@ -64,8 +66,12 @@ fn cleared_root<T: Placed + Drop>(
     key: T::Key,
     old: Option<&Arc<T>>,
 ) -> Result<Part<T>, NoMemory>
-    requires placed { (i : T) → option_map arc_value (option_copied old) ≡ Some i → IsPlaced (T.plot_of i) }
-    ensures { IfOk result (λ q. (items : List T) → IsFound T.Key.cmp T.key_of key (option_map arc_value (option_copied old.entry)) items → RootHolds T.plot_of items root.now → RootHolds T.plot_of (removed_by T.Key.cmp T.key_of key items) q) }
+    requires placed { (i : T) → option_map arc_value (option_copied old) ≡ Some i
+        → IsPlaced (T.plot_of i) }
+    ensures { IfOk result (λ q. (items : List T)
+        → IsFound T.Key.cmp T.key_of key (option_map arc_value (option_copied old.entry)) items
+        → RootHolds T.plot_of items root.now → RootHolds T.plot_of
+        (removed_by T.Key.cmp T.key_of key items) q) }
 {
     match old {
         None => shared_part(root),
@@ -73,7 +79,7 @@ fn cleared_root<T: Placed + Drop>(
     }
 }
 
-/// Whether the item's area lies in that of the plot, and squares of one size hold both.
+/// Whether the item's area lies in the plot's area, and squares of the same size hold both.
 fn lies_in<T: Placed>(item: &T, plot: &Plot) -> bool
     ensures { IsTrue result → LiesIn (T.plot_of item.now) plot.now }
 {
@@ -86,9 +92,10 @@ fn lies_in<T: Placed>(item: &T, plot: &Plot) -> bool
         & (inner.area.y1 <= outer.area.y1)
 }
 
-/// Whether no item was found under a key, or one whose squares all hold the area of the edit too.
+/// Whether nothing was found under a key, or the squares of the item found all hold the area of the edit too.
 fn is_covered<T: Placed + Drop>(old: Option<&Arc<T>>, edit: &Edit<T>) -> bool
-    ensures { IsTrue result → (i : T) → option_map arc_value (option_copied old.entry) ≡ Some i → LiesIn (T.plot_of i) edit.now.plot }
+    ensures { IsTrue result → (i : T) → option_map arc_value (option_copied old.entry) ≡ Some i
+        → LiesIn (T.plot_of i) edit.now.plot }
 {
     match old {
         None => true,
@@ -96,18 +103,21 @@ fn is_covered<T: Placed + Drop>(old: Option<&Arc<T>>, edit: &Edit<T>) -> bool
     }
 }
 
-/// The squares with the item instead of the one that was found under its key. Where the new area covers that of the old item and squares
-/// of one size hold both, as where an airport is given a runway, each of them is copied once; else the squares are cleared of the old
-/// item first.
+/// The squares with the item instead of the one found under its key. Where the new area covers the old one and squares of the same size
+/// hold both (as when a runway is added to an airport) each square is copied once; else the old item is removed first.
 fn replaced_root<T: Placed + Drop>(
     alloc: Global,
     root: &Part<T>,
     old: Option<&Arc<T>>,
     item: Arc<T>,
 ) -> Result<Part<T>, NoMemory>
-    requires found { (i : T) → option_map arc_value (option_copied old) ≡ Some i → IsPlaced (T.plot_of i) }
+    requires found { (i : T) → option_map arc_value (option_copied old) ≡ Some i
+        → IsPlaced (T.plot_of i) }
     requires placed { IsPlaced (T.plot_of (arc_value item)) }
-    ensures { IfOk result (λ q. (items : List T) → IsFound T.Key.cmp T.key_of (T.key_of (arc_value item)) (option_map arc_value (option_copied old.entry)) items → RootHolds T.plot_of items root.now → RootHolds T.plot_of (put_by T.Key.cmp T.key_of (arc_value item) items) q) }
+    ensures { IfOk result (λ q. (items : List T)
+        → IsFound T.Key.cmp T.key_of (T.key_of (arc_value item))
+        (option_map arc_value (option_copied old.entry)) items → RootHolds T.plot_of items root.now
+        → RootHolds T.plot_of (put_by T.Key.cmp T.key_of (arc_value item) items) q) }
 {
     let edit = Edit::put(item);
     if is_covered(old, &edit) {
@@ -118,7 +128,7 @@ fn replaced_root<T: Placed + Drop>(
 }
 
 impl<T: Placed + Drop> Tree<T> {
-    /// No items. It takes no memory.
+    /// An empty tree. It takes no memory.
     pub fn empty(alloc: Global) -> Tree<T>
         ensures { result ≡ [] }
     {
@@ -128,10 +138,10 @@ impl<T: Placed + Drop> Tree<T> {
         }
     }
 
-    /// The tree with the item in its place, instead of the one under its key. This tree stays as it is.
+    /// The tree with the item in its place, instead of the one under its key. This tree is unchanged.
     ///
-    /// The area of the item has its ends in order, and coordinates from `-PLANE_LIMIT` to below `PLANE_LIMIT`. Its
-    /// squares are no larger than its size: they are of level 0, or half of their side is less than the longer of its extents.
+    /// The item's area must have its ends in order, and coordinates from `-PLANE_LIMIT` to below `PLANE_LIMIT`. Its squares must be no
+    /// larger than the area: of level 0, or with half a side less than the longer of the area's extents.
     ///
     /// # Errors
     ///
@@ -146,7 +156,7 @@ impl<T: Placed + Drop> Tree<T> {
         Ok(Tree { root, by_key })
     }
 
-    /// The tree without the item under the key. This tree stays as it is.
+    /// The tree without the item under the key. This tree is unchanged.
     ///
     /// # Errors
     ///
@@ -159,13 +169,14 @@ impl<T: Placed + Drop> Tree<T> {
         Ok(Tree { root, by_key })
     }
 
-    /// The tree without the item under the key of this one. This tree stays as it is.
+    /// The tree without the item under this item's key. This tree is unchanged.
     ///
     /// # Errors
     ///
     /// `NoMemory` where memory was refused.
     pub fn without(&self, alloc: Global, item: &T) -> Result<Tree<T>, NoMemory>
-        ensures { IfOk result (λ t. t ≡ removed_by T.Key.cmp T.key_of (T.key_of item.now) self.now) }
+        ensures { IfOk result (λ t. t ≡ removed_by T.Key.cmp T.key_of
+            (T.key_of item.now) self.now) }
     {
         self.without_key(alloc, item.key())
     }
@@ -183,16 +194,22 @@ impl<T: Placed + Drop> Tree<T> {
         Ok(Tree { root, by_key })
     }
 
-    /// Gives the visitor each item whose area has the point, once, and no other. It takes no memory.
+    /// Gives the visitor each item whose area contains the point, once, and no other. It takes no memory.
     ///
-    /// Those of the largest squares come first, and those of squares of one size in the order of their keys.
+    /// Items in larger squares come first; items in squares of one size come in the order of their keys.
     ///
-    /// A step is counted for each square, of which there is at most one of each level, and for each item that is looked at.
+    /// A step is counted for each square, at most one per level, and for each item tested.
     pub fn visit<L: Ledger, W: Visitor<T>>(&self, x: &Point, visitor: &mut W, steps: &mut Steps<L>)
-        ensures order { (start : W) (xs : List T) → W.seen start visitor.old xs → W.seen start visitor.new (xs ++ all_hits T.plot_of x.now self.now) }
-        ensures seen { (start : W) (xs : List T) → W.seen start visitor.old xs → (ys : List T) × IsPermutation (filter (λ i. has_point (T.plot_of i).area x.now) self.now) ys × W.seen start visitor.new (xs ++ ys) }
-        ensures close { steps.new ≤ steps.old + (TOP_LEVEL + 1) + count_by (λ i. close_area x.now (T.plot_of i)) self.now }
-        ensures cost { steps.new ≤ steps.old + (TOP_LEVEL + 1) + count_by (λ i. near_area x.now (T.plot_of i).area) self.now }
+        ensures order { (start : W) (xs : List T) → W.seen start visitor.old xs
+            → W.seen start visitor.new (xs ++ all_hits T.plot_of x.now self.now) }
+        ensures seen { (start : W) (xs : List T) → W.seen start visitor.old xs
+            → (ys : List T) × IsPermutation (filter
+            (λ i. has_point (T.plot_of i).area x.now) self.now) ys
+            × W.seen start visitor.new (xs ++ ys) }
+        ensures close { steps.new ≤ steps.old + (TOP_LEVEL + 1) + count_by
+            (λ i. close_area x.now (T.plot_of i)) self.now }
+        ensures cost { steps.new ≤ steps.old + (TOP_LEVEL + 1) + count_by
+            (λ i. near_area x.now (T.plot_of i).area) self.now }
     {
         let spot = Spot::of(x);
         visit_part(&self.root, &Square::whole(), &spot, visitor, steps);

@@ -8,7 +8,7 @@ ghost use Rattle.surface_tree.specs.declared.placed.Plot.{Plot};
 ghost use Rattle.surface_tree.specs.declared.visit.TheConstants.{BLOCK};
 ghost use Rattle.outline_boxes.specs.Bounds.{box_of};
 ghost use Rattle.surface_tree.specs.Parts.{CellHolds, PartHolds, item_of};
-ghost use Rattle.surface_tree.specs.Visits.{HasPoint, SeesMore, hits, looks};
+ghost use Rattle.surface_tree.specs.Visits.{HasPoint, SeesMore, hits, count_of_looks};
 
 use crate::entry::Entry;
 use crate::part::{Cell, Part};
@@ -19,13 +19,13 @@ use grid_exact::Steps;
 use outline_boxes::Spot;
 use std::sync::ledger::Ledger;
 
-/// How many entries are looked at before items are given; their places fit into bytes.
+/// Entries tested before any item is given; places within a block fit into bytes.
 pub(crate) const BLOCK: usize = 256;
 
-/// Writes the places of the entries whose areas have the point into `picks`, and tells how many there are.
+/// Writes the places of the entries whose areas contain the point into `picks`, and returns their number.
 ///
-/// It takes no branch: each place is written, and the count moves on past those that are hits. About a third of the entries are, so
-/// that a branch would often be guessed wrong, and a visit took twice as long with one.
+/// It has no branch: each place is written, and the count advances past hits only. About a third of the entries are hits, so a branch
+/// would often be mispredicted; a visit took twice as long with one.
 fn pick<T: Drop, L: Ledger>(
     entries: &[Entry<T>],
     x: &Spot,
@@ -35,7 +35,8 @@ fn pick<T: Drop, L: Ledger>(
     requires short { length entries.now ≤ BLOCK }
     ensures few { result ≤ length entries.now }
     ensures within { All (λ i. i < length entries.now) (take result picks.new) }
-    ensures picked { (d : Entry T) → map (λ i. slice_index_or entries.now i d) (take result picks.new) ≡ filter (λ e. has_point (box_of e.bounds) x.now) entries.now }
+    ensures picked { (d : Entry T) → map (λ i. slice_index_or entries.now i d)
+        (take result picks.new) ≡ filter (λ e. has_point (box_of e.bounds) x.now) entries.now }
     ensures cost { steps.new ≡ steps.old + length entries.now }
 {
     let mut count = 0;
@@ -50,14 +51,15 @@ fn pick<T: Drop, L: Ledger>(
 /// Gives the visitor the items at these places.
 fn hand_out<T: Placed + Drop, W: Visitor<T>>(entries: &[Entry<T>], picks: &[u8], visitor: &mut W)
     requires within { All (λ i. i < length entries.now) picks.now }
-    ensures seen { (d : Entry T) → SeesMore W.seen visitor.old visitor.new (map (λ i. item_of (slice_index_or entries.now i d)) picks.now) }
+    ensures seen { (d : Entry T) → SeesMore W.seen visitor.old visitor.new (map
+        (λ i. item_of (slice_index_or entries.now i d)) picks.now) }
 {
     for pick in picks {
         visitor.item(&entries[*pick as usize].item);
     }
 }
 
-/// Gives the visitor those of a few items whose areas have the point.
+/// Gives the visitor those items of one block whose areas contain the point.
 fn visit_block<T: Placed + Drop, L: Ledger, W: Visitor<T>>(
     entries: &[Entry<T>],
     x: &Spot,
@@ -66,7 +68,8 @@ fn visit_block<T: Placed + Drop, L: Ledger, W: Visitor<T>>(
 )
     requires short { length entries.now ≤ BLOCK }
     requires some { 0 < length entries.now }
-    ensures seen { SeesMore W.seen visitor.old visitor.new (map item_of (filter (λ e. has_point (box_of e.bounds) x.now) entries.now)) }
+    ensures seen { SeesMore W.seen visitor.old visitor.new
+        (map item_of (filter (λ e. has_point (box_of e.bounds) x.now) entries.now)) }
     ensures cost { steps.new ≡ steps.old + length entries.now }
 {
     let mut picks = [0; BLOCK];
@@ -74,7 +77,7 @@ fn visit_block<T: Placed + Drop, L: Ledger, W: Visitor<T>>(
     hand_out(entries, &picks[..count], visitor);
 }
 
-/// Gives the visitor those of the items whose areas have the point.
+/// Gives the visitor those of the items whose areas contain the point.
 #[cycle(entries)]
 fn visit_entries<T: Placed + Drop, L: Ledger, W: Visitor<T>>(
     entries: &[Entry<T>],
@@ -82,7 +85,8 @@ fn visit_entries<T: Placed + Drop, L: Ledger, W: Visitor<T>>(
     visitor: &mut W,
     steps: &mut Steps<L>,
 )
-    ensures seen { SeesMore W.seen visitor.old visitor.new (map item_of (filter (λ e. has_point (box_of e.bounds) x.now) entries.now)) }
+    ensures seen { SeesMore W.seen visitor.old visitor.new
+        (map item_of (filter (λ e. has_point (box_of e.bounds) x.now) entries.now)) }
     ensures cost { steps.new ≡ steps.old + length entries.now }
 {
     if entries.is_empty() {
@@ -97,14 +101,15 @@ fn visit_entries<T: Placed + Drop, L: Ledger, W: Visitor<T>>(
     visit_entries(rest, x, visitor, steps);
 }
 
-/// The quarter of a square that the point lies in, and what stands there. It is found apart from the visit of it, so that a processor can
-/// choose it without a branch: which quarter it is, it would often guess wrong.
+/// The quarter of a square that the point lies in, and its contents. It is a function apart from the visit so that a processor can choose
+/// the quarter without a branch, which it would often mispredict.
 #[inline(always)]
 fn quarter_over<'a, T: Drop>(cell: &'a Cell<T>, square: &Square, x: &Spot) -> (&'a Part<T>, Square)
     requires deep { 0 < square.now.level }
     ensures level { result.1.level ≡ square.now.level - 1 }
     ensures point { HasPoint square.now x.now → HasPoint result.1 x.now }
-    ensures holds { (plot : T → Plot) (items : List T) → CellHolds plot items square.now cell.now → PartHolds plot items result.1 result.0.now }
+    ensures holds { (plot : T → Plot) (items : List T) → CellHolds plot items square.now cell.now
+        → PartHolds plot items result.1 result.0.now }
 {
     if square.is_north(x) {
         if square.is_east(x) {
@@ -119,8 +124,8 @@ fn quarter_over<'a, T: Drop>(cell: &'a Cell<T>, square: &Square, x: &Spot) -> (&
     }
 }
 
-/// Gives the visitor those items of the square and its parts whose areas have the point: those of the square first, then those of the
-/// quarter over the point.
+/// Gives the visitor those items of the square and its parts whose areas contain the point: the square's own first, then those of the
+/// quarter that contains the point.
 #[cycle(visit)]
 pub(crate) fn visit_part<T: Placed + Drop, L: Ledger, W: Visitor<T>>(
     part: &Part<T>,
@@ -129,8 +134,13 @@ pub(crate) fn visit_part<T: Placed + Drop, L: Ledger, W: Visitor<T>>(
     visitor: &mut W,
     steps: &mut Steps<L>,
 )
-    ensures seen { (items : List T) → HasPoint square.now x.now → PartHolds T.plot_of items square.now part.now → SeesMore W.seen visitor.old visitor.new (hits T.plot_of x.now square.now.level items) }
-    ensures cost { (items : List T) → HasPoint square.now x.now → PartHolds T.plot_of items square.now part.now → steps.new ≤ steps.old + (square.now.level + 1) + looks T.plot_of x.now square.now.level items }
+    ensures seen { (items : List T) → HasPoint square.now x.now
+        → PartHolds T.plot_of items square.now part.now
+        → SeesMore W.seen visitor.old visitor.new (hits T.plot_of x.now square.now.level items) }
+    ensures cost { (items : List T) → HasPoint square.now x.now
+        → PartHolds T.plot_of items square.now part.now
+        → steps.new ≤ steps.old +
+        (square.now.level + 1) + count_of_looks T.plot_of x.now square.now.level items }
 {
     match part {
         Part::Bare => {}
@@ -146,8 +156,13 @@ fn visit_cell<T: Placed + Drop, L: Ledger, W: Visitor<T>>(
     visitor: &mut W,
     steps: &mut Steps<L>,
 )
-    ensures seen { (items : List T) → HasPoint square.now x.now → CellHolds T.plot_of items square.now cell.now → SeesMore W.seen visitor.old visitor.new (hits T.plot_of x.now square.now.level items) }
-    ensures cost { (items : List T) → HasPoint square.now x.now → CellHolds T.plot_of items square.now cell.now → steps.new ≤ steps.old + (square.now.level + 1) + looks T.plot_of x.now square.now.level items }
+    ensures seen { (items : List T) → HasPoint square.now x.now
+        → CellHolds T.plot_of items square.now cell.now
+        → SeesMore W.seen visitor.old visitor.new (hits T.plot_of x.now square.now.level items) }
+    ensures cost { (items : List T) → HasPoint square.now x.now
+        → CellHolds T.plot_of items square.now cell.now
+        → steps.new ≤ steps.old +
+        (square.now.level + 1) + count_of_looks T.plot_of x.now square.now.level items }
 {
     steps.tick();
     visit_entries(&cell.entries, x, visitor, steps);

@@ -7,6 +7,6 @@ use Rattle.std.specs.Fmt.{signed_decimal}
 abbrev pub HasNineDigits : ℤ → Type 0
 HasNineDigits z = (neg_ℤ NUMBER_LIMIT ≤ℤ z) × (z ≤ℤ NUMBER_LIMIT)
 
--- the bytes are the one spelling of a whole number of at most nine digits
+-- the bytes are the only spelling of a whole number of at most nine digits
 abbrev pub Spells : List ℕ → ℤ → Type 0
 Spells bytes z = (bytes ≡ signed_decimal z) × HasNineDigits z

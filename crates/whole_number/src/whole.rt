@@ -1,4 +1,4 @@
-//! Whole numbers and their one spelling.
+//! Whole numbers and their only spelling.
 
 ghost use Rattle.std.specs.Prelude.{◌≡◌, ◌≢◌, ◌≤◌, ◌<◌, ◌∷◌, ℤ, ℕ, true, false, length, IfSome, IfNone, slice_index};
 ghost use Rattle.std.specs.Str.Parse.{AllDigits, digits_value};
@@ -6,7 +6,7 @@ ghost use Rattle.std.specs.Char.{digit_value};
 ghost use Rattle.std.specs.Fmt.{decimal};
 ghost use Rattle.whole_number.specs.Whole.{Spells};
 
-/// The greatest whole number of nine digits; the least is its opposite.
+/// The greatest whole number of nine digits; the least is its negative.
 pub const NUMBER_LIMIT: i64 = 999_999_999;
 
 // The value of a digit.
@@ -26,7 +26,7 @@ fn digit(byte: u8) -> Option<u8>
 }
 
 #[tactic(auto, using(crate::proofs::Digits::room, crate::proofs::Digits::one_more, crate::proofs::Digits::all_taken, crate::proofs::Digits::digit_at))]
-// The value of some digits.
+// The value of a string of digits.
 fn value(digits: &[u8]) -> Option<u32>
     requires { length digits.now ≤ 9 }
     ensures some { IfSome result (λ n. AllDigits 10 digits.now × (n ≡ digits_value 10 digits.now)) }
@@ -43,7 +43,7 @@ fn value(digits: &[u8]) -> Option<u32>
 }
 
 #[tactic(auto, using(crate::proofs::Digits::spells, crate::proofs::Digits::digits_of_decimal, crate::proofs::Digits::empty_none))]
-// The number that some bytes spell, of at most nine digits.
+// The number that the bytes spell, of at most nine digits.
 fn natural(digits: &[u8]) -> Option<u32>
     ensures some { IfSome result (λ n. (digits.now ≡ decimal n) × (n < 1000000000)) }
     ensures none { IfNone result ((n : ℕ) → n < 1000000000 → digits.now ≢ decimal n) }
@@ -61,7 +61,7 @@ fn natural(digits: &[u8]) -> Option<u32>
 }
 
 #[tactic(auto, using(crate::proofs::Digits::spells_zero, crate::proofs::Digits::no_lead))]
-// The same of bytes that begin with a zero.
+// The same for bytes that begin with a zero.
 fn zero(digits: &[u8]) -> Option<u32>
     requires some { 0 < length digits.now }
     requires zero { slice_index digits.now 0 ≡ 48 }
@@ -71,7 +71,7 @@ fn zero(digits: &[u8]) -> Option<u32>
     if digits.len() == 1 { Some(0) } else { None }
 }
 
-/// The whole number of at most nine digits whose spelling the bytes are, and `None` where there is none.
+/// The whole number of at most nine digits that the bytes spell, or `None` where they spell none.
 pub fn number(bytes: &[u8]) -> Option<i64>
     ensures some { IfSome result (λ z. Spells bytes.now z) }
     ensures none { IfNone result ((z : ℤ) → Spells bytes.now z → ⊥) }
@@ -85,7 +85,7 @@ pub fn number(bytes: &[u8]) -> Option<i64>
     }
 }
 
-// The number that some bytes spell after a minus sign.
+// The number spelled by the bytes after a minus sign.
 #[tactic(auto, using(crate::proofs::Digits::not_minus_zero, crate::proofs::Digits::no_minus))]
 fn negative(digits: &[u8]) -> Option<i64>
     ensures some { IfSome result (λ z. Spells (45 ∷ digits.now) z) }

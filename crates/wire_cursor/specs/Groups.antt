@@ -23,14 +23,14 @@ point_shape = coordinate ∷ coordinate ∷ []
 abbrev pub point_fields : Point → List (List ℕ)
 point_fields p = signed_decimal p.x ∷ signed_decimal p.y ∷ []
 
--- an end of a runway: its place, its elevation and its kind of approach
+-- an end of a runway: its point, its elevation and its kind of approach
 abbrev pub end_shape : List Wanted
 end_shape = coordinate ∷ coordinate ∷ any_number ∷ ApproachWanted ∷ []
 
 abbrev pub end_fields : RunwayEnd → List (List ℕ)
 end_fields e = signed_decimal e.at.x ∷ signed_decimal e.at.y ∷ signed_decimal e.z ∷ approach_word e.kind ∷ []
 
--- a structure: its place, the elevation of the terrain, its height, kind, mobile object and flags, and the airfield that it is on
+-- a structure: its point, the elevation of the terrain, its height, kind, mobile object and flags, and the airfield that it is on
 abbrev pub site_shape : List Wanted
 site_shape = coordinate ∷ coordinate ∷ Between ELEVATION_LEAST ELEVATION_MOST ∷ Between (pos 0) HEIGHT_LIMIT
     ∷ KindWanted ∷ MobileWanted ∷ FlagsWanted ∷ AirfieldWanted ∷ []
@@ -40,11 +40,11 @@ abbrev pub site_fields : Site → List (List ℕ)
 site_fields s = signed_decimal s.at.x ∷ signed_decimal s.at.y ∷ signed_decimal s.terrain ∷ signed_decimal s.height
     ∷ kind_word s.kind ∷ signed_decimal s.mobile ∷ flags_text s.flags ∷ name_text s.on ∷ []
 
--- a structure that a record can tell
+-- a structure that a record can spell
 abbrev pub IsValidSite : Site → Type 0
 IsValidSite site = IsSite site × IsAirfieldName site.on
 
--- ---- for proofs alone: what the readers of the groups tell
+-- ---- for proofs alone: the results of the readers of the groups
 
 -- the reader took an end of a runway
 pub record TookEnd (e : RunwayEnd) (old new : Place) : Type 0 where

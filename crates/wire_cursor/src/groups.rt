@@ -8,7 +8,7 @@ use crate::cursor::{BadField, Cursor};
 use airfields::{ELEVATION_LEAST, ELEVATION_MOST, Filing, HEIGHT_LIMIT, RunwayEnd};
 use grid_exact::{COORDINATE_LIMIT, Point};
 
-/// A point of the grid.
+/// Reads a point of the grid.
 pub fn point(cursor: &mut Cursor<'_>) -> Result<Point, BadField>
     ensures took { IfOk result (λ p. Took point_shape (point_fields p) cursor.old cursor.new) }
     ensures stops { IfErr result (λ b. Stops point_shape cursor.old (b.before + 1)) }
@@ -18,7 +18,7 @@ pub fn point(cursor: &mut Cursor<'_>) -> Result<Point, BadField>
     Ok(Point { x, y })
 }
 
-/// An end of a runway.
+/// Reads an end of a runway.
 pub fn runway_end(cursor: &mut Cursor<'_>) -> Result<RunwayEnd, BadField>
     ensures took { IfOk result (λ e. TookEnd e cursor.old cursor.new) }
     ensures stops { IfErr result (λ b. Stops end_shape cursor.old (b.before + 1)) }
@@ -29,7 +29,7 @@ pub fn runway_end(cursor: &mut Cursor<'_>) -> Result<RunwayEnd, BadField>
     Ok(RunwayEnd { at, z, kind })
 }
 
-/// A structure.
+/// Reads a structure.
 pub fn structure(cursor: &mut Cursor<'_>) -> Result<Filing, BadField>
     ensures took { IfOk result (λ s. TookSite s cursor.old cursor.new) }
     ensures stops { IfErr result (λ b. Stops site_shape cursor.old (b.before + 1)) }

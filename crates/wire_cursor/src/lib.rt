@@ -1,4 +1,4 @@
-//! The fields of a record, taken one after the other, each as its form wants it there.
+//! A cursor over the fields of a record, which checks each field against its form.
 //!
 //! Lengths, coordinates and elevations are whole tenths of a foot.
 #![tactic(auto)]
@@ -8,6 +8,3 @@ mod groups;
 
 pub use cursor::{BadField, Cursor};
 pub use groups::{point, runway_end, structure};
-
-#[cfg(test)]
-mod tests;

@@ -1,4 +1,4 @@
--- Cases, as the reply to a question for one tells them.
+-- Cases, as the reply to a query shows them.
 use Rattle.std.specs.Prelude.{ℕ, List, [], ◌∷◌, ◌++◌, Bool, Option, Some, None, codes, if◌then◌else◌}
 use Rattle.std.specs.Fmt.{decimal}
 use Rattle.determination_dates.specs.declared.determination.Decision.{Decision}

@@ -1,8 +1,8 @@
--- What accepted requests led to, one definition for each kind of request.
+-- The outcomes of accepted requests, one definition for each kind of request.
 use Rattle.std.specs.Prelude.{ℕ, List, [], ◌∷◌, ◌++◌, Bool, Option, Some, None, codes, ◌==◌, if◌then◌else◌}
 use Rattle.std.specs.Fmt.{decimal}
 use Rattle.jiff_core.specs.declared.civil.date.Date.{Date}
-use Rattle.airfield_findings.specs.declared.finding.Finding.{Finding}
+use Rattle.finding_lists.specs.declared.finding.Finding.{Finding}
 use Rattle.determination_dates.specs.declared.determination.Decision.{Decision}
 use Rattle.determination_dates.specs.declared.timely.Timeliness.{Timeliness}
 use Rattle.determination_dates.specs.declared.timely.Timeliness.TheVariants as timeliness
@@ -14,26 +14,26 @@ use Rattle.wire_values.specs.Words.{decision_word}
 use Rattle.wire_replies.specs.Entries.{list_text}
 use Rattle.wire_replies.specs.States.{date_word, day_text}
 
--- so many days late
+-- this number of days late
 abbrev pub late_text : ℕ → List ℕ
 late_text days = codes "late " ++ decimal days
 
--- so many days late, or a word where that is none
+-- this number of days late, or a word where the number is 0
 abbrev pub lateness_text : List ℕ → ℕ → List ℕ
 lateness_text word days = if days == 0 then word else late_text days
 
--- whether a notice is in time; in an emergency the day up to which its form is due
+-- whether a notice is in time; in an emergency, the last day for its form
 abbrev pub timeliness_text : Timeliness → List ℕ
 timeliness_text timeliness.Timely = codes "timely"
 timeliness_text (timeliness.Late days) = late_text days
 timeliness_text (timeliness.Emergency due) = codes "emergency " ++ date_word due
 
--- how a notice stands to the application to the FCC, where there is one
+-- whether a notice is in time before the application to the FCC, where there is one
 abbrev pub fcc_text : Option ℕ → List ℕ
 fcc_text None = codes "-"
 fcc_text (Some days) = lateness_text (codes "timely") days
 
--- whether the presumption of a hazard is answered, where there is one: above 2,000 feet (77.7(d))
+-- whether a statement answers the presumption of a hazard, where the height is above 2,000 feet (77.7(d))
 abbrev pub presumption_text : Option Bool → List ℕ
 presumption_text None = codes "-"
 presumption_text (Some explained) = if explained then codes "explained" else codes "unexplained"
@@ -45,7 +45,7 @@ filed_text number in_time fcc explained =
 abbrev pub form_text : ℕ → ℕ → List ℕ
 form_text number late = joined (codes "form" ∷ decimal number ∷ lateness_text (codes "intime") late ∷ [])
 
--- the decision, the number of the last entry of the register that it is over, and its days; the list follows
+-- the decision, the number of its register's last entry, and its days; the list follows
 abbrev pub determined_fields : ℕ → Decision → ℕ → Date → Option Date → Option Date → Option Date → List (List ℕ)
 determined_fields number decision last issued deadline effective expiry =
     codes "determine" ∷ decimal number ∷ decision_word decision ∷ decimal last ∷ date_word issued
@@ -72,7 +72,7 @@ extended_text number expiry last_day = joined (codes "extend" ∷ decimal number
 abbrev pub fcc_act_text : ℕ → Date → List ℕ
 fcc_act_text number expiry = joined (codes "fcc" ∷ decimal number ∷ date_word expiry ∷ [])
 
--- a form whose reply tells no more than the case
+-- a form whose reply shows nothing but the case
 abbrev pub case_act_text : List ℕ → ℕ → List ℕ
 case_act_text word number = joined (word ∷ decimal number ∷ [])
 

@@ -1,4 +1,4 @@
--- Refusals: their numbers, their names, and what they say besides.
+-- Refusals: their numbers, their names and their values.
 use Rattle.std.specs.Prelude.{ℕ, List, [], ◌∷◌, codes}
 use Rattle.std.specs.Fmt.{decimal}
 use Rattle.case_records.specs.declared.refusal.Refusal.{Refusal}
@@ -72,7 +72,7 @@ refusal_name refusals.KeeperFault = codes "KeeperFault"
 refusal_name refusals.NoMemory = codes "NoMemory"
 refusal_name refusals.NoFormDue = codes "NoFormDue"
 
--- what a refusal says besides its name
+-- the values of a refusal, after its name
 abbrev pub refusal_fields : Refusal → List (List ℕ)
 refusal_fields (refusals.Malformed field) = decimal field ∷ []
 refusal_fields (refusals.DayBack kept day) = date_word kept ∷ date_word day ∷ []

@@ -1,8 +1,8 @@
 -- The texts of replies, each with the line feed that ends it.
 use Rattle.std.specs.Prelude.{ℕ, List, ◌++◌, length, map, Bool, codes, if◌then◌else◌}
 use Rattle.std.specs.Fmt.{decimal}
-use Rattle.airfield_findings.specs.declared.finding.Finding.{Finding}
-use Rattle.airfield_findings.specs.declared.verdict.Verdict.{Verdict}
+use Rattle.finding_lists.specs.declared.finding.Finding.{Finding}
+use Rattle.finding_lists.specs.declared.verdict.Verdict.{Verdict}
 use Rattle.case_records.specs.declared.outcome.Outcome.{Outcome}
 use Rattle.case_records.specs.declared.refusal.Refusal.{Refusal}
 use Rattle.wire_values.specs.Commas.{with_commas}
@@ -16,7 +16,7 @@ use Rattle.wire_replies.specs.declared.reply.Reply.TheVariants as replies
 abbrev pub publication_word : Bool → List ℕ
 publication_word published = if published then codes "published" else codes "waiting"
 
--- an accepted request: its entry's number, whether every session sees it, and what it led to
+-- an accepted request: its entry's number, whether every session sees it, and its outcome
 abbrev pub accepted_text : ℕ → Bool → Outcome → List ℕ
 accepted_text entry published outcome = codes "ok," ++ decimal entry ++ codes "," ++ publication_word published ++ codes "," ++ outcome_text outcome ++ codes "\n"
 
@@ -24,24 +24,24 @@ accepted_text entry published outcome = codes "ok," ++ decimal entry ++ codes ",
 abbrev pub refused_text : Refusal → List ℕ
 refused_text refusal = codes "no," ++ decimal (refusal_number refusal) ++ codes "," ++ refusal_name refusal ++ refusal_values refusal ++ codes "\n"
 
--- the list of findings over the register after its entry of number `last`
+-- the list of findings; `last` is the number of the register's last entry
 abbrev pub found_text : ℕ → List Finding → List ℕ
 found_text last list = codes "found," ++ decimal last ++ list_text list ++ codes "\n"
 
 abbrev pub yes_word : Bool → List ℕ
 yes_word holds = if holds then codes "yes" else codes "no"
 
--- what the findings over the register after its entry of number `last` come to: whether notice is required, whether a standard
--- is exceeded, and how many findings there are
+-- the verdict on a list of findings: `last`, the number of the register's last entry, whether notice is required, whether a standard
+-- is exceeded, and the number of findings
 abbrev pub verdict_text : ℕ → Verdict → List ℕ
 verdict_text last v = codes "verdict," ++ decimal last ++ codes "," ++ yes_word v.notice
     ++ codes "," ++ yes_word v.obstruction ++ codes "," ++ decimal v.entries ++ codes "\n"
 
--- an airfield, told by its row
+-- an airfield's row
 abbrev pub row_text : List ℕ → List ℕ
 row_text row = codes "airfield," ++ row ++ codes "\n"
 
--- cases: how many there are, and the number of each, a comma before it
+-- cases: their count, and the number of each, a comma before it
 abbrev pub cases_text : List ℕ → List ℕ
 cases_text cases = decimal (length cases) ++ with_commas (map decimal cases)
 

@@ -1,4 +1,4 @@
--- The rows by which replies tell airfields. Lengths, coordinates and elevations are whole tenths of a foot.
+-- The rows of airfields in replies. Lengths, coordinates and elevations are whole tenths of a foot.
 use Rattle.std.specs.Prelude.{ℕ, List, [], ◌∷◌, ◌++◌, codes}
 use Rattle.std.specs.Fmt.{signed_decimal}
 use Rattle.grid_exact.specs.declared.point.Point.{Point}

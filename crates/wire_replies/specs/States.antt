@@ -1,4 +1,4 @@
--- How cases stand: words, and days that are there or not.
+-- Statuses, dates, and the dash for what is not there.
 use Rattle.std.specs.Prelude.{ℕ, List, Option, Some, None, codes}
 use Rattle.jiff_core.specs.declared.civil.date.Date.{Date}
 use Rattle.determination_dates.specs.Text.{date_text}
@@ -18,7 +18,7 @@ status_word statuses.Reversed = codes "reversed"
 unfoldable pub date_word : Date → List ℕ
 date_word d = date_text d
 
--- a date, or a dash where there is none
+-- a date, or a dash for none
 abbrev pub day_text : Option Date → List ℕ
 day_text None = codes "-"
 day_text (Some day) = date_word day

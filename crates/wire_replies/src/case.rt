@@ -30,10 +30,12 @@ fn mark_word(marked: bool) -> &'static str
     if marked { "marked" } else { "-" }
 }
 
-// Appends the number of a case, how it stands and what was decided.
+// Appends a case's number, status and decision.
 #[tactic(auto, using(grid_exact::proofs::Extending::extending))]
 fn append_standing(text: &mut String, view: &CaseView) -> Result<(), NoMemory>
-    ensures ok { OnOk result (string_bytes text.new ≡ string_bytes text.old ++ joined (codes "case" ∷ decimal view.now.case ∷ status_text view.now.status ∷ spec.decision_text view.now.decision ∷ [])) }
+    ensures ok { OnOk result (string_bytes text.new
+        ≡ string_bytes text.old ++ joined
+        (codes "case" ∷ decimal view.now.case ∷ status_text view.now.status ∷ spec.decision_text view.now.decision ∷ [])) }
     ensures part { OnErr result (Extends (string_bytes text.old) (string_bytes text.new)) }
 {
     append_text(text, "case")?;
@@ -45,7 +47,9 @@ fn append_standing(text: &mut String, view: &CaseView) -> Result<(), NoMemory>
 // Appends the days of a case, a comma before each.
 #[tactic(auto, using(grid_exact::proofs::Extending::extending))]
 fn append_days(text: &mut String, view: &CaseView) -> Result<(), NoMemory>
-    ensures ok { OnOk result (string_bytes text.new ≡ string_bytes text.old ++ with_commas (day_text view.now.issued ∷ day_text view.now.deadline ∷ day_text view.now.effective ∷ day_text view.now.expiry ∷ day_text view.now.last_day ∷ [])) }
+    ensures ok { OnOk result (string_bytes text.new
+        ≡ string_bytes text.old ++ with_commas
+        (day_text view.now.issued ∷ day_text view.now.deadline ∷ day_text view.now.effective ∷ day_text view.now.expiry ∷ day_text view.now.last_day ∷ [])) }
     ensures part { OnErr result (Extends (string_bytes text.old) (string_bytes text.new)) }
 {
     append_next_day(text, view.issued)?;
@@ -55,10 +59,11 @@ fn append_days(text: &mut String, view: &CaseView) -> Result<(), NoMemory>
     append_next_day(text, view.last_day)
 }
 
-// Appends the reply that tells a case.
+// Appends the reply that shows a case.
 #[tactic(auto, using(grid_exact::proofs::Extending::extending))]
 pub(crate) fn append_case(text: &mut String, view: &CaseView) -> Result<(), NoMemory>
-    ensures ok { OnOk result (string_bytes text.new ≡ string_bytes text.old ++ spec.case_text view.now) }
+    ensures ok { OnOk result (string_bytes text.new
+        ≡ string_bytes text.old ++ spec.case_text view.now) }
     ensures part { OnErr result (Extends (string_bytes text.old) (string_bytes text.new)) }
 {
     append_standing(text, view)?;

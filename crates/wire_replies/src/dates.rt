@@ -1,4 +1,4 @@
-//! The dates of replies.
+//! Dates in replies.
 
 ghost use Rattle.std.specs.Prelude.{◌≡◌, ◌++◌, OnOk, OnErr, codes, string_bytes};
 ghost use Rattle.std.specs.Str.{IsUtf8};
@@ -35,7 +35,8 @@ pub(crate) fn append_date(text: &mut String, date: Date) -> Result<(), NoMemory>
 // Appends a comma and a date.
 #[tactic(auto, using(grid_exact::proofs::Extending::extending))]
 pub(crate) fn append_next_date(text: &mut String, date: Date) -> Result<(), NoMemory>
-    ensures ok { OnOk result (string_bytes text.new ≡ string_bytes text.old ++ (codes "," ++ date_word date)) }
+    ensures ok { OnOk result (string_bytes text.new
+        ≡ string_bytes text.old ++ (codes "," ++ date_word date)) }
     ensures part { OnErr result (Extends (string_bytes text.old) (string_bytes text.new)) }
 {
     append_text(text, ",")?;
@@ -44,7 +45,8 @@ pub(crate) fn append_next_date(text: &mut String, date: Date) -> Result<(), NoMe
 
 // Appends a comma and a date, or a dash where there is none.
 pub(crate) fn append_next_day(text: &mut String, day: Option<Date>) -> Result<(), NoMemory>
-    ensures ok { OnOk result (string_bytes text.new ≡ string_bytes text.old ++ (codes "," ++ day_text day)) }
+    ensures ok { OnOk result (string_bytes text.new
+        ≡ string_bytes text.old ++ (codes "," ++ day_text day)) }
     ensures part { OnErr result (Extends (string_bytes text.old) (string_bytes text.new)) }
 {
     match day {

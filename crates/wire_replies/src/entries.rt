@@ -9,8 +9,8 @@ ghost use Rattle.wire_replies.specs.Pages.{IsPiece};
 ghost use Rattle.wire_replies.specs.declared.page.TheConstants.{ROOM, SIZE};
 
 use crate::page::Page;
-use airfield_findings::{Finding, Rule, SurfaceKey};
 use airfields::RunwayName;
+use finding_lists::{Finding, Rule, SurfaceKey};
 use grid_exact::NoMemory;
 
 // A comma, the word of each rule and a space, in the order of the rules, padded to eight bytes.
@@ -36,11 +36,11 @@ static WORDS: [[u8; 8]; 19] = [
     *b",9c-b3 \0",
 ];
 
-// How long each of them is.
+// The length of each of them, without the padding.
 static LENGTHS: [u8; 19] = [6, 6, 5, 5, 5, 5, 5, 5, 5, 5, 4, 5, 5, 5, 4, 6, 7, 7, 7];
 
-// A comma, the word of a rule and a space, padded to eight bytes, and how long they are. They are read from tables, since a branch for each
-// rule is often guessed wrong.
+// A comma, the word of a rule and a space, padded to eight bytes, and their length. Read from tables, since a branch for each
+// rule is often mispredicted.
 #[inline(always)]
 fn rule_head(rule: Rule) -> ([u8; 8], usize)
     ensures { IsPiece result.0 result.1 (codes "," ++ spec.rule_word rule ++ codes " ") }
@@ -78,7 +78,7 @@ fn put_runway(page: &mut Page, runway: &Option<RunwayName>)
     }
 }
 
-// Puts the runway of a key, a space before and behind it.
+// Puts the runway of a key, with a space before and after it.
 fn put_spaced_runway(page: &mut Page, key: &SurfaceKey)
     requires room { length page.old + 64 ≤ SIZE }
     ensures put { page.new ≡ page.old ++ (codes " " ++ name_text key.now.runway ++ codes " ") }
@@ -89,7 +89,7 @@ fn put_spaced_runway(page: &mut Page, key: &SurfaceKey)
     page.put_byte(b' ');
 }
 
-// Puts the runway of a key and its end or side, a dot between, and a space before and behind them.
+// Puts the runway of a key and its end or side, joined by a dot, with a space before and after them.
 fn put_spaced_runway_part(page: &mut Page, key: &SurfaceKey)
     requires room { length page.old + 64 ≤ SIZE }
     ensures put { page.new ≡ page.old ++ (codes " " ++ spec.runway_part_text key.now ++ codes " ") }
@@ -102,7 +102,7 @@ fn put_spaced_runway_part(page: &mut Page, key: &SurfaceKey)
     page.put_byte(b' ');
 }
 
-// Puts the end or side of a key, a space before and behind it.
+// Puts the end or side of a key, with a space before and after it.
 fn put_spaced_part(page: &mut Page, key: &SurfaceKey)
     requires room { length page.old + 64 ≤ SIZE }
     ensures put { page.new ≡ page.old ++ (codes " " ++ decimal key.now.part ++ codes " ") }
@@ -113,7 +113,7 @@ fn put_spaced_part(page: &mut Page, key: &SurfaceKey)
     page.put_byte(b' ');
 }
 
-// Puts the dash of an entry that tells no surface, a space before and behind it.
+// Puts the dash of an entry without a surface, with a space before and after it.
 #[inline(always)]
 fn put_spaced_dash(page: &mut Page)
     requires room { length page.old + 8 ≤ SIZE }
@@ -123,11 +123,12 @@ fn put_spaced_dash(page: &mut Page)
     page.put_piece(*b" - \0\0\0\0\0", 3);
 }
 
-// Puts the surface of an entry, a space before and behind it. Most have none, and their dash is one piece with the spaces.
+// Puts the surface of an entry, with a space before and after it. Most have none; then the dash and its spaces are put as one piece.
 #[inline(always)]
 fn put_surface(page: &mut Page, rule: Rule, key: &SurfaceKey)
     requires room { length page.old + 64 ≤ SIZE }
-    ensures put { page.new ≡ page.old ++ (codes " " ++ spec.surface_text rule key.now ++ codes " ") }
+    ensures put { page.new ≡ page.old ++
+        (codes " " ++ spec.surface_text rule key.now ++ codes " ") }
     ensures few { length page.new ≤ length page.old + 64 }
 {
     match rule {
@@ -140,7 +141,7 @@ fn put_surface(page: &mut Page, rule: Rule, key: &SurfaceKey)
     }
 }
 
-// Puts an entry, a comma before it.
+// Puts a comma and an entry.
 #[inline(always)]
 fn put_entry(page: &mut Page, finding: &Finding)
     requires room { length page.old + ROOM ≤ SIZE }
@@ -153,7 +154,7 @@ fn put_entry(page: &mut Page, finding: &Finding)
     page.put_number(u64::from(finding.excess));
 }
 
-// Puts a comma and how many entries a list has.
+// Puts a comma and the number of entries of a list.
 #[inline(always)]
 fn put_count(page: &mut Page, count: u64)
     requires room { length page.old + ROOM ≤ SIZE }
@@ -163,14 +164,15 @@ fn put_count(page: &mut Page, count: u64)
     page.put_number(count);
 }
 
-/// Appends a list: how many entries it has, and the entries, a comma before each.
+/// Appends a list: the number of entries, and the entries, a comma before each.
 ///
 /// # Errors
 ///
 /// `NoMemory` where memory was refused; the text may then have a part of the list.
 #[tactic(auto, using(grid_exact::proofs::Extending::extending))]
 pub fn append_list(text: &mut String, list: &[Finding]) -> Result<(), NoMemory>
-    ensures ok { OnOk result (string_bytes text.new ≡ string_bytes text.old ++ spec.list_text list.now) }
+    ensures ok { OnOk result (string_bytes text.new
+        ≡ string_bytes text.old ++ spec.list_text list.now) }
     ensures part { OnErr result (Extends (string_bytes text.old) (string_bytes text.new)) }
 {
     let mut page = Page::new();

@@ -1,4 +1,4 @@
-//! What replies are made of: numbers and words, a comma before each where it is not the first.
+//! The parts of replies: numbers and words, each with a comma before it unless it is the first.
 
 ghost use Rattle.std.specs.Prelude.{◌≡◌, ◌++◌, OnOk, OnErr, codes, string_bytes};
 ghost use Rattle.std.specs.Fmt.{decimal};
@@ -28,7 +28,8 @@ pub fn append_number(text: &mut String, number: u64) -> Result<(), NoMemory>
 /// `NoMemory` where memory was refused; the text may then have the comma.
 #[tactic(auto, using(grid_exact::proofs::Extending::extending))]
 pub fn append_next_number(text: &mut String, number: u64) -> Result<(), NoMemory>
-    ensures ok { OnOk result (string_bytes text.new ≡ string_bytes text.old ++ (codes "," ++ decimal number)) }
+    ensures ok { OnOk result (string_bytes text.new
+        ≡ string_bytes text.old ++ (codes "," ++ decimal number)) }
     ensures part { OnErr result (Extends (string_bytes text.old) (string_bytes text.new)) }
 {
     append_text(text, ",")?;
@@ -42,7 +43,8 @@ pub fn append_next_number(text: &mut String, number: u64) -> Result<(), NoMemory
 /// `NoMemory` where memory was refused; the text may then have the comma.
 #[tactic(auto, using(grid_exact::proofs::Extending::extending))]
 pub fn append_next_word(text: &mut String, word: &str) -> Result<(), NoMemory>
-    ensures ok { OnOk result (string_bytes text.new ≡ string_bytes text.old ++ (codes "," ++ word.now)) }
+    ensures ok { OnOk result (string_bytes text.new
+        ≡ string_bytes text.old ++ (codes "," ++ word.now)) }
     ensures part { OnErr result (Extends (string_bytes text.old) (string_bytes text.new)) }
 {
     append_text(text, ",")?;

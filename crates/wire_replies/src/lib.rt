@@ -1,8 +1,8 @@
-//! The texts of replies: what accepted requests led to, refusals, lists of findings and their entries, cases, the rows of airfields, lists of
+//! The texts of replies: outcomes of accepted requests, refusals, lists of findings and their entries, cases, rows of airfields, lists of
 //! cases, and reports.
 //!
-//! Each function appends to a text. Where memory is refused, the text is the old one and maybe a part of what was to be appended, so that
-//! its owner can cut that part off again. No function appends more than six parts, as the proof of a longer chain is dear.
+//! Each function appends to a text. Where memory runs out, the text may hold a part of what was to be appended, and its owner can cut
+//! that part off again. No function appends more than six parts, as the proof of a longer chain is costly.
 //!
 //! Lengths, coordinates, elevations and excesses are whole tenths of a foot.
 #![tactic(auto)]

@@ -1,4 +1,4 @@
-//! The texts of what accepted requests led to. Each begins with a comma.
+//! The texts of outcomes. Each begins with a comma.
 
 ghost use Rattle.std.specs.Prelude.{◌≡◌, [], ◌∷◌, ◌++◌, OnOk, OnErr, codes, string_bytes};
 ghost use Rattle.std.specs.Fmt.{decimal};
@@ -21,16 +21,18 @@ use wire_values::{append_text, decision_word};
 // Appends a comma and a number of days late.
 #[tactic(auto, using(grid_exact::proofs::Extending::extending))]
 fn append_late(text: &mut String, days: u32) -> Result<(), NoMemory>
-    ensures ok { OnOk result (string_bytes text.new ≡ string_bytes text.old ++ (codes "," ++ spec.late_text days)) }
+    ensures ok { OnOk result (string_bytes text.new
+        ≡ string_bytes text.old ++ (codes "," ++ spec.late_text days)) }
     ensures part { OnErr result (Extends (string_bytes text.old) (string_bytes text.new)) }
 {
     append_text(text, ",late ")?;
     append_number(text, u64::from(days))
 }
 
-// Appends a comma and a number of days late, or `word` where that is none.
+// Appends a comma and a number of days late, or `word` where the number is 0.
 fn append_lateness(text: &mut String, word: &str, days: u32) -> Result<(), NoMemory>
-    ensures ok { OnOk result (string_bytes text.new ≡ string_bytes text.old ++ (codes "," ++ spec.lateness_text word.now days)) }
+    ensures ok { OnOk result (string_bytes text.new
+        ≡ string_bytes text.old ++ (codes "," ++ spec.lateness_text word.now days)) }
     ensures part { OnErr result (Extends (string_bytes text.old) (string_bytes text.new)) }
 {
     if days == 0 {
@@ -40,10 +42,11 @@ fn append_lateness(text: &mut String, word: &str, days: u32) -> Result<(), NoMem
     }
 }
 
-// Appends a comma, a word and a date, a space between.
+// Appends a comma, a word, a space and a date.
 #[tactic(auto, using(grid_exact::proofs::Extending::extending))]
 fn append_word_and_date(text: &mut String, word: &str, date: Date) -> Result<(), NoMemory>
-    ensures ok { OnOk result (string_bytes text.new ≡ string_bytes text.old ++ (codes "," ++ word.now ++ codes " " ++ date_word date)) }
+    ensures ok { OnOk result (string_bytes text.new
+        ≡ string_bytes text.old ++ (codes "," ++ word.now ++ codes " " ++ date_word date)) }
     ensures part { OnErr result (Extends (string_bytes text.old) (string_bytes text.new)) }
 {
     append_next_word(text, word)?;
@@ -53,7 +56,8 @@ fn append_word_and_date(text: &mut String, word: &str, date: Date) -> Result<(),
 
 // Appends whether a notice is in time.
 fn append_timeliness(text: &mut String, timely: Timeliness) -> Result<(), NoMemory>
-    ensures ok { OnOk result (string_bytes text.new ≡ string_bytes text.old ++ (codes "," ++ spec.timeliness_text timely)) }
+    ensures ok { OnOk result (string_bytes text.new
+        ≡ string_bytes text.old ++ (codes "," ++ spec.timeliness_text timely)) }
     ensures part { OnErr result (Extends (string_bytes text.old) (string_bytes text.new)) }
 {
     match timely {
@@ -63,9 +67,10 @@ fn append_timeliness(text: &mut String, timely: Timeliness) -> Result<(), NoMemo
     }
 }
 
-// Appends how a notice stands to the application to the FCC.
+// Appends whether a notice is in time before the application to the FCC.
 fn append_fcc(text: &mut String, fcc: Option<u32>) -> Result<(), NoMemory>
-    ensures ok { OnOk result (string_bytes text.new ≡ string_bytes text.old ++ (codes "," ++ spec.fcc_text fcc)) }
+    ensures ok { OnOk result (string_bytes text.new
+        ≡ string_bytes text.old ++ (codes "," ++ spec.fcc_text fcc)) }
     ensures part { OnErr result (Extends (string_bytes text.old) (string_bytes text.new)) }
 {
     match fcc {
@@ -87,14 +92,15 @@ fn presumption_word(explained: Option<bool>) -> &'static str
 // Appends a form and its case, a comma before each.
 #[tactic(auto, using(grid_exact::proofs::Extending::extending))]
 fn append_head(text: &mut String, form: &str, case: u32) -> Result<(), NoMemory>
-    ensures ok { OnOk result (string_bytes text.new ≡ string_bytes text.old ++ with_commas (form.now ∷ decimal case ∷ [])) }
+    ensures ok { OnOk result (string_bytes text.new
+        ≡ string_bytes text.old ++ with_commas (form.now ∷ decimal case ∷ [])) }
     ensures part { OnErr result (Extends (string_bytes text.old) (string_bytes text.new)) }
 {
     append_next_word(text, form)?;
     append_next_number(text, u64::from(case))
 }
 
-// Appends that a notice opened a case.
+// Appends the outcome of a notice that opened a case.
 #[tactic(auto, using(grid_exact::proofs::Extending::extending))]
 fn append_filed(
     text: &mut String,
@@ -103,7 +109,8 @@ fn append_filed(
     fcc: Option<u32>,
     explained: Option<bool>,
 ) -> Result<(), NoMemory>
-    ensures ok { OnOk result (string_bytes text.new ≡ string_bytes text.old ++ (codes "," ++ spec.filed_text case timely fcc explained)) }
+    ensures ok { OnOk result (string_bytes text.new
+        ≡ string_bytes text.old ++ (codes "," ++ spec.filed_text case timely fcc explained)) }
     ensures part { OnErr result (Extends (string_bytes text.old) (string_bytes text.new)) }
 {
     append_head(text, "case", case)?;
@@ -112,17 +119,18 @@ fn append_filed(
     append_next_word(text, presumption_word(explained))
 }
 
-// Appends that a form came.
+// Appends the outcome of a received form.
 #[tactic(auto, using(grid_exact::proofs::Extending::extending))]
 fn append_form(text: &mut String, case: u32, late: u32) -> Result<(), NoMemory>
-    ensures ok { OnOk result (string_bytes text.new ≡ string_bytes text.old ++ (codes "," ++ spec.form_text case late)) }
+    ensures ok { OnOk result (string_bytes text.new
+        ≡ string_bytes text.old ++ (codes "," ++ spec.form_text case late)) }
     ensures part { OnErr result (Extends (string_bytes text.old) (string_bytes text.new)) }
 {
     append_head(text, "form", case)?;
     append_lateness(text, "intime", late)
 }
 
-// Appends the decision of a determination, over what it was made and when.
+// Appends the decision of a determination, the entry number of its register, and its day of issuance.
 #[tactic(auto, using(grid_exact::proofs::Extending::extending))]
 fn append_issued(
     text: &mut String,
@@ -130,7 +138,9 @@ fn append_issued(
     last: u64,
     issued: Date,
 ) -> Result<(), NoMemory>
-    ensures ok { OnOk result (string_bytes text.new ≡ string_bytes text.old ++ with_commas (decided_word decision ∷ decimal last ∷ date_word issued ∷ [])) }
+    ensures ok { OnOk result (string_bytes text.new
+        ≡ string_bytes text.old ++ with_commas
+        (decided_word decision ∷ decimal last ∷ date_word issued ∷ [])) }
     ensures part { OnErr result (Extends (string_bytes text.old) (string_bytes text.new)) }
 {
     append_next_word(text, decision_word(decision))?;
@@ -146,7 +156,9 @@ fn append_days(
     effective: Option<Date>,
     expiry: Option<Date>,
 ) -> Result<(), NoMemory>
-    ensures ok { OnOk result (string_bytes text.new ≡ string_bytes text.old ++ with_commas (day_text deadline ∷ day_text effective ∷ day_text expiry ∷ [])) }
+    ensures ok { OnOk result (string_bytes text.new
+        ≡ string_bytes text.old ++ with_commas
+        (day_text deadline ∷ day_text effective ∷ day_text expiry ∷ [])) }
     ensures part { OnErr result (Extends (string_bytes text.old) (string_bytes text.new)) }
 {
     append_next_day(text, deadline)?;
@@ -166,7 +178,7 @@ fn disposal_day(affirmed: bool, day: Option<Date>) -> Option<Date>
     if affirmed { day } else { None }
 }
 
-// Appends that a petition was decided.
+// Appends the outcome of a decided petition.
 #[tactic(auto, using(grid_exact::proofs::Extending::extending))]
 fn append_disposed(
     text: &mut String,
@@ -175,7 +187,9 @@ fn append_disposed(
     effective: Option<Date>,
     expiry: Option<Date>,
 ) -> Result<(), NoMemory>
-    ensures ok { OnOk result (string_bytes text.new ≡ string_bytes text.old ++ (codes "," ++ spec.disposed_text case affirmed effective expiry)) }
+    ensures ok { OnOk result (string_bytes text.new
+        ≡ string_bytes text.old ++
+        (codes "," ++ spec.disposed_text case affirmed effective expiry)) }
     ensures part { OnErr result (Extends (string_bytes text.old) (string_bytes text.new)) }
 {
     append_head(text, "dispose", case)?;
@@ -184,7 +198,7 @@ fn append_disposed(
     append_next_day(text, disposal_day(affirmed, expiry))
 }
 
-// Appends that an expiry was extended.
+// Appends the outcome of an extension.
 #[tactic(auto, using(grid_exact::proofs::Extending::extending))]
 fn append_extended(
     text: &mut String,
@@ -192,7 +206,8 @@ fn append_extended(
     expiry: Date,
     last_day: Date,
 ) -> Result<(), NoMemory>
-    ensures ok { OnOk result (string_bytes text.new ≡ string_bytes text.old ++ (codes "," ++ spec.extended_text case expiry last_day)) }
+    ensures ok { OnOk result (string_bytes text.new
+        ≡ string_bytes text.old ++ (codes "," ++ spec.extended_text case expiry last_day)) }
     ensures part { OnErr result (Extends (string_bytes text.old) (string_bytes text.new)) }
 {
     append_head(text, "extend", case)?;
@@ -200,24 +215,26 @@ fn append_extended(
     append_next_date(text, last_day)
 }
 
-// Appends that the expiry follows what the FCC did.
+// Appends the expiry that was set by the FCC's decision.
 #[tactic(auto, using(grid_exact::proofs::Extending::extending))]
 fn append_fcc_act(text: &mut String, case: u32, expiry: Date) -> Result<(), NoMemory>
-    ensures ok { OnOk result (string_bytes text.new ≡ string_bytes text.old ++ (codes "," ++ spec.fcc_act_text case expiry)) }
+    ensures ok { OnOk result (string_bytes text.new
+        ≡ string_bytes text.old ++ (codes "," ++ spec.fcc_act_text case expiry)) }
     ensures part { OnErr result (Extends (string_bytes text.old) (string_bytes text.new)) }
 {
     append_head(text, "fcc", case)?;
     append_next_date(text, expiry)
 }
 
-/// Appends what an accepted request led to, a comma before it.
+/// Appends the outcome of an accepted request, with a comma before it.
 ///
 /// # Errors
 ///
 /// `NoMemory` where memory was refused; the text may then have a part of it.
 #[tactic(auto, using(grid_exact::proofs::Extending::extending))]
 pub fn append_outcome(text: &mut String, outcome: &Outcome) -> Result<(), NoMemory>
-    ensures ok { OnOk result (string_bytes text.new ≡ string_bytes text.old ++ (codes "," ++ spec.outcome_text outcome.now)) }
+    ensures ok { OnOk result (string_bytes text.new
+        ≡ string_bytes text.old ++ (codes "," ++ spec.outcome_text outcome.now)) }
     ensures part { OnErr result (Extends (string_bytes text.old) (string_bytes text.new)) }
 {
     match outcome {

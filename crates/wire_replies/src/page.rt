@@ -1,4 +1,4 @@
-//! A page on which the entries of a list are gathered, so that a text grows once for a page and not once for each part of an entry.
+//! A fixed buffer that gathers the entries of a list, so that a text grows once for a page and not once for each part of an entry.
 
 ghost use Rattle.std.specs.Prelude.{◌≡◌, ◌+◌, ◌/◌, ◌%◌, ◌<◌, ◌≤◌, ◌++◌, true, [], ◌∷◌, length, take, drop, OnOk, OnErr, string_bytes};
 ghost use Rattle.std.specs.Fmt.{decimal};
@@ -13,14 +13,14 @@ use itoa::Buffer;
 use std::marker::Model;
 use wire_values::append_text;
 
-// How many bytes a page has.
+// The size of a page in bytes.
 pub(crate) const SIZE: usize = 512;
 
-// How many bytes of it the parts of one entry may take.
+// The greatest size of one entry in bytes.
 pub(crate) const ROOM: usize = 128;
 
-// Some bytes of text, at the front of their room. What puts a part reads how many there are once, before it writes: as the part could be
-// written over their number for all that a compiler knows, they would be read again after it.
+// Bytes of text at the front of a fixed buffer. A function that puts a part reads the length once, before it writes: for all that
+// the compiler knows the write could change the length, which would then be read again.
 #[derive(Drop)]
 pub(crate) struct Page {
     bytes: [u8; SIZE],
@@ -39,7 +39,7 @@ impl Model for Page {
     ghost invariant = { λ p. (p.len ≤ SIZE) × IsUtf8 (take p.len p.bytes) };
 }
 
-// The two digits of each number below 100, one number behind the other.
+// The two digits of each number below 100, one after the other.
 static PAIRS: [u8; 200] =
     *b"00010203040506070809101112131415161718192021222324252627282930313233343536373839404142434445464748495051525354555657585960616263646566676869707172737475767778798081828384858687888990919293949596979899";
 
@@ -54,8 +54,8 @@ fn pair_digits(number: u64) -> (u8, u8)
     (PAIRS[at], PAIRS[at + 1])
 }
 
-// Four bytes of a text from a place on. They are held on their own, since a copy from one slice into another asks whether the two
-// overlap.
+// Four bytes of a text from an index on. They are copied through a local array, since a copy from one slice into another tests
+// whether the two overlap.
 #[inline(always)]
 fn four_bytes(text: &[u8], from: usize) -> [u8; 4]
     requires { from + 4 ≤ length text.now }
@@ -99,7 +99,7 @@ impl Page {
         self.len = at + 1;
     }
 
-    // Puts a word of `len` bytes, which is copied as one number of eight, whatever its length is.
+    // Puts a word of `len` bytes. All eight bytes are copied as one number, whatever the length.
     #[inline(always)]
     pub(crate) fn put_piece(&mut self, word: [u8; 8], len: usize)
         requires room { length self.old + 8 ≤ SIZE }
@@ -113,7 +113,7 @@ impl Page {
         self.len = at + len;
     }
 
-    // Puts a text of four to eight bytes: its first four, and its last four, which may be some of the first.
+    // Puts a text of four to eight bytes: its first four and its last four, which may overlap.
     #[inline(always)]
     fn put_two_parts(&mut self, part: &str)
         requires room { length self.old + 8 ≤ SIZE }
@@ -247,7 +247,7 @@ impl Page {
         }
     }
 
-    // Appends what is on the page to `text` and empties it.
+    // Appends the page to `text` and empties it.
     #[tactic(auto, using(grid_exact::proofs::Extending::extending))]
     pub(crate) fn flush(&mut self, text: &mut String) -> Result<(), NoMemory>
         ensures ok { OnOk result (string_bytes text.new ≡ string_bytes text.old ++ self.old) }
@@ -262,11 +262,12 @@ impl Page {
         Ok(())
     }
 
-    // Makes room for one entry.
+    // Appends the page to `text` where it has no room for one more entry.
     #[tactic(auto, using(grid_exact::proofs::Extending::extending))]
     #[inline(always)]
     pub(crate) fn make_room(&mut self, text: &mut String) -> Result<(), NoMemory>
-        ensures ok { OnOk result (string_bytes text.new ++ self.new ≡ string_bytes text.old ++ self.old) }
+        ensures ok { OnOk result (string_bytes text.new ++ self.new
+            ≡ string_bytes text.old ++ self.old) }
         ensures grown { Extends (string_bytes text.old) (string_bytes text.new) }
         ensures room { OnOk result (length self.new + ROOM ≤ SIZE) }
     {

@@ -94,17 +94,19 @@ fn refusal_name(refusal: &Refusal) -> &'static str
 // Appends two dates, a comma before each.
 #[tactic(auto, using(grid_exact::proofs::Extending::extending))]
 fn append_days(text: &mut String, first: Date, second: Date) -> Result<(), NoMemory>
-    ensures ok { OnOk result (string_bytes text.new ≡ string_bytes text.old ++ with_commas (date_word first ∷ date_word second ∷ [])) }
+    ensures ok { OnOk result (string_bytes text.new
+        ≡ string_bytes text.old ++ with_commas (date_word first ∷ date_word second ∷ [])) }
     ensures part { OnErr result (Extends (string_bytes text.old) (string_bytes text.new)) }
 {
     append_next_date(text, first)?;
     append_next_date(text, second)
 }
 
-// Appends what a refusal says besides its name.
+// Appends the values of a refusal, after its name.
 #[tactic(auto, using(grid_exact::proofs::Extending::extending))]
 fn append_values(text: &mut String, refusal: &Refusal) -> Result<(), NoMemory>
-    ensures ok { OnOk result (string_bytes text.new ≡ string_bytes text.old ++ spec.refusal_values refusal.now) }
+    ensures ok { OnOk result (string_bytes text.new
+        ≡ string_bytes text.old ++ spec.refusal_values refusal.now) }
     ensures part { OnErr result (Extends (string_bytes text.old) (string_bytes text.new)) }
 {
     match refusal {
@@ -121,7 +123,8 @@ fn append_values(text: &mut String, refusal: &Refusal) -> Result<(), NoMemory>
 // Appends the reply of a refusal.
 #[tactic(auto, using(grid_exact::proofs::Extending::extending))]
 pub(crate) fn append_refused(text: &mut String, refusal: &Refusal) -> Result<(), NoMemory>
-    ensures ok { OnOk result (string_bytes text.new ≡ string_bytes text.old ++ refused_text refusal.now) }
+    ensures ok { OnOk result (string_bytes text.new
+        ≡ string_bytes text.old ++ refused_text refusal.now) }
     ensures part { OnErr result (Extends (string_bytes text.old) (string_bytes text.new)) }
 {
     append_text(text, "no")?;

@@ -13,9 +13,9 @@ use crate::refusals::append_refused;
 use crate::reply::Reply;
 use crate::review::append_review;
 use crate::rows::append_row;
-use airfield_findings::{Finding, Verdict};
 use airfields::Airfield;
 use case_records::Outcome;
+use finding_lists::{Finding, Verdict};
 use grid_exact::{NoMemory, Text};
 use std::alloc::Global;
 use wire_values::append_text;
@@ -40,7 +40,8 @@ fn append_accepted(
     published: bool,
     outcome: &Outcome,
 ) -> Result<(), NoMemory>
-    ensures ok { OnOk result (string_bytes text.new ≡ string_bytes text.old ++ spec.accepted_text entry published outcome.now) }
+    ensures ok { OnOk result (string_bytes text.new
+        ≡ string_bytes text.old ++ spec.accepted_text entry published outcome.now) }
     ensures part { OnErr result (Extends (string_bytes text.old) (string_bytes text.new)) }
 {
     append_text(text, "ok,")?;
@@ -50,14 +51,15 @@ fn append_accepted(
     append_text(text, "\n")
 }
 
-/// Appends the reply of a list of findings over the register after its entry of number `last`, with the line feed that ends it.
+/// Appends the reply of a list of findings, with the line feed that ends it. `last` is the number of the last accepted change.
 ///
 /// # Errors
 ///
 /// `NoMemory` where memory was refused; the text may then have a part of the reply.
 #[tactic(auto, using(grid_exact::proofs::Extending::extending))]
 pub fn append_found(text: &mut String, last: u64, list: &[Finding]) -> Result<(), NoMemory>
-    ensures ok { OnOk result (string_bytes text.new ≡ string_bytes text.old ++ spec.found_text last list.now) }
+    ensures ok { OnOk result (string_bytes text.new
+        ≡ string_bytes text.old ++ spec.found_text last list.now) }
     ensures part { OnErr result (Extends (string_bytes text.old) (string_bytes text.new)) }
 {
     append_text(text, "found,")?;
@@ -66,10 +68,11 @@ pub fn append_found(text: &mut String, last: u64, list: &[Finding]) -> Result<()
     append_text(text, "\n")
 }
 
-// Appends the reply of what findings come to.
+// Appends the reply of a verdict.
 #[tactic(auto, using(grid_exact::proofs::Extending::extending))]
 fn append_verdict(text: &mut String, last: u64, verdict: Verdict) -> Result<(), NoMemory>
-    ensures ok { OnOk result (string_bytes text.new ≡ string_bytes text.old ++ spec.verdict_text last verdict) }
+    ensures ok { OnOk result (string_bytes text.new
+        ≡ string_bytes text.old ++ spec.verdict_text last verdict) }
     ensures part { OnErr result (Extends (string_bytes text.old) (string_bytes text.new)) }
 {
     append_text(text, "verdict,")?;
@@ -80,14 +83,15 @@ fn append_verdict(text: &mut String, last: u64, verdict: Verdict) -> Result<(), 
     append_text(text, "\n")
 }
 
-/// Appends the reply that tells an airfield by its row, with the line feed that ends it.
+/// Appends the reply that shows the row of an airfield, with the line feed that ends it.
 ///
 /// # Errors
 ///
 /// `NoMemory` where memory was refused; the text may then have a part of the reply.
 #[tactic(auto, using(grid_exact::proofs::Extending::extending))]
 pub fn append_airfield(text: &mut String, airfield: &Airfield) -> Result<(), NoMemory>
-    ensures ok { OnOk result (string_bytes text.new ≡ string_bytes text.old ++ spec.row_text (airfield_row airfield.now)) }
+    ensures ok { OnOk result (string_bytes text.new
+        ≡ string_bytes text.old ++ spec.row_text (airfield_row airfield.now)) }
     ensures part { OnErr result (Extends (string_bytes text.old) (string_bytes text.new)) }
 {
     append_text(text, "airfield,")?;
@@ -98,7 +102,8 @@ pub fn append_airfield(text: &mut String, airfield: &Airfield) -> Result<(), NoM
 // Appends the reply of a row.
 #[tactic(auto, using(grid_exact::proofs::Extending::extending))]
 fn append_row_text(text: &mut String, row: &str) -> Result<(), NoMemory>
-    ensures ok { OnOk result (string_bytes text.new ≡ string_bytes text.old ++ spec.row_text row.now) }
+    ensures ok { OnOk result (string_bytes text.new
+        ≡ string_bytes text.old ++ spec.row_text row.now) }
     ensures part { OnErr result (Extends (string_bytes text.old) (string_bytes text.new)) }
 {
     append_text(text, "airfield")?;
@@ -112,7 +117,8 @@ fn append_row_text(text: &mut String, row: &str) -> Result<(), NoMemory>
 ///
 /// `NoMemory` where memory was refused; the text may then have a part of the reply.
 pub fn append_reply(text: &mut String, reply: &Reply) -> Result<(), NoMemory>
-    ensures ok { OnOk result (string_bytes text.new ≡ string_bytes text.old ++ spec.reply_text reply.now) }
+    ensures ok { OnOk result (string_bytes text.new
+        ≡ string_bytes text.old ++ spec.reply_text reply.now) }
     ensures part { OnErr result (Extends (string_bytes text.old) (string_bytes text.new)) }
 {
     match reply {

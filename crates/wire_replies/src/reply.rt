@@ -1,36 +1,36 @@
 //! Replies.
 
-use airfield_findings::{Findings, Verdict};
 use case_records::{CaseList, CaseView, Outcome, Refusal};
+use finding_lists::{Findings, Verdict};
 use grid_exact::Text;
 
 /// The answer to a request.
 #[derive(Drop)]
 pub enum Reply {
-    /// The request is entry `entry` of the desk; `published` tells whether every session sees it.
+    /// The request is entry `entry` of the desk; `published` says whether every session sees it.
     Accepted {
         entry: u64,
         published: bool,
         outcome: Outcome,
     },
-    /// The request changed nothing.
+    /// The request was refused and changed nothing.
     Refused(Refusal),
-    /// The findings over the register after its entry of number `last`.
+    /// The list of findings; `last` is the number of the last accepted change.
     Found {
         last: u64,
         list: Findings,
     },
-    /// What the findings over the register after its entry of number `last` come to.
+    /// The verdict on a list of findings; `last` is the number of the last accepted change.
     Verdict {
         last: u64,
         verdict: Verdict,
     },
-    /// How a case stands.
+    /// The status of a case.
     Case(CaseView),
-    /// An airfield of the register, told by its row.
+    /// The row of an airfield.
     Airfield(Text),
     /// The cases that are marked for review.
     Review(CaseList),
-    /// The table of a report: each of its lines with the line feed that ends it.
+    /// The table of a report, with a line feed after each of its lines.
     Report(Text),
 }

@@ -13,7 +13,8 @@ use wire_values::append_text;
 // Appends the number of each case, a comma before it.
 #[tactic(auto, using(grid_exact::proofs::Extending::extending))]
 fn append_cases(text: &mut String, cases: &[u32]) -> Result<(), NoMemory>
-    ensures ok { OnOk result (string_bytes text.new ≡ string_bytes text.old ++ with_commas (map decimal cases.now)) }
+    ensures ok { OnOk result (string_bytes text.new
+        ≡ string_bytes text.old ++ with_commas (map decimal cases.now)) }
     ensures part { OnErr result (Extends (string_bytes text.old) (string_bytes text.new)) }
 {
     for case in cases {
@@ -25,7 +26,8 @@ fn append_cases(text: &mut String, cases: &[u32]) -> Result<(), NoMemory>
 // Appends the reply of the cases that are marked for review.
 #[tactic(auto, using(grid_exact::proofs::Extending::extending))]
 pub(crate) fn append_review(text: &mut String, cases: &[u32]) -> Result<(), NoMemory>
-    ensures ok { OnOk result (string_bytes text.new ≡ string_bytes text.old ++ review_text cases.now) }
+    ensures ok { OnOk result (string_bytes text.new
+        ≡ string_bytes text.old ++ review_text cases.now) }
     ensures part { OnErr result (Extends (string_bytes text.old) (string_bytes text.new)) }
 {
     append_text(text, "review,")?;

@@ -22,7 +22,8 @@ fn append_point(text: &mut String, at: &Point) -> Result<(), NoMemory>
 // Appends the axis of a heliport, a comma before each coordinate.
 #[tactic(auto, using(grid_exact::proofs::Extending::extending))]
 fn append_axis(text: &mut String, heliport: &Heliport) -> Result<(), NoMemory>
-    ensures ok { OnOk result (string_bytes text.new ≡ string_bytes text.old ++ point_text heliport.now.a ++ point_text heliport.now.b) }
+    ensures ok { OnOk result (string_bytes text.new
+        ≡ string_bytes text.old ++ point_text heliport.now.a ++ point_text heliport.now.b) }
     ensures part { OnErr result (Extends (string_bytes text.old) (string_bytes text.new)) }
 {
     append_point(text, &heliport.a)?;
@@ -32,7 +33,8 @@ fn append_axis(text: &mut String, heliport: &Heliport) -> Result<(), NoMemory>
 // Appends the row of an airport.
 #[tactic(auto, using(grid_exact::proofs::Extending::extending))]
 fn append_airport(text: &mut String, airport: &Airport) -> Result<(), NoMemory>
-    ensures ok { OnOk result (string_bytes text.new ≡ string_bytes text.old ++ joined (airport_fields airport.now)) }
+    ensures ok { OnOk result (string_bytes text.new
+        ≡ string_bytes text.old ++ joined (airport_fields airport.now)) }
     ensures part { OnErr result (Extends (string_bytes text.old) (string_bytes text.new)) }
 {
     append_text(text, "airport")?;
@@ -47,7 +49,8 @@ fn append_airport(text: &mut String, airport: &Airport) -> Result<(), NoMemory>
 // Appends the row of a heliport.
 #[tactic(auto, using(grid_exact::proofs::Extending::extending))]
 fn append_heliport(text: &mut String, heliport: &Heliport) -> Result<(), NoMemory>
-    ensures ok { OnOk result (string_bytes text.new ≡ string_bytes text.old ++ joined (heliport_fields heliport.now)) }
+    ensures ok { OnOk result (string_bytes text.new
+        ≡ string_bytes text.old ++ joined (heliport_fields heliport.now)) }
     ensures part { OnErr result (Extends (string_bytes text.old) (string_bytes text.new)) }
 {
     append_text(text, "heliport")?;
@@ -65,7 +68,8 @@ fn append_heliport(text: &mut String, heliport: &Heliport) -> Result<(), NoMemor
 
 // Appends the row of an airfield.
 pub(crate) fn append_row(text: &mut String, airfield: &Airfield) -> Result<(), NoMemory>
-    ensures ok { OnOk result (string_bytes text.new ≡ string_bytes text.old ++ airfield_row airfield.now) }
+    ensures ok { OnOk result (string_bytes text.new
+        ≡ string_bytes text.old ++ airfield_row airfield.now) }
     ensures part { OnErr result (Extends (string_bytes text.old) (string_bytes text.new)) }
 {
     match airfield {

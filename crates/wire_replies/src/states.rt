@@ -1,4 +1,4 @@
-//! The words for how cases stand.
+//! The words for statuses.
 
 ghost use Rattle.std.specs.Prelude.{◌≡◌};
 ghost use Rattle.wire_replies.specs.States as spec;

@@ -1,6 +1,6 @@
 -- A change that is read has a record, and the fields are its spelling.
 use Rattle.std.proofs.Common.{◌≡◌, ℕ, List, [], ◌∷◌, refl, ap, sym, subst, ◌∙◌}
-use Rattle.case_values.specs.declared.act.Act.{Act}
+use Rattle.case_requests.specs.declared.act.Act.{Act}
 use Rattle.wire_values.specs.Wanted.{WordWanted}
 use Rattle.wire_cursor.specs.Shape.{Place, HasShape, Took}
 use Rattle.wire_cursor.proofs.ShapeFacts.{all_took}

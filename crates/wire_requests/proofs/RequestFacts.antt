@@ -2,8 +2,8 @@
 use Rattle.std.proofs.Common.{arith, ℕ, ◌≡◌, List, [], ◌∷◌, refl, ap, sym, subst, ◌∙◌}
 use Rattle.std.specs.Prelude.{is_some}
 use Rattle.airport_register.specs.declared.amendment.Amendment.TheVariants.{PutAirport, PutRunway, DropRunway, PutHeliport, Drop}
-use Rattle.case_values.specs.declared.act.Act.{Act}
-use Rattle.case_values.specs.declared.act.Act.TheVariants as acts
+use Rattle.case_requests.specs.declared.act.Act.{Act}
+use Rattle.case_requests.specs.declared.act.Act.TheVariants as acts
 use Rattle.wire_values.specs.Words.{weight_word, pavement_word, urgency_word, statement_word, disposal_word, progress_word, warrant_word, grant_word}
 use Rattle.wire_values.specs.Wanted.{Choice, case_wanted, months_wanted, is_granted}
 use Rattle.wire_values.specs.Plainness.{IsShortField, IsUsual}

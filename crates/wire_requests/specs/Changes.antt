@@ -1,8 +1,8 @@
--- What a contract sees of a change.
+-- Changes as contracts see them.
 use Rattle.std.specs.Prelude.{ℕ, List}
-use Rattle.case_values.specs.declared.act.Act.{Act}
+use Rattle.case_requests.specs.declared.act.Act.{Act}
 
--- who asks, what the caller names the request by, and what is asked for
+-- the caller, the key and the content of a change
 pub record Asked : Type 0 where
   pub caller : List ℕ
   pub key : List ℕ

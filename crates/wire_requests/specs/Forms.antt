@@ -12,7 +12,7 @@ use Rattle.wire_requests.specs.declared.form.ActForm.TheVariants as act_forms
 use Rattle.wire_requests.specs.declared.form.Form.{Form}
 use Rattle.wire_requests.specs.declared.form.Form.TheVariants as forms
 
--- the first field of a form of changes
+-- the first field of a changing form
 abbrev pub act_word : ActForm → List ℕ
 act_word (act_forms.Plain plain) = plain_word plain
 act_word act_forms.File = codes "file"
@@ -34,7 +34,7 @@ form_word forms.Airfield = codes "airfield"
 form_word forms.Review = codes "review"
 form_word forms.Report = codes "report"
 
--- the fields after caller and key, of the forms whose accepted reply says no more
+-- the fields after caller and key, of forms whose accepted reply holds nothing but the form's name
 abbrev pub plain_shape : Plain → List Wanted
 plain_shape plains.Airport = FieldIdWanted ∷ CategoryWanted ∷ coordinate ∷ coordinate ∷ any_number ∷ []
 plain_shape plains.Runway = FieldIdWanted ∷ RunwayNameWanted ∷ Choice weight_word ∷ Choice pavement_word
@@ -46,7 +46,7 @@ plain_shape plains.Drop = FieldIdWanted ∷ []
 plain_shape plains.Day = DateWanted ∷ []
 plain_shape plains.Closed = DateWanted ∷ []
 
--- a notice: the start of work, the applications for a permit and to the FCC, its urgency and its statement, and the structure
+-- a notice: the start of work, the applications for a permit and to the FCC, whether it is an emergency, its statement, and the structure
 abbrev pub submission_shape : List Wanted
 submission_shape = DateWanted ∷ OptionalDateWanted ∷ OptionalDateWanted ∷ Choice urgency_word ∷ Choice statement_word ∷ site_shape
 
@@ -62,7 +62,7 @@ act_shape act_forms.Extend = case_wanted ∷ months_wanted ∷ Choice progress_w
 act_shape act_forms.Fcc = case_wanted ∷ Choice grant_word ∷ CompletionWanted ∷ []
 act_shape act_forms.Abandon = case_wanted ∷ []
 
--- the fields of each form after the first: those of a change are who asks, the key, and what the form tells
+-- the fields of each form after the first: for a change the caller, the key, and the fields of the form
 abbrev pub fields_of_form : Form → List Wanted
 fields_of_form (forms.Act form) = WordWanted ∷ WordWanted ∷ act_shape form
 fields_of_form forms.Screen = site_shape
@@ -82,7 +82,7 @@ BeginsWith word [] = ⊥
 BeginsWith word (first ∷ others) = first ≡ word
 
 -- the first field that no record with the same earlier fields has: the first where the fields begin with the word of no form,
--- else the first that the form does not want
+-- else the first that does not fit the form
 pub data FirstWrong (fields : List (List ℕ)) (n : ℕ) : Type 0 where
   NoForm : ((form : Form) → ¬ BeginsWith (form_word form) fields) → n ≡ 1 → FirstWrong fields n
   InForm : (form : Form) → BeginsWith (form_word form) fields → FirstBad (shape_of form) [] fields 1 n → FirstWrong fields n

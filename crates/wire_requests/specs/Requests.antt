@@ -28,7 +28,7 @@ abbrev pub IsValid : Request → Type 0
 IsValid (requests.Query query) = IsValidQuery query
 IsValid (requests.Change change) = IsValidAct change.act
 
--- a request that has a record: its values are within their limits, and each field is what its form wants there
+-- a request that has a record: its values are within their limits, and each field fits its form
 pub record IsGood (r : Request) : Type 0 where
   pub valid : IsValid r
   pub shape : HasShape (shape_of (form_of r)) [] (spelling r)
@@ -39,7 +39,7 @@ pub record IsRecord (line : List ℕ) (r : Request) : Type 0 where
   pub fields : one_record line ≡ Some (spelling r)
   pub good : IsGood r
 
--- the field at which a line leaves the forms, counted from 1, where it is the record of no request: 0 where the line is too long
+-- the first field that fits no form, counted from 1, where the line is the record of no request: 0 where the line is too long
 -- or not one record, and 1 for the empty line
 pub data IsMalformed (line : List ℕ) (field : ℕ) : Type 0 where
   Long : LINE_LIMIT < length line → field ≡ 0 → IsMalformed line field
@@ -47,7 +47,7 @@ pub data IsMalformed (line : List ℕ) (field : ℕ) : Type 0 where
   NotOne : length line ≤ LINE_LIMIT → line ≢ [] → one_record line ≡ None → field ≡ 0 → IsMalformed line field
   Wrong : length line ≤ LINE_LIMIT → (fields : List (List ℕ)) → one_record line ≡ Some fields → FirstWrong fields field → IsMalformed line field
 
--- a refusal names that field, or is want of memory
+-- a refusal gives that field, or says that memory ran out
 abbrev pub IsRefusal : List ℕ → ReadRefusal → Type 0
 IsRefusal line (refusals.Malformed field) = IsMalformed line field
 IsRefusal line refusals.NoMemory = Unit {0}

@@ -6,9 +6,9 @@ use Rattle.airfields.specs.declared.airfield.Heliport.{Heliport}
 use Rattle.airport_register.specs.declared.amendment.Amendment.{Amendment}
 use Rattle.airport_register.specs.declared.amendment.Amendment.TheVariants as amendments
 use Rattle.determination_dates.specs.Text.{date_text}
-use Rattle.case_values.specs.declared.act.Act.{Act}
-use Rattle.case_values.specs.declared.act.Act.TheVariants as acts
-use Rattle.case_values.specs.declared.submission.Submission.{Submission}
+use Rattle.case_requests.specs.declared.act.Act.{Act}
+use Rattle.case_requests.specs.declared.act.Act.TheVariants as acts
+use Rattle.case_requests.specs.declared.submission.Submission.{Submission}
 use Rattle.wire_values.specs.Words.{category_word, approach_word, weight_word, pavement_word, urgency_word, statement_word, disposal_word, progress_word, warrant_word, grant_word, impact_word, party_word, optional_date, report_word}
 use Rattle.wire_values.specs.declared.plain.Plain.{Plain}
 use Rattle.wire_values.specs.declared.plain.Plain.TheVariants as plains
@@ -83,7 +83,7 @@ act_form (acts.Extend n months started filed warranted) = act_forms.Extend
 act_form (acts.Fcc n completion) = act_forms.Fcc
 act_form (acts.Abandon n) = act_forms.Abandon
 
--- a change: its form, who asks, under which key, and the fields of what is asked for
+-- a change: its form, the caller, the key, and the fields of the content
 abbrev pub change_spelling : Asked → List (List ℕ)
 change_spelling c = act_word (act_form c.act) ∷ c.caller ∷ c.key ∷ act_fields c.act
 

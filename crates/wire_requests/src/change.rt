@@ -1,4 +1,4 @@
-//! Changes, after the word of their form.
+//! Reads changes, after the word of their form.
 
 ghost use Rattle.std.specs.Prelude.{◌≡◌, ◌+◌, IfOk, IfErr};
 ghost use Rattle.wire_cursor.specs.Shape.{Stops, IsBad};
@@ -12,14 +12,15 @@ use crate::filing::{file, form_came};
 use crate::form::ActForm;
 use crate::register::plain_act;
 use crate::request::{Change, Request};
-use case_values::Act;
+use case_requests::Act;
 use wire_cursor::{BadField, Cursor};
 
-/// A change, after the word of its form.
+/// Reads a change, after the word of its form.
 pub(crate) fn change(cursor: &mut Cursor<'_>, form: ActForm) -> Result<Request, BadField>
     requires { cursor.old.before ≡ act_word form }
     ensures read { IfOk result (λ r. IsReading (forms.Act form) r cursor.old) }
-    ensures bad { IfErr result (λ b. IsBad (fields_of_form (forms.Act form)) cursor.old (b.before + 1)) }
+    ensures bad { IfErr result (λ b. IsBad (fields_of_form (forms.Act form)) cursor.old
+        (b.before + 1)) }
 {
     let caller = cursor.take()?;
     let key = cursor.take()?;
@@ -28,7 +29,7 @@ pub(crate) fn change(cursor: &mut Cursor<'_>, form: ActForm) -> Result<Request, 
     Ok(Request::Change(Change { caller, key, act }))
 }
 
-// What a form tells after caller and key.
+// Reads the fields of an act after caller and key.
 fn act(cursor: &mut Cursor<'_>, form: ActForm) -> Result<Act, BadField>
     ensures took { IfOk result (λ a. TookAct form a cursor.old cursor.new) }
     ensures stops { IfErr result (λ b. Stops (act_shape form) cursor.old (b.before + 1)) }

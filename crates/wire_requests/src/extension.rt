@@ -1,4 +1,4 @@
-//! The forms by which a determination is extended, follows the FCC, or is given up.
+//! The forms that extend a determination, record the FCC's decision, or abandon a structure.
 
 ghost use Rattle.std.specs.Prelude.{◌+◌, IfOk, IfErr};
 ghost use Rattle.wire_cursor.specs.Shape.{Stops};
@@ -6,14 +6,15 @@ ghost use Rattle.wire_requests.specs.Forms.{act_shape};
 ghost use Rattle.wire_requests.specs.Readings.{TookAct};
 ghost use Rattle.wire_requests.specs.declared.form.ActForm.TheVariants as act_forms;
 
-use case_values::Act;
+use case_requests::Act;
 use wire_cursor::{BadField, Cursor};
 use wire_values::{CaseNumber, Grant, Months, Progress, Warrant};
 
-/// A request for an extension, after caller and key.
+/// Reads a request for an extension, after caller and key.
 pub(crate) fn extend(cursor: &mut Cursor<'_>) -> Result<Act, BadField>
     ensures took { IfOk result (λ a. TookAct act_forms.Extend a cursor.old cursor.new) }
-    ensures stops { IfErr result (λ b. Stops (act_shape act_forms.Extend) cursor.old (b.before + 1)) }
+    ensures stops { IfErr result (λ b. Stops (act_shape act_forms.Extend) cursor.old
+        (b.before + 1)) }
 {
     let case: CaseNumber = cursor.take()?;
     let months: Months = cursor.take()?;
@@ -29,7 +30,7 @@ pub(crate) fn extend(cursor: &mut Cursor<'_>) -> Result<Act, BadField>
     })
 }
 
-/// What the FCC decides, after caller and key.
+/// Reads the FCC's decision, after caller and key.
 pub(crate) fn fcc(cursor: &mut Cursor<'_>) -> Result<Act, BadField>
     ensures took { IfOk result (λ a. TookAct act_forms.Fcc a cursor.old cursor.new) }
     ensures stops { IfErr result (λ b. Stops (act_shape act_forms.Fcc) cursor.old (b.before + 1)) }
@@ -43,10 +44,11 @@ pub(crate) fn fcc(cursor: &mut Cursor<'_>) -> Result<Act, BadField>
     })
 }
 
-/// That a structure is given up, after caller and key.
+/// Reads that a structure is abandoned, after caller and key.
 pub(crate) fn abandon(cursor: &mut Cursor<'_>) -> Result<Act, BadField>
     ensures took { IfOk result (λ a. TookAct act_forms.Abandon a cursor.old cursor.new) }
-    ensures stops { IfErr result (λ b. Stops (act_shape act_forms.Abandon) cursor.old (b.before + 1)) }
+    ensures stops { IfErr result (λ b. Stops (act_shape act_forms.Abandon) cursor.old
+        (b.before + 1)) }
 {
     let case: CaseNumber = cursor.take()?;
     Ok(Act::Abandon(case.number))

@@ -1,4 +1,4 @@
-//! The forms by which notices come.
+//! The forms for notices.
 
 ghost use Rattle.std.specs.Prelude.{◌+◌, IfOk, IfErr};
 ghost use Rattle.wire_cursor.specs.Shape.{Stops};
@@ -6,11 +6,11 @@ ghost use Rattle.wire_requests.specs.Forms.{act_shape};
 ghost use Rattle.wire_requests.specs.Readings.{TookAct};
 ghost use Rattle.wire_requests.specs.declared.form.ActForm.TheVariants as act_forms;
 
-use case_values::{Act, Submission};
+use case_requests::{Act, Submission};
 use wire_cursor::{BadField, Cursor, structure};
 use wire_values::{CaseNumber, Statement, Urgency};
 
-/// A notice, after caller and key.
+/// Reads a notice, after caller and key.
 pub(crate) fn file(cursor: &mut Cursor<'_>) -> Result<Act, BadField>
     ensures took { IfOk result (λ a. TookAct act_forms.File a cursor.old cursor.new) }
     ensures stops { IfErr result (λ b. Stops (act_shape act_forms.File) cursor.old (b.before + 1)) }
@@ -31,7 +31,7 @@ pub(crate) fn file(cursor: &mut Cursor<'_>) -> Result<Act, BadField>
     }))
 }
 
-/// The form of an emergency's notice, after caller and key.
+/// Reads the form of an emergency notice, after caller and key.
 pub(crate) fn form_came(cursor: &mut Cursor<'_>) -> Result<Act, BadField>
     ensures took { IfOk result (λ a. TookAct act_forms.Form a cursor.old cursor.new) }
     ensures stops { IfErr result (λ b. Stops (act_shape act_forms.Form) cursor.old (b.before + 1)) }

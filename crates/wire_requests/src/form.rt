@@ -12,11 +12,11 @@ use wire_values::Plain;
 /// A form of changing records, chosen by the first field.
 #[derive(Clone, Copy)]
 pub enum ActForm {
-    /// A change whose accepted reply says no more than its form.
+    /// A change whose accepted reply holds nothing but the form's name.
     Plain(Plain),
     /// A notice, which opens a case.
     File,
-    /// The form of an emergency's notice.
+    /// The form of an emergency notice.
     Form,
     /// A determination.
     Determine,
@@ -26,9 +26,9 @@ pub enum ActForm {
     Dispose,
     /// A request for an extension.
     Extend,
-    /// What the FCC decides.
+    /// The FCC's decision on a construction permit.
     Fcc,
-    /// That a structure is given up.
+    /// A structure is abandoned.
     Abandon,
 }
 
@@ -39,9 +39,9 @@ pub enum Form {
     Act(ActForm),
     /// The list of findings of a structure.
     Screen,
-    /// What the list of findings of a structure comes to.
+    /// The verdict on a structure's findings.
     Verdict,
-    /// How a case stands.
+    /// The status of a case.
     Case,
     /// The row of an airfield.
     Airfield,
@@ -51,7 +51,7 @@ pub enum Form {
     Report,
 }
 
-// The form of a word.
+// Finds the form with this word.
 #[tactic(auto, using(crate::proofs::FormFacts::no_form))]
 fn form_of(word: &[u8]) -> Option<Form>
     ensures some { IfSome result (λ form. word.now ≡ form_word form) }
@@ -83,11 +83,13 @@ fn form_of(word: &[u8]) -> Option<Form>
     }
 }
 
-/// The form that the first field names, which is then taken.
+/// Takes the first field and finds the form that it names.
 pub(crate) fn named_form(cursor: &mut Cursor<'_>) -> Option<Form>
-    ensures took { IfSome result (λ form. Took (Spelled (form_word form) ∷ []) (form_word form ∷ []) cursor.old cursor.new) }
+    ensures took { IfSome result (λ form. Took (Spelled (form_word form) ∷ [])
+        (form_word form ∷ []) cursor.old cursor.new) }
     ensures before { IfSome result (λ form. cursor.new.before ≡ form_word form) }
-    ensures none { IfNone result ((form : SomeForm) → ¬ BeginsWith (form_word form) cursor.old.rest) }
+    ensures none { IfNone result ((form : SomeForm)
+        → ¬ BeginsWith (form_word form) cursor.old.rest) }
 {
     let word = cursor.next()?;
     form_of(word)

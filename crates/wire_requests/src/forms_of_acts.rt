@@ -6,10 +6,10 @@ ghost use Rattle.wire_requests.specs.Spellings.{plain_of, act_form};
 
 use crate::form::ActForm;
 use airport_register::Amendment;
-use case_values::Act;
+use case_requests::Act;
 use wire_values::Plain;
 
-/// The form by which a record tells the amendment.
+/// The form of an amendment's record.
 pub fn plain_of(amendment: &Amendment) -> Plain
     ensures { result ≡ plain_of amendment.now }
 {
@@ -22,7 +22,7 @@ pub fn plain_of(amendment: &Amendment) -> Plain
     }
 }
 
-/// The form by which a record tells the act.
+/// The form of an act's record.
 pub fn act_form(act: &Act) -> ActForm
     ensures { result ≡ act_form act.now }
 {

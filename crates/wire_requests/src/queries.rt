@@ -1,4 +1,4 @@
-//! The forms that ask about a structure, a case or an airfield, and for reports.
+//! The query forms: on a structure, a case or an airfield, and for reports.
 
 ghost use Rattle.std.specs.Prelude.{◌≡◌, ◌+◌, IfOk, IfErr};
 ghost use Rattle.wire_cursor.specs.Shape.{IsBad};
@@ -10,29 +10,31 @@ use crate::request::{Query, Request};
 use wire_cursor::{BadField, Cursor, structure};
 use wire_values::CaseNumber;
 
-/// A screening, after its word.
+/// Reads a screening, after its word.
 pub(crate) fn screen(cursor: &mut Cursor<'_>) -> Result<Request, BadField>
     requires { cursor.old.before ≡ form_word forms.Screen }
     ensures read { IfOk result (λ r. IsReading forms.Screen r cursor.old) }
-    ensures bad { IfErr result (λ b. IsBad (fields_of_form forms.Screen) cursor.old (b.before + 1)) }
+    ensures bad { IfErr result (λ b. IsBad (fields_of_form forms.Screen) cursor.old
+        (b.before + 1)) }
 {
     let filing = structure(cursor)?;
     cursor.end()?;
     Ok(Request::Query(Query::Screen(filing)))
 }
 
-/// A question for a verdict, after its word.
+/// Reads a query for a verdict, after its word.
 pub(crate) fn verdict(cursor: &mut Cursor<'_>) -> Result<Request, BadField>
     requires { cursor.old.before ≡ form_word forms.Verdict }
     ensures read { IfOk result (λ r. IsReading forms.Verdict r cursor.old) }
-    ensures bad { IfErr result (λ b. IsBad (fields_of_form forms.Verdict) cursor.old (b.before + 1)) }
+    ensures bad { IfErr result (λ b. IsBad (fields_of_form forms.Verdict) cursor.old
+        (b.before + 1)) }
 {
     let filing = structure(cursor)?;
     cursor.end()?;
     Ok(Request::Query(Query::Verdict(filing)))
 }
 
-/// A question for a case, after its word.
+/// Reads a query for a case, after its word.
 pub(crate) fn case(cursor: &mut Cursor<'_>) -> Result<Request, BadField>
     requires { cursor.old.before ≡ form_word forms.Case }
     ensures read { IfOk result (λ r. IsReading forms.Case r cursor.old) }
@@ -43,32 +45,35 @@ pub(crate) fn case(cursor: &mut Cursor<'_>) -> Result<Request, BadField>
     Ok(Request::Query(Query::Case(case.number)))
 }
 
-/// A question for an airfield, after its word.
+/// Reads a query for an airfield, after its word.
 pub(crate) fn airfield(cursor: &mut Cursor<'_>) -> Result<Request, BadField>
     requires { cursor.old.before ≡ form_word forms.Airfield }
     ensures read { IfOk result (λ r. IsReading forms.Airfield r cursor.old) }
-    ensures bad { IfErr result (λ b. IsBad (fields_of_form forms.Airfield) cursor.old (b.before + 1)) }
+    ensures bad { IfErr result (λ b. IsBad (fields_of_form forms.Airfield) cursor.old
+        (b.before + 1)) }
 {
     let id = cursor.take()?;
     cursor.end()?;
     Ok(Request::Query(Query::Airfield(id)))
 }
 
-/// A question for the cases that are marked for review, after its word.
+/// Reads a query for the cases that are marked for review, after its word.
 pub(crate) fn review(cursor: &mut Cursor<'_>) -> Result<Request, BadField>
     requires { cursor.old.before ≡ form_word forms.Review }
     ensures read { IfOk result (λ r. IsReading forms.Review r cursor.old) }
-    ensures bad { IfErr result (λ b. IsBad (fields_of_form forms.Review) cursor.old (b.before + 1)) }
+    ensures bad { IfErr result (λ b. IsBad (fields_of_form forms.Review) cursor.old
+        (b.before + 1)) }
 {
     cursor.end()?;
     Ok(Request::Query(Query::Review))
 }
 
-/// A question for a report, after its word.
+/// Reads a query for a report, after its word.
 pub(crate) fn report(cursor: &mut Cursor<'_>) -> Result<Request, BadField>
     requires { cursor.old.before ≡ form_word forms.Report }
     ensures read { IfOk result (λ r. IsReading forms.Report r cursor.old) }
-    ensures bad { IfErr result (λ b. IsBad (fields_of_form forms.Report) cursor.old (b.before + 1)) }
+    ensures bad { IfErr result (λ b. IsBad (fields_of_form forms.Report) cursor.old
+        (b.before + 1)) }
 {
     let kind = cursor.take()?;
     cursor.end()?;

@@ -1,4 +1,4 @@
-//! Requests, read from lines.
+//! Reads requests from lines.
 
 ghost use Rattle.std.specs.Prelude.{◌≡◌, ◌+◌, ◌<◌, ◌^◌, ℕ, List, length, IfOk, IfErr};
 ghost use Rattle.wire_requests.specs.Forms.{FirstWrong};
@@ -14,7 +14,7 @@ use record_fields::{Fields, find_fields};
 use std::alloc::Global;
 use wire_cursor::{BadField, Cursor};
 
-// The request whose spelling the fields are.
+// Reads the request whose spelling the fields are.
 #[tactic(auto, using(crate::proofs::FormFacts::all_fields))]
 fn request(fields: Fields<'_>) -> Result<Request, BadField>
     requires few { length fields < 2 ^ 64 }
@@ -35,7 +35,7 @@ fn request(fields: Fields<'_>) -> Result<Request, BadField>
     }
 }
 
-// The refusal of a record that is wrong at a field.
+// The refusal of a record that is malformed at a field.
 #[tactic(auto, using(crate::proofs::FormFacts::wrong_early))]
 fn malformed(bad: BadField) -> ReadRefusal
     requires { (fields : List (List ℕ)) × FirstWrong fields (bad.before + 1) }
@@ -46,7 +46,7 @@ fn malformed(bad: BadField) -> ReadRefusal
     }
 }
 
-/// Reads records, and keeps the room for a row of fields from line to line.
+/// Reads records, and reuses its buffer of fields from line to line.
 #[derive(Drop)]
 pub struct RecordReader {
     alloc: Global,
@@ -54,7 +54,7 @@ pub struct RecordReader {
 }
 
 impl RecordReader {
-    /// A reader. It takes no memory.
+    /// A reader. It allocates nothing.
     pub fn new(alloc: Global) -> RecordReader {
         RecordReader {
             alloc,
@@ -62,7 +62,7 @@ impl RecordReader {
         }
     }
 
-    /// The request that the line, without its end, is the record of.
+    /// Reads a line, without its line end, as a request.
     ///
     /// # Errors
     ///
@@ -88,7 +88,7 @@ impl RecordReader {
     }
 }
 
-/// The request that a line, without its end, is the record of.
+/// Reads a line, without its line end, as a request.
 ///
 /// # Errors
 ///

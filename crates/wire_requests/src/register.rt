@@ -1,4 +1,4 @@
-//! The forms that change the register of airfields, or the days of the desk.
+//! The forms that change the register of airfields or the days of the desk.
 
 ghost use Rattle.std.specs.Prelude.{◌+◌, IfOk, IfErr};
 ghost use Rattle.wire_cursor.specs.Shape.{Stops};
@@ -8,11 +8,11 @@ ghost use Rattle.wire_requests.specs.declared.form.ActForm.TheVariants as act_fo
 
 use airfields::{Heliport, Runway};
 use airport_register::Amendment;
-use case_values::Act;
+use case_requests::Act;
 use wire_cursor::{BadField, Cursor, point, runway_end};
 use wire_values::{Pavement, Plain, Weight};
 
-/// What a form whose accepted reply says no more tells after caller and key.
+/// Reads the fields after caller and key of a form whose accepted reply holds nothing but the form's name.
 pub(crate) fn plain_act(cursor: &mut Cursor<'_>, form: Plain) -> Result<Act, BadField>
     ensures took { IfOk result (λ a. TookAct (act_forms.Plain form) a cursor.old cursor.new) }
     ensures stops { IfErr result (λ b. Stops (plain_shape form) cursor.old (b.before + 1)) }
@@ -29,8 +29,10 @@ pub(crate) fn plain_act(cursor: &mut Cursor<'_>, form: Plain) -> Result<Act, Bad
 }
 
 fn airport(cursor: &mut Cursor<'_>) -> Result<Act, BadField>
-    ensures took { IfOk result (λ a. TookAct (act_forms.Plain Plain.Airport) a cursor.old cursor.new) }
-    ensures stops { IfErr result (λ b. Stops (plain_shape Plain.Airport) cursor.old (b.before + 1)) }
+    ensures took { IfOk result (λ a. TookAct
+        (act_forms.Plain Plain.Airport) a cursor.old cursor.new) }
+    ensures stops { IfErr result (λ b. Stops (plain_shape Plain.Airport) cursor.old
+        (b.before + 1)) }
 {
     let id = cursor.take()?;
     let category = cursor.take()?;
@@ -45,7 +47,8 @@ fn airport(cursor: &mut Cursor<'_>) -> Result<Act, BadField>
 }
 
 fn runway(cursor: &mut Cursor<'_>) -> Result<Act, BadField>
-    ensures took { IfOk result (λ a. TookAct (act_forms.Plain Plain.Runway) a cursor.old cursor.new) }
+    ensures took { IfOk result (λ a. TookAct
+        (act_forms.Plain Plain.Runway) a cursor.old cursor.new) }
     ensures stops { IfErr result (λ b. Stops (plain_shape Plain.Runway) cursor.old (b.before + 1)) }
 {
     let id = cursor.take()?;
@@ -65,8 +68,10 @@ fn runway(cursor: &mut Cursor<'_>) -> Result<Act, BadField>
 }
 
 fn drop_runway(cursor: &mut Cursor<'_>) -> Result<Act, BadField>
-    ensures took { IfOk result (λ a. TookAct (act_forms.Plain Plain.DropRunway) a cursor.old cursor.new) }
-    ensures stops { IfErr result (λ b. Stops (plain_shape Plain.DropRunway) cursor.old (b.before + 1)) }
+    ensures took { IfOk result (λ a. TookAct
+        (act_forms.Plain Plain.DropRunway) a cursor.old cursor.new) }
+    ensures stops { IfErr result (λ b. Stops (plain_shape Plain.DropRunway) cursor.old
+        (b.before + 1)) }
 {
     let id = cursor.take()?;
     let name = cursor.take()?;
@@ -74,8 +79,10 @@ fn drop_runway(cursor: &mut Cursor<'_>) -> Result<Act, BadField>
 }
 
 fn heliport(cursor: &mut Cursor<'_>) -> Result<Act, BadField>
-    ensures took { IfOk result (λ a. TookAct (act_forms.Plain Plain.Heliport) a cursor.old cursor.new) }
-    ensures stops { IfErr result (λ b. Stops (plain_shape Plain.Heliport) cursor.old (b.before + 1)) }
+    ensures took { IfOk result (λ a. TookAct
+        (act_forms.Plain Plain.Heliport) a cursor.old cursor.new) }
+    ensures stops { IfErr result (λ b. Stops (plain_shape Plain.Heliport) cursor.old
+        (b.before + 1)) }
 {
     let id = cursor.take()?;
     let category = cursor.take()?;
@@ -110,7 +117,8 @@ fn day(cursor: &mut Cursor<'_>) -> Result<Act, BadField>
 }
 
 fn closed(cursor: &mut Cursor<'_>) -> Result<Act, BadField>
-    ensures took { IfOk result (λ a. TookAct (act_forms.Plain Plain.Closed) a cursor.old cursor.new) }
+    ensures took { IfOk result (λ a. TookAct
+        (act_forms.Plain Plain.Closed) a cursor.old cursor.new) }
     ensures stops { IfErr result (λ b. Stops (plain_shape Plain.Closed) cursor.old (b.before + 1)) }
 {
     let date = cursor.take()?;

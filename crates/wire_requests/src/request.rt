@@ -1,19 +1,19 @@
 //! Requests.
 
 use airfields::{FieldId, Filing};
-use case_values::Act;
+use case_requests::Act;
 use std::marker::Model;
 use wire_values::{ReportKind, Word};
 
-/// A request that changes what the desk holds; a key names each request of a caller. It has a record: each of its values is within the
-/// limits of its field.
+/// A request that changes the desk's state; the key identifies it among its caller's requests. It has a record: each value is within
+/// the limits of its field.
 #[derive(Clone, Copy)]
 pub struct Change {
-    /// Who asks.
+    /// The caller's name.
     pub caller: Word,
-    /// What the caller names the request by.
+    /// The caller's key for the request.
     pub key: Word,
-    /// What is asked for.
+    /// The content of the request.
     pub act: Act,
 }
 
@@ -46,9 +46,9 @@ impl Change {
 pub enum Query {
     /// The list of findings of a structure.
     Screen(Filing),
-    /// What the list of findings of a structure comes to.
+    /// The verdict on a structure's findings.
     Verdict(Filing),
-    /// How the case of this number stands.
+    /// The status of the case of this number.
     Case(u32),
     /// The row of the airfield of this name.
     Airfield(FieldId),
@@ -63,11 +63,11 @@ pub enum Query {
 pub enum Request {
     /// One that changes nothing.
     Query(Query),
-    /// One that changes what the desk holds.
+    /// One that changes the desk's state.
     Change(Change),
 }
 
-/// Why a line is read as no request.
+/// Why a line could not be read as a request.
 #[derive(Clone, Copy, Debug, PartialEq, Eq)]
 pub enum ReadRefusal {
     /// The line is the record of no request. The field, counted from 1, is the first that no record with the same earlier fields has; it is

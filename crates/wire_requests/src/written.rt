@@ -1,8 +1,8 @@
-//! Structures that stand in a line as a desk writes them, read in one pass.
+//! Reads queries about structures, in one pass, from lines in canonical spelling.
 //!
-//! Most lines that a desk reads ask about a structure, and are written without quotes. Such a line is read here from its first byte to its
-//! last, each number together with the comma behind it; what is not so written is left to the reader of records, which also tells what
-//! is wrong with it.
+//! Most lines that a desk reads are such queries, written without quotes. Such a line is read here from first byte to last, each number
+//! together with the comma after it. Every other line is left to the reader of records, which also finds the field
+//! that is wrong.
 
 ghost use Rattle.std.specs.Prelude.{◌≡◌, ◌∷◌, ◌++◌, ◌+◌, ◌<◌, take, drop, get_or, length, true, false, codes, if◌then◌else◌, IfSome};
 ghost use Rattle.std.specs.Str.Parse.{AllDigits, digits_value};
@@ -22,12 +22,12 @@ use airfields::{
 use grid_exact::{COORDINATE_LIMIT, Point};
 use wire_values::FieldValue;
 
-// Digits at the front of a text, up to a comma.
+// The digits at the front of a text, up to a comma.
 #[derive(Clone, Copy)]
 struct Front {
-    // What they spell.
+    // Their value.
     value: u32,
-    // How many there are.
+    // Their number.
     count: usize,
 }
 
@@ -46,7 +46,7 @@ fn digit(byte: u8) -> Option<u8>
     Some(byte - b'0')
 }
 
-// The digits up to the first comma. Where there is no more room for a digit, none are told.
+// Parses the digits up to the first comma; `None` where no comma follows them, or the number is 1,000,000,000 or more.
 #[tactic(auto, using(crate::proofs::WrittenFacts::one_more))]
 fn digits(text: &[u8]) -> Option<Front>
     ensures digits { IfSome result (λ f. AllDigits 10 (take f.count text.now)) }
@@ -71,11 +71,12 @@ fn digits(text: &[u8]) -> Option<Front>
     None
 }
 
-// The natural number up to the first comma.
+// Parses the natural number up to the first comma.
 #[inline(always)]
 #[tactic(auto, using(crate::proofs::WrittenFacts::spelled))]
 fn natural(text: &[u8]) -> Option<Front>
-    ensures read { IfSome result (λ f. text.now ≡ decimal f.value ++ 44 ∷ drop (f.count + 1) text.now) }
+    ensures read { IfSome result (λ f. text.now
+        ≡ decimal f.value ++ 44 ∷ drop (f.count + 1) text.now) }
     ensures small { IfSome result (λ f. f.value < 1000000000) }
     ensures within { IfSome result (λ f. f.count < length text.now) }
 {
@@ -89,7 +90,7 @@ fn natural(text: &[u8]) -> Option<Front>
     Some(front)
 }
 
-// The place of the first comma.
+// The position of the first comma.
 #[inline(always)]
 fn comma(text: &[u8]) -> Option<usize>
     ensures within { IfSome result (λ at. at < length text.now) }
@@ -103,17 +104,18 @@ fn comma(text: &[u8]) -> Option<usize>
     None
 }
 
-// What is left of a line.
+// The rest of a line.
 #[derive(Drop)]
 struct Text<'a> {
     rest: &'a [u8],
 }
 
 impl<'a> Text<'a> {
-    // The natural number up to the next comma; both are then taken.
+    // Takes the natural number up to the next comma, and the comma.
     #[inline(always)]
     fn natural(&mut self) -> Option<u32>
-        ensures read { IfSome result (λ n. self.old.rest.now ≡ decimal n ++ 44 ∷ self.new.rest.now) }
+        ensures read { IfSome result (λ n. self.old.rest.now
+            ≡ decimal n ++ 44 ∷ self.new.rest.now) }
         ensures small { IfSome result (λ n. n < 1000000000) }
     {
         let front = natural(self.rest)?;
@@ -122,11 +124,12 @@ impl<'a> Text<'a> {
         Some(front.value)
     }
 
-    // The whole number up to the next comma; both are then taken.
+    // Takes the whole number up to the next comma, and the comma.
     #[inline(always)]
     #[tactic(auto, using(crate::proofs::WrittenFacts::below_zero))]
     fn whole(&mut self) -> Option<i64>
-        ensures read { IfSome result (λ z. self.old.rest.now ≡ signed_decimal z ++ 44 ∷ self.new.rest.now) }
+        ensures read { IfSome result (λ z. self.old.rest.now
+            ≡ signed_decimal z ++ 44 ∷ self.new.rest.now) }
         ensures short { IfSome result (λ z. HasNineDigits z) }
     {
         match self.rest.split_first() {
@@ -145,10 +148,11 @@ impl<'a> Text<'a> {
         }
     }
 
-    // The same where it is within the limits.
+    // As above, and checks that the number is within the limits.
     #[inline(always)]
     fn number(&mut self, low: i64, high: i64) -> Option<i64>
-        ensures read { IfSome result (λ z. self.old.rest.now ≡ signed_decimal z ++ 44 ∷ self.new.rest.now) }
+        ensures read { IfSome result (λ z. self.old.rest.now
+            ≡ signed_decimal z ++ 44 ∷ self.new.rest.now) }
         ensures short { IfSome result (λ z. HasNineDigits z) }
         ensures within { IfSome result (λ z. IsBetween low high z) }
     {
@@ -162,7 +166,7 @@ impl<'a> Text<'a> {
         Some(z)
     }
 
-    // The text up to the next comma; both are then taken.
+    // Takes the text up to the next comma, and the comma.
     #[inline(always)]
     #[tactic(auto, using(crate::proofs::WrittenFacts::around))]
     fn part(&mut self) -> Option<&'a [u8]>
@@ -175,17 +179,18 @@ impl<'a> Text<'a> {
         Some(&text[..at])
     }
 
-    // The value that the text up to the next comma spells; both are then taken.
+    // Takes the text up to the next comma, and the comma, and parses it.
     #[inline(always)]
     fn word<V: FieldValue>(&mut self) -> Option<V>
-        ensures read { IfSome result (λ v. self.old.rest.now ≡ V.spelled v ++ 44 ∷ self.new.rest.now) }
+        ensures read { IfSome result (λ v. self.old.rest.now
+            ≡ V.spelled v ++ 44 ∷ self.new.rest.now) }
         ensures good { IfSome result (λ v. V.good v) }
     {
         let part = self.part()?;
         V::parse(part)
     }
 
-    // Whether a dash stands before the next comma; both are then taken. Most structures have no flags, so that this spares the search.
+    // Takes a dash and the next comma, if they stand there. Most structures have no flags, so this spares the search for the comma.
     #[tactic(auto, using(crate::proofs::WrittenFacts::dash))]
     fn dash(&mut self) -> bool
         ensures taken { result ≡ true → self.old.rest.now ≡ codes "-" ++ 44 ∷ self.new.rest.now }
@@ -203,7 +208,7 @@ impl<'a> Text<'a> {
         false
     }
 
-    // The flags up to the next comma; both are then taken.
+    // Takes the flags up to the next comma, and the comma.
     fn flags(&mut self) -> Option<Flags>
         ensures { IfSome result (λ f. self.old.rest.now ≡ flags_text f ++ 44 ∷ self.new.rest.now) }
     {
@@ -220,7 +225,7 @@ impl<'a> Text<'a> {
         self.word()
     }
 
-    // The airfield that all the text that is left names, or none where it is a dash.
+    // Parses the rest of the line as the name of an airfield, or none where it is a dash.
     #[tactic(auto, using(crate::proofs::WrittenFacts::alone))]
     fn airfield(&self) -> Option<Option<FieldId>>
         ensures read { IfSome result (λ on. self.now.rest.now ≡ name_text on) }
@@ -232,7 +237,7 @@ impl<'a> Text<'a> {
         FieldValue::parse(self.rest)
     }
 
-    // The structure that all the text that is left is the canonical line of.
+    // Parses the rest of the line as a structure.
     #[inline(always)]
     fn structure(&mut self) -> Option<Filing>
         ensures read { IfSome result (λ s. self.old.rest.now ≡ joined (site_fields s)) }
@@ -258,7 +263,7 @@ impl<'a> Text<'a> {
     }
 }
 
-// Whether a word asks for the findings of a structure, or for what they come to; `None` where it is another.
+// Whether a word queries the findings of a structure (`true`) or its verdict (`false`); `None` where it is another.
 fn asks_for_all(word: &[u8]) -> Option<bool>
     ensures { IfSome result (λ all. word.now ≡ (if all then codes "screen" else codes "verdict")) }
 {
@@ -269,8 +274,8 @@ fn asks_for_all(word: &[u8]) -> Option<bool>
     }
 }
 
-/// The question about a structure that the line, without its end, asks, where it is written as a desk writes it. `None` for every other line,
-/// also where it asks one in another spelling: [`RecordReader::record`](crate::RecordReader::record) reads them all.
+/// Reads a query about a structure from a line, without its line end, in canonical spelling. `None` for every other line, also where the
+/// query is spelled in another way: [`RecordReader::record`](crate::RecordReader::record) reads them all.
 #[inline(always)]
 #[tactic(auto, using(crate::proofs::WrittenFacts::screening, crate::proofs::WrittenFacts::verdict))]
 pub fn question(line: &[u8]) -> Option<Query>

@@ -24,11 +24,11 @@ use Rattle.airfields.specs.declared.structure.Flags.{Flags}
 use Rattle.airfields.specs.declared.filing.TheConstants.{MOBILE_LIMIT}
 use Rattle.jiff_core.specs.declared.civil.date.Date.{Date}
 use Rattle.determination_dates.specs.Text.{last_digit, year_of, date_text}
-use Rattle.case_values.specs.declared.act.Impact.{Impact}
-use Rattle.case_values.specs.declared.act.Impact.TheVariants as impacts
-use Rattle.case_values.specs.declared.act.Party.{Party}
-use Rattle.case_values.specs.declared.act.Party.TheVariants as parties
-use Rattle.wire_values.specs.Words.{IsWordByte, IsWord, category_word, approach_word, kind_word, marked, flag_letters, flags_text, or_dash, name_text, IsAirfieldName, IsBetween, impact_word, party_word, optional_date, IsAnyLimited, report_word}
+use Rattle.case_requests.specs.declared.act.Impact.{Impact}
+use Rattle.case_requests.specs.declared.act.Impact.TheVariants as impacts
+use Rattle.case_requests.specs.declared.act.Party.{Party}
+use Rattle.case_requests.specs.declared.act.Party.TheVariants as parties
+use Rattle.wire_values.specs.Words.{IsWordByte, IsWord, category_word, approach_word, kind_word, marked_text, flag_letters, flags_text, or_dash, name_text, IsAirfieldName, IsBetween, impact_word, party_word, optional_date, IsAnyLimited, report_word}
 use Rattle.wire_values.specs.declared.report.ReportKind.{ReportKind}
 use Rattle.wire_values.specs.declared.report.ReportKind.TheVariants as reports
 use Rattle.wire_values.specs.Wanted.{Wanted, Fits, mobile_limit, is_granted, Spelled, Between, Counted, Choice, FieldIdWanted, RunwayNameWanted, WordWanted, CategoryWanted, ApproachWanted, KindWanted, MobileWanted, FlagsWanted, AirfieldWanted, DateWanted, OptionalDateWanted, CompletionWanted, ImpactWanted, PartyWanted, ReportWanted}
@@ -222,7 +222,7 @@ optional_short (Some d) = date_short d
 abbrev AreLetters : ℕ → List ℕ → Type 0
 AreLetters most letters = (length letters ≤ most) × All (λ b. is_field_byte b ≡ true) letters
 
-marked_letters : (b : Bool) (letter most : ℕ) (others : List ℕ) → is_field_byte letter ≡ true → AreLetters most others → AreLetters (most + 1) (marked b (letter ∷ []) others)
+marked_letters : (b : Bool) (letter most : ℕ) (others : List ℕ) → is_field_byte letter ≡ true → AreLetters most others → AreLetters (most + 1) (marked_text b (letter ∷ []) others)
 marked_letters true letter most others e h = (omega (arith, h.0), All-cons (λ b. is_field_byte b ≡ true) letter others e h.1)
 marked_letters false letter most others e h = (omega (arith, h.0), h.1)
 

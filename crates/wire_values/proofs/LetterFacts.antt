@@ -3,7 +3,7 @@ use Rattle.std.proofs.Common.{arith, ℕ, ◌≡◌, ◌≢◌, List, [], ◌∷
 use Rattle.std.specs.Prelude.{nat_eq}
 use Rattle.std.proofs.lemmas.Bool.Decides.{nat_tests}
 use Rattle.airfields.specs.declared.structure.Flags.{Flags}
-use Rattle.wire_values.specs.Words.{marked, flag_letters, flags_text, or_dash}
+use Rattle.wire_values.specs.Words.{marked_text, flag_letters, flags_text, or_dash}
 use Rattle.wire_values.specs.Letters.{begins_with, letters_after, has_letter}
 
 -- a letter is found first exactly where its flag stands, where no other is it
@@ -14,12 +14,12 @@ record IsSplit (l : ℕ) (b : Bool) (more letters : List ℕ) : Type 0 where
 same_letter : (l : ℕ) → nat_eq l l ≡ true
 same_letter l = grind (arith, nat_tests)
 
-split_marked : (l : ℕ) (b : Bool) (more : List ℕ) → begins_with l more ≡ false → IsSplit l b more (marked b (l ∷ []) more)
+split_marked : (l : ℕ) (b : Bool) (more : List ℕ) → begins_with l more ≡ false → IsSplit l b more (marked_text b (l ∷ []) more)
 split_marked l true more h = let s : nat_eq l l ≡ true = same_letter l in record { first = s; rest = rw s refl }
 split_marked l false more h = record { first = h; rest = rw h refl }
 
 -- another letter is not the first
-not_first : (k l : ℕ) (b : Bool) (more : List ℕ) → nat_eq l k ≡ false → begins_with k more ≡ false → begins_with k (marked b (l ∷ []) more) ≡ false
+not_first : (k l : ℕ) (b : Bool) (more : List ℕ) → nat_eq l k ≡ false → begins_with k more ≡ false → begins_with k (marked_text b (l ∷ []) more) ≡ false
 not_first k l true more d h = d
 not_first k l false more d h = h
 
@@ -46,11 +46,11 @@ made_flags s d r i g t = record { shielded = s; device = d; other_rule = r; incr
 read_back : (s d r i g t : Bool) → flags_read (flag_letters (made_flags s d r i g t)) ≡ made_flags s d r i g t
 unfolding flags_read made_flags
 read_back s d r i g t =
-    let t' : List ℕ = marked t (codes "T") [] in
-    let g' : List ℕ = marked g (codes "G") t' in
-    let i' : List ℕ = marked i (codes "I") g' in
-    let r' : List ℕ = marked r (codes "R") i' in
-    let d' : List ℕ = marked d (codes "D") r' in
+    let t' : List ℕ = marked_text t (codes "T") [] in
+    let g' : List ℕ = marked_text g (codes "G") t' in
+    let i' : List ℕ = marked_text i (codes "I") g' in
+    let r' : List ℕ = marked_text r (codes "R") i' in
+    let d' : List ℕ = marked_text d (codes "D") r' in
     let six = split_marked 84 t [] refl in
     let five = split_marked 71 g t' (not_first 71 84 t [] refl refl) in
     let four = split_marked 73 i g' (not_first 73 71 g t' refl (not_first 73 84 t [] refl refl)) in

@@ -16,10 +16,10 @@ use Rattle.airfields.specs.declared.category.Category.TheVariants as categories
 use Rattle.airfields.specs.declared.structure.StructureKind.{StructureKind}
 use Rattle.airfields.specs.declared.structure.StructureKind.TheVariants as kinds
 use Rattle.airfields.specs.declared.structure.Flags.{Flags}
-use Rattle.case_values.specs.declared.act.Impact.{Impact}
-use Rattle.case_values.specs.declared.act.Impact.TheVariants as impacts
-use Rattle.case_values.specs.declared.act.Party.{Party}
-use Rattle.case_values.specs.declared.act.Party.TheVariants as parties
+use Rattle.case_requests.specs.declared.act.Impact.{Impact}
+use Rattle.case_requests.specs.declared.act.Impact.TheVariants as impacts
+use Rattle.case_requests.specs.declared.act.Party.{Party}
+use Rattle.case_requests.specs.declared.act.Party.TheVariants as parties
 use Rattle.wire_values.specs.Letters.{begins_with}
 use Rattle.wire_values.specs.Words.{category_word, approach_word, kind_word, flags_text, name_text, IsAirfieldName, impact_word, party_word, report_word}
 use Rattle.wire_values.specs.declared.report.ReportKind.{ReportKind}

@@ -6,10 +6,10 @@ use Rattle.airfields.specs.declared.category.Category.{Category}
 use Rattle.airfields.specs.declared.category.Category.TheVariants.{PublicUse, PublicBuilding, MilitaryBuilding, Federal, Dod, Procedure, OtherPrivate}
 use Rattle.airfields.specs.declared.structure.StructureKind.{StructureKind}
 use Rattle.airfields.specs.declared.structure.StructureKind.TheVariants as kinds
-use Rattle.case_values.specs.declared.act.Impact.{Impact}
-use Rattle.case_values.specs.declared.act.Impact.TheVariants as impacts
-use Rattle.case_values.specs.declared.act.Party.{Party}
-use Rattle.case_values.specs.declared.act.Party.TheVariants as parties
+use Rattle.case_requests.specs.declared.act.Impact.{Impact}
+use Rattle.case_requests.specs.declared.act.Impact.TheVariants as impacts
+use Rattle.case_requests.specs.declared.act.Party.{Party}
+use Rattle.case_requests.specs.declared.act.Party.TheVariants as parties
 use Rattle.wire_values.specs.Words.{category_word, approach_word, kind_word, impact_word, party_word, report_word}
 use Rattle.wire_values.specs.declared.report.ReportKind.{ReportKind}
 use Rattle.wire_values.specs.declared.report.ReportKind.TheVariants as reports

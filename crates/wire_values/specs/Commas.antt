@@ -1,12 +1,12 @@
--- Fields of a canonical line.
+-- The fields of a canonical line.
 use Rattle.std.specs.Prelude.{ℕ, List, [], ◌∷◌, ◌++◌, codes}
 use Rattle.std.specs.List.{flat_map}
 
--- fields with a comma before each
+-- a comma before each field
 abbrev pub with_commas : List (List ℕ) → List ℕ
 with_commas fields = flat_map (λ f. codes "," ++ f) fields
 
--- fields with a comma between each two
+-- the fields, with commas between them
 abbrev pub joined : List (List ℕ) → List ℕ
 joined [] = []
 joined (field ∷ more) = field ++ with_commas more

@@ -1,4 +1,4 @@
--- Forms of changes whose accepted reply says no more than its form.
+-- Changes whose accepted reply holds nothing but the name of the form.
 use Rattle.std.specs.Prelude.{ℕ, List, codes}
 use Rattle.wire_values.specs.declared.plain.Plain.{Plain}
 use Rattle.wire_values.specs.declared.plain.Plain.TheVariants as plains

@@ -1,4 +1,4 @@
--- What a field of a record may be.
+-- The kinds of fields that records have.
 use Rattle.std.specs.Prelude.{ℕ, ◌≡◌, ◌≤◌, ℤ, pos, neg_ℤ, List, Bool, ◌||◌, Option, is_some, codes, if◌then◌else◌}
 use Rattle.std.specs.Fmt.{decimal, signed_decimal}
 use Rattle.std.specs.Str.{bytes_eq}
@@ -13,27 +13,27 @@ use Rattle.jiff_core.specs.declared.civil.date.Date.{Date}
 use Rattle.determination_dates.specs.Days.{IsLimited}
 use Rattle.determination_dates.specs.Text.{date_text}
 use Rattle.determination_dates.specs.declared.determination.TheConstants.{EXTENSION_MONTHS}
-use Rattle.case_values.specs.declared.act.Impact.{Impact}
-use Rattle.case_values.specs.declared.act.Party.{Party}
+use Rattle.case_requests.specs.declared.act.Impact.{Impact}
+use Rattle.case_requests.specs.declared.act.Party.{Party}
 use Rattle.wire_values.specs.Words.{IsWord, category_word, approach_word, kind_word, flags_text, name_text, IsAirfieldName, IsBetween, impact_word, party_word, optional_date, IsAnyLimited, report_word}
 use Rattle.wire_values.specs.declared.counts.TheConstants.{CASE_LIMIT}
 use Rattle.wire_values.specs.declared.report.ReportKind.{ReportKind}
 
--- what a field may be
+-- the kind of a field
 pub data Wanted : Type 0 where
-  -- this word alone
+  -- this word only
   Spelled : (word : List ℕ) → Wanted
   -- a whole number within these limits
   Between : (low high : ℤ) → Wanted
   -- a count within these limits
   Counted : (low high : ℕ) → Wanted
-  -- one of the two words by which a value is spelled that holds or does not
+  -- one of the two words of a yes-or-no value
   Choice : (word : Bool → List ℕ) → Wanted
   -- the name of an airfield
   FieldIdWanted : Wanted
-  -- the name of a runway
+  -- a runway name
   RunwayNameWanted : Wanted
-  -- the name of a caller, or a key
+  -- a caller's name or a key
   WordWanted : Wanted
   -- a category of airfields
   CategoryWanted : Wanted
@@ -41,7 +41,7 @@ pub data Wanted : Type 0 where
   ApproachWanted : Wanted
   -- the kind of a structure
   KindWanted : Wanted
-  -- the height of the highest mobile object on a structure of the kind that the field before tells
+  -- the height of the highest mobile object, by the structure's kind in the field before
   MobileWanted : Wanted
   -- the flags of a notice
   FlagsWanted : Wanted
@@ -51,11 +51,11 @@ pub data Wanted : Type 0 where
   DateWanted : Wanted
   -- a date within the limit, or a dash
   OptionalDateWanted : Wanted
-  -- a completion date where the field before tells that a permit is granted, and else a dash
+  -- a completion date where the field before says that a permit is granted, else a dash
   CompletionWanted : Wanted
-  -- what it means that a standard is exceeded, or a dash
+  -- the finding where a standard is exceeded, or a dash
   ImpactWanted : Wanted
-  -- who petitions
+  -- the kind of petitioner
   PartyWanted : Wanted
   -- the name of a report
   ReportWanted : Wanted
@@ -64,7 +64,7 @@ pub data Wanted : Type 0 where
 abbrev pub any_number : Wanted
 any_number = Between (neg_ℤ NUMBER_LIMIT) NUMBER_LIMIT
 
--- the number of a case
+-- a case number
 abbrev pub case_wanted : Wanted
 case_wanted = Counted 1 CASE_LIMIT
 
@@ -72,12 +72,12 @@ case_wanted = Counted 1 CASE_LIMIT
 abbrev pub months_wanted : Wanted
 months_wanted = Counted 1 EXTENSION_MONTHS
 
--- the greatest height of a mobile object, by the field of the structure's kind: it is given for private roads and waterways
--- alone (77.9(c))
+-- the greatest height of a mobile object, in tenths of a foot, by the structure's kind: only private roads and waterways
+-- give one (77.9(c))
 abbrev pub mobile_limit : List ℕ → ℤ
 mobile_limit kind = if bytes_eq kind (codes "private") || bytes_eq kind (codes "water") then MOBILE_LIMIT else pos 0
 
--- whether the field tells that a permit is granted
+-- whether the field says that a permit is granted
 abbrev pub is_granted : List ℕ → Bool
 is_granted grant = bytes_eq grant (codes "granted")
 

@@ -14,10 +14,10 @@ use Rattle.determination_dates.specs.Days.{IsLimited}
 use Rattle.determination_dates.specs.Text.{date_text}
 use Rattle.determination_dates.specs.declared.determination.Decision.{Decision}
 use Rattle.determination_dates.specs.declared.determination.Decision.TheVariants as decisions
-use Rattle.case_values.specs.declared.act.Impact.{Impact}
-use Rattle.case_values.specs.declared.act.Impact.TheVariants as impacts
-use Rattle.case_values.specs.declared.act.Party.{Party}
-use Rattle.case_values.specs.declared.act.Party.TheVariants as parties
+use Rattle.case_requests.specs.declared.act.Impact.{Impact}
+use Rattle.case_requests.specs.declared.act.Impact.TheVariants as impacts
+use Rattle.case_requests.specs.declared.act.Party.{Party}
+use Rattle.case_requests.specs.declared.act.Party.TheVariants as parties
 use Rattle.wire_values.specs.declared.report.ReportKind.{ReportKind}
 use Rattle.wire_values.specs.declared.report.ReportKind.TheVariants as reports
 use Rattle.wire_values.specs.declared.word.TheConstants.{WORD_LIMIT}
@@ -26,7 +26,7 @@ use Rattle.wire_values.specs.declared.word.TheConstants.{WORD_LIMIT}
 abbrev pub IsWordByte : ℕ → Type 0
 IsWordByte b = ((65 ≤ b) × (b ≤ 90)) ⊎ (((97 ≤ b) × (b ≤ 122)) ⊎ (((48 ≤ b) × (b ≤ 57)) ⊎ ((b ≡ 46) ⊎ (b ≡ 95))))
 
--- the name of a caller or the key of a request: one to so many such bytes
+-- a caller's name or a request's key: one or more such bytes, up to a limit
 pub record IsWord (word : List ℕ) : Type 0 where
   pub least : 1 ≤ length word
   pub most : length word ≤ WORD_LIMIT
@@ -72,20 +72,20 @@ abbrev pub or_dash : List ℕ → List ℕ
 or_dash [] = codes "-"
 or_dash (b ∷ bs) = b ∷ bs
 
--- a letter before others, where its flag stands
-abbrev pub marked : Bool → List ℕ → List ℕ → List ℕ
-marked stands letter others = if stands then letter ++ others else others
+-- the letter before the others, where its flag is set
+abbrev pub marked_text : Bool → List ℕ → List ℕ → List ℕ
+marked_text stands letter others = if stands then letter ++ others else others
 
--- the letters of the flags that stand, in their order: shielded (77.9(e)(1)), a device (77.9(e)(2)), another regulation's notice
+-- the letters of the flags that are set, in their order: shielded (77.9(e)(1)), a device (77.9(e)(2)), another regulation's notice
 -- (77.9(e)(3)), increases another antenna structure (77.9(e)(4)), ground traffic control (77.17(b)), temporary
 abbrev pub flag_letters : Flags → List ℕ
-flag_letters f = marked f.shielded (codes "S") (marked f.device (codes "D") (marked f.other_rule (codes "R")
-    (marked f.increases (codes "I") (marked f.controlled (codes "G") (marked f.temporary (codes "T") [])))))
+flag_letters f = marked_text f.shielded (codes "S") (marked_text f.device (codes "D") (marked_text f.other_rule (codes "R")
+    (marked_text f.increases (codes "I") (marked_text f.controlled (codes "G") (marked_text f.temporary (codes "T") [])))))
 
 abbrev pub flags_text : Flags → List ℕ
 flags_text f = or_dash (flag_letters f)
 
--- a name, or a dash where there is none
+-- a name, or a dash for none
 abbrev pub name_text : Option (List ℕ) → List ℕ
 name_text None = codes "-"
 name_text (Some name) = name
@@ -101,7 +101,7 @@ IsBetween low high z = (low ≤ℤ z) × (z ≤ℤ high)
 
 -- ---- values of cases
 
--- whether a notice is of an emergency that requires immediate construction (77.7(e))
+-- whether a notice is an emergency that requires immediate construction (77.7(e))
 abbrev pub urgency_word : Bool → List ℕ
 urgency_word emergency = if emergency then codes "emergency" else codes "normal"
 
@@ -109,7 +109,7 @@ urgency_word emergency = if emergency then codes "emergency" else codes "normal"
 abbrev pub statement_word : Bool → List ℕ
 statement_word explains = if explains then codes "yes" else codes "-"
 
--- how a petition is decided: the determination is affirmed or reversed (77.41)
+-- the decision on a petition: the determination is affirmed or reversed (77.41)
 abbrev pub disposal_word : Bool → List ℕ
 disposal_word affirm = if affirm then codes "affirm" else codes "reverse"
 
@@ -125,19 +125,19 @@ warrant_word warranted = if warranted then codes "yes" else codes "no"
 abbrev pub grant_word : Bool → List ℕ
 grant_word granted = if granted then codes "granted" else codes "refused"
 
--- what it means that a standard is exceeded (77.31), a dash where none is
+-- the finding where a standard is exceeded (77.31), or a dash where none is
 abbrev pub impact_word : Option Impact → List ℕ
 impact_word None = codes "-"
 impact_word (Some impacts.NotSubstantial) = codes "none"
 impact_word (Some impacts.Substantial) = codes "substantial"
 
--- who petitions (77.37)
+-- the kind of petitioner (77.37)
 abbrev pub party_word : Party → List ℕ
 party_word parties.Sponsor = codes "sponsor"
 party_word parties.Commenter = codes "commenter"
 party_word parties.LateComment = codes "latecomment"
 
--- a date, or a dash where there is none
+-- a date, or a dash for none
 abbrev pub optional_date : Option Date → List ℕ
 optional_date None = codes "-"
 optional_date (Some date) = date_text date

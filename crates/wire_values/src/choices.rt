@@ -1,4 +1,4 @@
-//! Values that hold or do not, spelled by one of two words.
+//! Yes-or-no values, each spelled by one of two words.
 
 ghost use Rattle.std.specs.Prelude.{◌≡◌, ◌≢◌, Bool, IfSome, IfNone, refl, if◌then◌else◌};
 ghost use Rattle.wire_values.specs.Words.{weight_word, pavement_word, urgency_word, statement_word, disposal_word, progress_word, warrant_word, grant_word};
@@ -28,14 +28,14 @@ pub struct Urgency {
     pub emergency: bool,
 }
 
-/// The statement of a notice on a height of more than 2,000 feet (77.7(d)).
+/// The explanation in a notice of a structure of more than 2,000 feet (77.7(d)).
 #[derive(Clone, Copy, Debug, PartialEq, Eq)]
 pub struct Statement {
-    /// Whether there is one, which explains why the structure would be no hazard.
+    /// Whether a statement explains why the structure would be no hazard.
     pub explains: bool,
 }
 
-/// How a petition is decided.
+/// The decision on a petition (77.37).
 #[derive(Clone, Copy, Debug, PartialEq, Eq)]
 pub struct Disposal {
     /// Whether the determination is affirmed; else it is reversed.
@@ -49,21 +49,21 @@ pub struct Progress {
     pub started: bool,
 }
 
-/// What an extension rests on (77.35(c)).
+/// The ground of an extension (77.35(c)).
 #[derive(Clone, Copy, Debug, PartialEq, Eq)]
 pub struct Warrant {
     /// Whether more time is warranted.
     pub warranted: bool,
 }
 
-/// What the FCC decides on a construction permit (77.35(b), (c)).
+/// The FCC's decision on a construction permit (77.35(b), (c)).
 #[derive(Clone, Copy, Debug, PartialEq, Eq)]
 pub struct Grant {
     /// Whether it is granted; else it is refused.
     pub granted: bool,
 }
 
-// Whether the text is the first of two words; `None` where it is neither.
+// Whether the text is the first of two words; `None` where it is neither of them.
 fn choice(text: &[u8], first: &[u8], second: &[u8]) -> Option<bool>
     ensures some { IfSome result (λ b. text.now ≡ (if b then first.now else second.now)) }
     ensures none { IfNone result ((b : Bool) → text.now ≢ (if b then first.now else second.now)) }
@@ -77,7 +77,7 @@ fn choice(text: &[u8], first: &[u8], second: &[u8]) -> Option<bool>
     None
 }
 
-// The first of two words where it holds, and else the second.
+// The first word where `holds`, else the second.
 fn chosen(holds: bool, first: &'static str, second: &'static str) -> &'static str
     ensures { result.now ≡ (if holds then first.now else second.now) }
 {

@@ -12,24 +12,24 @@ use determination_dates::EXTENSION_MONTHS;
 use grid_exact::NoMemory;
 use itoa::Buffer;
 
-/// The greatest number of a case; the first case is 1.
+/// The greatest case number; the first case is 1.
 pub const CASE_LIMIT: u32 = 999_999;
 
-/// The number of a case: 1 to `CASE_LIMIT`.
+/// A case number: 1 to `CASE_LIMIT`.
 #[derive(Clone, Copy, Debug, PartialEq, Eq)]
 pub struct CaseNumber {
     /// The number.
     pub number: u32,
 }
 
-/// The months of an extension: 1 to `EXTENSION_MONTHS` (77.35).
+/// The months of an extension, 1 to `EXTENSION_MONTHS` (77.35).
 #[derive(Clone, Copy, Debug, PartialEq, Eq)]
 pub struct Months {
-    /// How many they are.
+    /// The number of months.
     pub count: u8,
 }
 
-// The count within the limits that the text spells; `None` exactly where it spells none.
+// Parses a count within the limits; `None` exactly where the text is none.
 fn count_within(text: &[u8], low: u32, high: u32) -> Option<u32>
     requires { (low ≤ high) × (high < 1000000000) }
     ensures some { IfSome result (λ n. text.now ≡ decimal n) }

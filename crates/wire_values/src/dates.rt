@@ -36,7 +36,7 @@ impl FieldValue for Date {
     ghost fits = { λ v h _. (v, refl, h) };
 }
 
-/// A date; a dash where there is none.
+/// A date, or a dash for none.
 impl FieldValue for Option<Date> {
     ghost wanted = { OptionalDateWanted };
 
@@ -65,13 +65,14 @@ impl FieldValue for Option<Date> {
     ghost fits = { λ v h _. (v, refl, h) };
 }
 
-/// The completion date of a permit that is granted; a dash stands for none where it is refused.
+/// The completion date of a granted permit, or a dash where the permit is refused.
 #[tactic(auto, using(crate::proofs::DateNames::none_granted, crate::proofs::DateNames::none_refused))]
 pub fn completion_date(text: &[u8], granted: bool) -> Option<Option<Date>>
     ensures some { IfSome result (λ d. text.now ≡ optional_date d) }
     ensures limited { IfSome result (λ d. IsAnyLimited d) }
     ensures told { IfSome result (λ d. is_some d ≡ granted) }
-    ensures none { IfNone result ((d : Option Plain) → IsAnyLimited d → is_some d ≡ granted → text.now ≢ optional_date d) }
+    ensures none { IfNone result ((d : Option Plain) → IsAnyLimited d → is_some d ≡ granted
+        → text.now ≢ optional_date d) }
 {
     if granted {
         return match read_date(text) {

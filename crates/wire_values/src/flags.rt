@@ -3,7 +3,7 @@
 ghost use Rattle.std.specs.Prelude.{◌≡◌, ◌≢◌, ◌++◌, [], IfSome, IfNone, OnOk, OnErr, string_bytes, refl};
 ghost use Rattle.grid_exact.specs.Texts.{Extends};
 ghost use Rattle.airfields.specs.declared.structure.Flags.{Flags as SomeFlags};
-ghost use Rattle.wire_values.specs.Words.{marked, flag_letters, flags_text};
+ghost use Rattle.wire_values.specs.Words.{marked_text, flag_letters, flags_text};
 ghost use Rattle.wire_values.specs.Letters.{begins_with, letters_after, has_letter};
 ghost use Rattle.wire_values.specs.Wanted.{FlagsWanted};
 
@@ -11,14 +11,14 @@ use crate::field_value::{FieldValue, append_text};
 use airfields::Flags;
 use grid_exact::NoMemory;
 
-// The letters of flags that are still to be read.
+// The flag letters that are still to be read.
 #[derive(Drop)]
 struct Letters<'a> {
     rest: &'a [u8],
 }
 
 impl Letters<'_> {
-    // Whether the first of the letters is this one, which is then read.
+    // Whether the next letter is `letter`; if so it is consumed.
     fn takes(&mut self, letter: u8) -> bool
         ensures read { result ≡ begins_with letter self.old.rest.now }
         ensures rest { self.new.rest.now ≡ letters_after letter self.old.rest.now }
@@ -33,7 +33,7 @@ impl Letters<'_> {
     }
 }
 
-// The flags of letters, each of which stands once and in its order.
+// Parses the flag letters; each may stand once, in the fixed order.
 fn lettered_flags(text: &[u8]) -> Option<Flags>
     ensures some { IfSome result (λ flags. text.now ≡ flag_letters flags) }
     ensures none { IfNone result ((flags : SomeFlags) → text.now ≢ flag_letters flags) }
@@ -54,7 +54,7 @@ fn lettered_flags(text: &[u8]) -> Option<Flags>
     }
 }
 
-// Whether a flag stands.
+// Whether any flag is set.
 fn has_letter(flags: &Flags) -> bool
     ensures { result ≡ has_letter flags.now }
 {
@@ -66,9 +66,10 @@ fn has_letter(flags: &Flags) -> bool
         || flags.temporary
 }
 
-// Appends the letter of a flag that stands.
+// Appends a flag's letter where the flag is set.
 fn append_letter(text: &mut String, stands: bool, letter: &str) -> Result<(), NoMemory>
-    ensures ok { OnOk result (string_bytes text.new ≡ string_bytes text.old ++ marked stands letter.now []) }
+    ensures ok { OnOk result (string_bytes text.new
+        ≡ string_bytes text.old ++ marked_text stands letter.now []) }
     ensures part { OnErr result (Extends (string_bytes text.old) (string_bytes text.new)) }
 {
     if stands {
@@ -77,10 +78,11 @@ fn append_letter(text: &mut String, stands: bool, letter: &str) -> Result<(), No
     Ok(())
 }
 
-// Appends the letters of the flags that stand.
+// Appends the letters of the flags that are set.
 #[tactic(auto, using(grid_exact::proofs::Extending::extending))]
 fn append_letters(text: &mut String, flags: &Flags) -> Result<(), NoMemory>
-    ensures ok { OnOk result (string_bytes text.new ≡ string_bytes text.old ++ flag_letters flags.now) }
+    ensures ok { OnOk result (string_bytes text.new
+        ≡ string_bytes text.old ++ flag_letters flags.now) }
     ensures part { OnErr result (Extends (string_bytes text.old) (string_bytes text.new)) }
 {
     append_letter(text, flags.shielded, "S")?;

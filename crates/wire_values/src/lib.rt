@@ -1,4 +1,4 @@
-//! The values that the fields of records and replies spell, each with its one spelling.
+//! The values in the fields of records and replies, each with its one spelling.
 //!
 //! Lengths, coordinates and elevations are whole tenths of a foot.
 #![tactic(auto)]

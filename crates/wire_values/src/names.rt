@@ -10,7 +10,7 @@ use crate::word::Word;
 use airfields::{FieldId, RunwayName};
 use grid_exact::NoMemory;
 
-/// The name of an airfield as text. Its bytes are ASCII, so that they need no test.
+/// The name of an airfield as text. Its bytes are always ASCII, so no UTF-8 check is needed.
 fn field_text(name: &FieldId) -> &str
     ensures { result.now ≡ name.now }
 {
@@ -90,7 +90,7 @@ impl FieldValue for RunwayName {
     ghost fits = { λ v h _. h };
 }
 
-/// The airfield that a structure is on; a dash where it is on none.
+/// The airfield that a structure is on, or a dash for none.
 impl FieldValue for Option<FieldId> {
     ghost wanted = { AirfieldWanted };
 

@@ -17,7 +17,7 @@ pub struct WholeNumber {
     pub value: i64,
 }
 
-/// The whole number within the limits that `text` spells; `None` exactly where it spells none.
+/// Parses a whole number within the limits; `None` exactly where `text` is none.
 pub fn number_within(text: &[u8], low: i64, high: i64) -> Option<i64>
     requires low { HasNineDigits low }
     requires high { HasNineDigits high }

@@ -1,23 +1,23 @@
-//! Forms of changes whose accepted reply says no more than its form.
+//! Changes whose accepted reply holds nothing but the name of the form.
 
 ghost use Rattle.std.specs.Prelude.{◌≡◌};
 
-/// The form of an accepted request whose reply says no more.
+/// The form of a change whose accepted reply holds nothing but the form's name.
 #[derive(Clone, Copy, Debug, PartialEq, Eq)]
 pub enum Plain {
-    /// An airport was put into the register.
+    /// An airport was added to the register.
     Airport,
-    /// A runway was put into the register.
+    /// A runway was added to the register.
     Runway,
-    /// A runway was dropped.
+    /// A runway was removed from the register.
     DropRunway,
-    /// A heliport was put into the register.
+    /// A heliport was added to the register.
     Heliport,
-    /// An airfield was taken out of the register.
+    /// An airfield was removed from the register.
     Drop,
     /// The desk's day was set.
     Day,
-    /// A day was closed.
+    /// A day was recorded on which the government is closed (77.39(c)).
     Closed,
 }
 

@@ -7,7 +7,7 @@ ghost use Rattle.std.specs.Prelude.{◌≡◌};
 pub enum ReportKind {
     /// The cases that are marked for review.
     Review,
-    /// The determinations that expire.
+    /// The standing determinations that have an expiry.
     Expiry,
     /// The airfields of the register.
     Airfields,

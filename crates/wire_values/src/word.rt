@@ -1,4 +1,4 @@
-//! Names of callers and keys of requests.
+//! Caller names and request keys.
 
 ghost use Rattle.std.specs.Prelude.{◌≡◌, ◌↔◌, IsTrue, MatchOption};
 ghost use Rattle.wire_values.specs.Words.{IsWordByte, IsWord};
@@ -6,10 +6,10 @@ ghost use Rattle.wire_values.specs.Words.{IsWordByte, IsWord};
 use short_text::ShortText;
 use std::marker::Model;
 
-/// How many bytes a word may have.
+/// The greatest length of a word in bytes.
 pub const WORD_LIMIT: usize = 16;
 
-/// The name of a caller or the key of a request: 1 to `WORD_LIMIT` ASCII letters, digits, dots and underscores.
+/// A caller's name or a request's key: 1 to `WORD_LIMIT` ASCII letters, digits, dots and underscores.
 #[derive(Clone, Copy, Debug, PartialEq, Eq, PartialOrd, Ord)]
 pub struct Word {
     text: ShortText<WORD_LIMIT>,
@@ -35,7 +35,7 @@ fn is_word_byte(byte: u8) -> bool
 }
 
 impl Word {
-    /// The word that `text` is; `None` exactly where it is not 1 to `WORD_LIMIT` ASCII letters, digits, dots and underscores.
+    /// Parses a word; `None` exactly where `text` is not 1 to `WORD_LIMIT` ASCII letters, digits, dots and underscores.
     pub fn new(text: &[u8]) -> Option<Word>
         ensures exact { MatchOption result (¬ IsWord text.now) (λ w. w ≡ text.now) }
         ensures word { MatchOption result (Unit {0}) (λ _. IsWord text.now) }

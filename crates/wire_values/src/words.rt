@@ -1,16 +1,16 @@
-//! Values that one word of a list spells.
+//! Values spelled by one word of a fixed list.
 
 ghost use Rattle.std.specs.Prelude.{◌≡◌, ◌≢◌, Some, IfSome, IfNone, refl};
 ghost use Rattle.runway_classes.specs.declared.ApproachKind.{ApproachKind};
 ghost use Rattle.airfields.specs.declared.category.Category.{Category};
-ghost use Rattle.case_values.specs.declared.act.Impact.{Impact as SomeImpact};
+ghost use Rattle.case_requests.specs.declared.act.Impact.{Impact as SomeImpact};
 ghost use Rattle.wire_values.specs.Words.{category_word, approach_word, kind_word, impact_word, party_word, report_word};
 ghost use Rattle.wire_values.specs.Wanted.{CategoryWanted, ApproachWanted, KindWanted, ImpactWanted, PartyWanted, ReportWanted};
 
 use crate::field_value::{FieldValue, append_text};
 use crate::report::ReportKind;
 use airfields::{Category, StructureKind};
-use case_values::{Impact, Party};
+use case_requests::{Impact, Party};
 use grid_exact::NoMemory;
 use runway_classes::ApproachKind;
 
@@ -144,7 +144,7 @@ fn text_of_impact(finding: Option<Impact>) -> &'static str
     }
 }
 
-// The meaning that a word tells.
+// Parses the word of a finding.
 #[tactic(auto, using(crate::proofs::WordFacts::no_impact))]
 fn impact_of(text: &[u8]) -> Option<Impact>
     ensures some { IfSome result (λ i. text.now ≡ impact_word (Some i)) }
@@ -159,7 +159,7 @@ fn impact_of(text: &[u8]) -> Option<Impact>
     None
 }
 
-/// What it means that a standard is exceeded; a dash where none is.
+/// The finding where a standard is exceeded, or a dash where none is.
 impl FieldValue for Option<Impact> {
     ghost wanted = { ImpactWanted };
 

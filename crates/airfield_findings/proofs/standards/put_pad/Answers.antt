@@ -4,8 +4,8 @@ use Rattle.heliport_surfaces.specs.Pads.{pad_primary_excess, pad_approach_excess
 use Rattle.heliport_surfaces.specs.declared.parts.PadEnd.TheVariants as pad_ends
 use Rattle.heliport_surfaces.specs.declared.parts.Beside.TheVariants as sides
 use Rattle.airfield_findings.specs.Entries.{entries, field_key}
-use Rattle.airfield_findings.specs.declared.finding.SurfaceKey.{SurfaceKey}
-use Rattle.airfield_findings.specs.declared.finding.Rule.TheVariants as rules
+use Rattle.finding_lists.specs.declared.finding.SurfaceKey.{SurfaceKey}
+use Rattle.finding_lists.specs.declared.finding.Rule.TheVariants as rules
 use Rattle.airfield_findings.proofs.EntryFacts.{named, six}
 use Rattle.airfield_findings.proofs.standards.put_pad.Goals as goal
 

@@ -3,8 +3,8 @@ use Rattle.airfields.specs.declared.runway.Runway.{Runway}
 use Rattle.imaginary_surfaces.specs.Strips.{primary_excess, approach_excess, primary_transition_excess, approach_transition_excess}
 use Rattle.runway_lines.specs.declared.end.End.TheVariants as ends
 use Rattle.airfield_findings.specs.Entries.{entries, runway_key}
-use Rattle.airfield_findings.specs.declared.finding.SurfaceKey.{SurfaceKey}
-use Rattle.airfield_findings.specs.declared.finding.Rule.TheVariants as rules
+use Rattle.finding_lists.specs.declared.finding.SurfaceKey.{SurfaceKey}
+use Rattle.finding_lists.specs.declared.finding.Rule.TheVariants as rules
 use Rattle.airfield_findings.proofs.EntryFacts.{named, six}
 use Rattle.airfield_findings.proofs.standards.put_runway.Goals as goal
 

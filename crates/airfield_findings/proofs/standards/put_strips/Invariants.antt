@@ -1,7 +1,7 @@
 use Rattle.std.proofs.Common.{List, ◌++◌, take}
 use Rattle.std.specs.List.{flat_map}
 use Rattle.airfield_findings.specs.Entries.{of_runway}
-use Rattle.airfield_findings.specs.declared.finding.Finding.{Finding}
+use Rattle.finding_lists.specs.declared.finding.Finding.{Finding}
 use Rattle.airfield_findings.proofs.standards.put_strips.Given as goal
 
 -- the entries of the runways so far

@@ -2,7 +2,7 @@ use Rattle.std.proofs.Common.{◌≡◌, ℕ, List, ap, ◌∙◌, FitsSigned, w
 use Rattle.horizontal_hull.specs.Arcs.{Dome, dome_of}
 use Rattle.horizontal_hull.specs.Within.{horizontal_excess, conical_excess}
 use Rattle.airfield_findings.specs.Entries.{entries, field_key, of_runways}
-use Rattle.airfield_findings.specs.declared.finding.Rule.TheVariants as rules
+use Rattle.finding_lists.specs.declared.finding.Rule.TheVariants as rules
 use Rattle.airfield_findings.proofs.EntryFacts.{named, three, where_ok}
 use Rattle.airfield_findings.proofs.standards.put_surfaces_over.Goals as goal
 

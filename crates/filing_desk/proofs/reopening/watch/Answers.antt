@@ -1,9 +1,9 @@
 use Rattle.std.proofs.Common.{◌≡◌, sym, ap, ◌∙◌, subst, Some, ◌+◌, ◌-◌, List, Option, slice_set}
-use Rattle.review_marks.specs.Books.{committed}
+use Rattle.review_marks.specs.Books.{rows_after_commit}
 use Rattle.review_marks.specs.declared.change.MarkChange.{MarkChange}
 use Rattle.review_marks.specs.declared.row.Row.{Row}
-use Rattle.desk_rules.specs.States.{State}
-use Rattle.desk_rules.specs.Marks.{compared}
+use Rattle.desk_machine.specs.States.{State}
+use Rattle.desk_machine.specs.Marks.{comparison_row}
 use Rattle.filing_desk.specs.Marked.{AreMarksTo}
 use Rattle.filing_desk.proofs.MarksAnew.{marks_skipped, marks_put, listless_row, standing_row}
 use Rattle.filing_desk.proofs.reopening.watch.Goals as goal
@@ -20,8 +20,8 @@ returns g c =
     let kept = c.in-Some-list.kept in
     let rows = c.added.new.self in
     let row = standing_row s number there kept (sym c.if-not-stands.ensures) c.in-Some.ensures.value c.in-Some-list.is in
-    let put = marks_put s c.args.place c.args.marks.now rows (compared s there kept) row c.in_ok-change.ensures.room c.in_ok-change.ensures.same c.requires.before in
-    let made : c.commit.new.self ≡ slice_set rows (number - 1) (Some (compared s there kept)) =
-    c.commit.ensures ∙ ap (λ (m : MarkChange). committed m rows) c.in_ok-change.ensures.change
-    ∙ ap (λ (t : State). slice_set rows (number - 1) (Some (compared t there kept))) c.desk.view_is in
+    let put = marks_put s c.args.place c.args.marks.now rows (comparison_row s there kept) row c.in_ok-change.ensures.room c.in_ok-change.ensures.same c.requires.before in
+    let made : c.commit.new.self ≡ slice_set rows (number - 1) (Some (comparison_row s there kept)) =
+    c.commit.ensures ∙ ap (λ (m : MarkChange). rows_after_commit m rows) c.in_ok-change.ensures.change
+    ∙ ap (λ (t : State). slice_set rows (number - 1) (Some (comparison_row t there kept))) c.desk.view_is in
     subst (λ (new : List (Option Row)). AreMarksTo s number new) (sym made) put

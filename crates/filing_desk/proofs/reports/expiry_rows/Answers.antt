@@ -1,7 +1,7 @@
 use Rattle.std.proofs.Common.{◌≡◌, ◌+◌, ◌++◌, suc, sym, ap, ◌∙◌, arith, List}
 use Rattle.std.specs.Option.{option_to_list}
 use Rattle.oe_reports.specs.declared.rows.ExpiryRow.{ExpiryRow}
-use Rattle.desk_rules.specs.Reports.{expiring_up_to, expiry_row}
+use Rattle.desk_machine.specs.Reports.{expiring_up_to, expiry_row}
 use Rattle.filing_desk.proofs.reports.expiry_rows.Goals as goal
 
 pub loop-place-preserved : goal.loop-place-preserved

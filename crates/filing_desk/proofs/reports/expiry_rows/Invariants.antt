@@ -1,5 +1,5 @@
 use Rattle.std.proofs.Common.{◌≡◌}
-use Rattle.desk_rules.specs.Reports.{expiring_up_to}
+use Rattle.desk_machine.specs.Reports.{expiring_up_to}
 use Rattle.filing_desk.proofs.reports.expiry_rows.Given as goal
 
 -- the rows of the cases so far

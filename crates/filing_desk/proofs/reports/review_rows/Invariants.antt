@@ -1,5 +1,5 @@
 use Rattle.std.proofs.Common.{◌≡◌, take}
-use Rattle.desk_rules.specs.Reports.{review_rows_of}
+use Rattle.desk_machine.specs.Reports.{review_rows_of}
 use Rattle.filing_desk.proofs.reports.review_rows.Given as goal
 
 -- the rows of the numbers so far

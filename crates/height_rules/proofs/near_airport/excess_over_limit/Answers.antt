@@ -1,7 +1,7 @@
 use Rattle.std.proofs.Common.{◌≡◌, ◌≤ℤ◌, ◌-ℤ◌, ◌*ℤ◌, pos, ℤ, ℕ, arith, FitsSigned, w64, to_z-of_z, subst, sym, ap}
 use Rattle.std.specs.Int.{int_max}
 use Rattle.std.proofs.lemmas.Int.{ints}
-use Rattle.grid_exact.specs.Excess.{IsExcess, covering}
+use Rattle.grid_exact.specs.Excess.{IsExcess, covering_surface}
 use Rattle.grid_exact.specs.Root.{AtLeastRoot}
 use Rattle.grid_exact.proofs.Booleans.{not_from_false}
 use Rattle.grid_exact.specs.Vector.{length_of}
@@ -59,9 +59,9 @@ returns-clause-exact c = λ a k.
     let fb : FitsSigned w64 base = omega (arith, ints) in
     let base_e = base_is a s c.args.arp.now c.args.elevation base k (simp to_z-of_z at c.base-base.ensures.value) in
     let square_e = square_is a s c.args.arp.now c.args.elevation square k (subst (λ (p : Point). square ≡ length_of (p.x -ℤ c.args.arp.now.x) (p.y -ℤ c.args.arp.now.y)) at c.square_distance-square.ensures.value) in
-    let h : IsExcess (covering (IsAboveLimit square base) (IsAtLimit square base)) top c.excess_at.result = simp to_z-of_z at c.excess_at.ensures.exact in
-    let over_site = subst (λ (d : ℕ). IsExcess (covering (IsAboveLimit d base) (IsAtLimit d base)) top c.excess_at.result) square_e h in
-    let over_base = subst (λ (b : ℤ). IsExcess (covering (IsAboveLimit (square_distance a s) b) (IsAtLimit (square_distance a s) b)) top c.excess_at.result) base_e over_site in
+    let h : IsExcess (covering_surface (IsAboveLimit square base) (IsAtLimit square base)) top c.excess_at.result = simp to_z-of_z at c.excess_at.ensures.exact in
+    let over_site = subst (λ (d : ℕ). IsExcess (covering_surface (IsAboveLimit d base) (IsAtLimit d base)) top c.excess_at.result) square_e h in
+    let over_base = subst (λ (b : ℤ). IsExcess (covering_surface (IsAboveLimit (square_distance a s) b) (IsAtLimit (square_distance a s) b)) top c.excess_at.result) base_e over_site in
     let within = rw square_e at (c.is_within.ensures.reach.0 c.if-not-is_within.false) in
     IsExcess-covered (near_surface a s) (standards_top s) c.excess_at.result (record { within = within; described = k.limit.described; long = k.limit.long })
-    (subst (λ (t : ℤ). IsExcess (covering (IsAboveLimit (square_distance a s) (base_of a s)) (IsAtLimit (square_distance a s) (base_of a s))) t c.excess_at.result) c.requires.top over_base)
+    (subst (λ (t : ℤ). IsExcess (covering_surface (IsAboveLimit (square_distance a s) (base_of a s)) (IsAtLimit (square_distance a s) (base_of a s))) t c.excess_at.result) c.requires.top over_base)

@@ -1,7 +1,7 @@
 use Rattle.std.proofs.Common.{◌≡◌, FitsSigned, w64, to_z, of_z, to_z-of_z, arith, ◌∙◌}
 use Rattle.std.proofs.lemmas.Int.{ints}
 use Rattle.heliport_surfaces.specs.Axes.{pad_line}
-use Rattle.heliport_surfaces.specs.Pads.{approach_of, approach_slope, outward}
+use Rattle.heliport_surfaces.specs.Pads.{approach_of, approach_slope, outward_line}
 use Rattle.heliport_surfaces.proofs.PadFacts.{same_approach}
 use Rattle.heliport_surfaces.proofs.PadSizes.{slope_fits}
 use Rattle.heliport_surfaces.proofs.prepare.approach.Goals as goal
@@ -17,6 +17,6 @@ returns c =
     let fs : FitsSigned w64 s = slope_fits s c.slope.ensures.sloped in
     let es : to_z w64 (of_z w64 s) ≡ approach_slope h = to_z-of_z fs ∙ c.slope.ensures.value in
     record {
-      shape = same_approach (pad_line c.outward.result) (outward h c.args.end) (to_z w64 (of_z w64 h.width)) h.width (to_z w64 (of_z w64 h.elevation)) h.elevation (to_z w64 (of_z w64 s)) (approach_slope h)
+      shape = same_approach (pad_line c.outward.result) (outward_line h c.args.end) (to_z w64 (of_z w64 h.width)) h.width (to_z w64 (of_z w64 h.elevation)) h.elevation (to_z w64 (of_z w64 s)) (approach_slope h)
           c.outward.ensures.line (to_z-of_z fw) (to_z-of_z fz) es;
     }

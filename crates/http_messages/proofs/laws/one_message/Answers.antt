@@ -1,6 +1,6 @@
 use Rattle.std.proofs.Common.{◌∙◌, sym, ap}
 use Rattle.http_messages.specs.Frames.{asks_close}
-use Rattle.http_messages.proofs.LawFacts.{one, one_status, some, whole, good}
+use Rattle.http_messages.proofs.LawFacts.{one, one_status, some, whole, good, cut_not_refused}
 use Rattle.httparse.specs.Grammar.{RequestHead}
 use Rattle.http_messages.proofs.laws.one_message.Goals as goal
 
@@ -30,6 +30,9 @@ returns-clause-whole w = whole
 
 pub returns-clause-good : goal.returns-clause-good
 returns-clause-good w = good
+
+pub returns-clause-cut : goal.returns-clause-cut
+returns-clause-cut w = cut_not_refused
 
 pub returns-clause-status : goal.returns-clause-status
 returns-clause-status w = one_status

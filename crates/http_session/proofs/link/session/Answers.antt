@@ -1,6 +1,6 @@
 use Rattle.std.proofs.Common.{arith, refl}
 use Rattle.http_session.proofs.SessionFacts.{ends_more}
-use Rattle.oe_session.proofs.SessionFacts.{fell_more}
+use Rattle.line_session.proofs.SessionFacts.{fell_more}
 use Rattle.http_session.proofs.link.session.Goals as goal
 
 pub messages-preserved : goal.messages-preserved

@@ -1,7 +1,7 @@
 use Rattle.std.proofs.Common.{◌≤◌, Option, List, ℕ}
 use Rattle.oe_http.specs.Pending.{FellBy}
-use Rattle.http_messages.specs.Messages.{most_left, unread}
-use Rattle.oe_session.specs.declared.session.Ended.{Ended}
+use Rattle.http_messages.specs.Messages.{most_left, unread_of}
+use Rattle.line_session.specs.declared.session.Ended.{Ended}
 use Rattle.http_session.specs.Endings.{EndsSo}
 use Rattle.http_session.proofs.link.session.Given as goal
 
@@ -11,7 +11,7 @@ invariant-messages g l =
     let left = g.L.Source.left in
     let held = g.L.Sink.held in
     record {
-      on : (ended : Ended) (t : _) (m : Option (List ℕ)) → EndsSo g.A.Replying.step ended l.desk t (unread l.held (left l.link)) (held l.link) m
+      on : (ended : Ended) (t : _) (m : Option (List ℕ)) → EndsSo g.A.Replying.step ended l.desk t (unread_of l.held (left l.link)) (held l.link) m
           → EndsSo g.A.Replying.step ended l.fn.desk t (left l.fn.link) (held l.fn.link) m;
       took : FellBy l.held.taken (left l.fn.link) (left l.link);
       read_later : g.L.Source.faults l.fn.link ≤ g.L.Source.faults l.link;

@@ -2,7 +2,7 @@ use Rattle.std.proofs.Common.{◌≡◌, FitsSigned, w64, to_z, of_z, to_z-of_z,
 use Rattle.std.proofs.lemmas.Int.{ints}
 use Rattle.airfields.specs.Runways.{is_precision}
 use Rattle.grid_exact.specs.Axes.{line_of}
-use Rattle.runway_lines.specs.Ends.{class_of, end_class_of, end_of, line_between, other}
+use Rattle.runway_lines.specs.Ends.{class_of, end_class_of, end_of, line_between, other_end}
 use Rattle.imaginary_surfaces.specs.Strips.{approach_of}
 use Rattle.imaginary_surfaces.proofs.Sound.{end_flared, end_small}
 use Rattle.imaginary_surfaces.proofs.SurfaceFacts.{same_approach}
@@ -38,6 +38,6 @@ returns c =
     let ez : to_z w64 (of_z w64 z) ≡ (end_of r end).z = to_z-of_z fz ∙ ap (λ e. e.z) c.of-runway_end.ensures in
     let ep : c.is_precision.result ≡ is_precision (end_of r end).kind = c.is_precision.ensures ∙ ap (λ e. is_precision e.kind) c.of-runway_end.ensures in
     record {
-      shape = same_approach (line_of c.outward.result) (line_between r end (other end) end) (to_z w64 (of_z w64 w)) (class_of r).width c.end_class.result (end_class_of r end) (to_z w64 (of_z w64 z)) (end_of r end).z
+      shape = same_approach (line_of c.outward.result) (line_between r end (other_end end) end) (to_z w64 (of_z w64 w)) (class_of r).width c.end_class.result (end_class_of r end) (to_z w64 (of_z w64 z)) (end_of r end).z
           c.is_precision.result (is_precision (end_of r end).kind) c.outward.ensures.line ew c.end_class.ensures.value ez ep;
     }

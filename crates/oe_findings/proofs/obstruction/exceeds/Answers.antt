@@ -1,5 +1,5 @@
 use Rattle.std.proofs.Common.{[], ap}
-use Rattle.airfield_findings.specs.declared.verdict.Verdict.{Verdict}
+use Rattle.finding_lists.specs.declared.verdict.Verdict.{Verdict}
 use Rattle.oe_findings.proofs.obstruction.exceeds.Goals as goal
 
 pub returns : goal.returns

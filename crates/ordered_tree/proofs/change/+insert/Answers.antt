@@ -2,7 +2,7 @@ use Rattle.std.proofs.Common.{◌≡◌, rules, sym, ◌∙◌}
 use Rattle.std.specs.Arc.{arc_value}
 use Rattle.std.specs.declared.cmp.Ordering.TheVariants.{Less, Equal, Greater}
 use Rattle.std.proofs.lemmas.Result.{IfOk-weaker}
-use Rattle.ordered_tree.specs.Branches.{listed}
+use Rattle.ordered_tree.specs.Branches.{items_of}
 use Rattle.ordered_tree.proofs.Order.{around, put_less, put_greater, put_equal}
 use Rattle.ordered_tree.proofs.change.+insert.Goals as goal
 
@@ -14,8 +14,8 @@ insert_in-returns-in_ok-item-in-Less-clause-listed g t c =
     let h : g.K.Key.Ord.cmp (g.K.KeyOf.key_of x) (g.K.KeyOf.key_of m) ≡ Less = search rules in
     IfOk-weaker c.balanced.result _ _
     (λ b e. λ r.
-    let p = around g.K.Key.Ord.cmp g.met.K.Key.Ord.total g.K.KeyOf.key_of (listed f.below) m (listed f.above) r in
-    e ∙ rw (c.in_ok-below-in-Less.ensures.listed p.first, c.in_ok-above-in-Less.ensures.listed, c.in_ok-item-in-Less.ensures) (sym (put_less g.K.Key.Ord.cmp g.met.K.Key.Ord.total g.K.KeyOf.key_of x m (listed f.below) (listed f.above) h)))
+    let p = around g.K.Key.Ord.cmp g.met.K.Key.Ord.total g.K.KeyOf.key_of (items_of f.below) m (items_of f.above) r in
+    e ∙ rw (c.in_ok-below-in-Less.ensures.listed p.first, c.in_ok-above-in-Less.ensures.listed, c.in_ok-item-in-Less.ensures) (sym (put_less g.K.Key.Ord.cmp g.met.K.Key.Ord.total g.K.KeyOf.key_of x m (items_of f.below) (items_of f.above) h)))
     c.balanced.ensures.listed
 
 pub insert_in-returns-in_ok-item-in-Greater-clause-listed : goal.insert_in-returns-in_ok-item-in-Greater-clause-listed
@@ -26,8 +26,8 @@ insert_in-returns-in_ok-item-in-Greater-clause-listed g t c =
     let h : g.K.Key.Ord.cmp (g.K.KeyOf.key_of x) (g.K.KeyOf.key_of m) ≡ Greater = search rules in
     IfOk-weaker c.balanced-in-Greater.result _ _
     (λ b e. λ r.
-    let p = around g.K.Key.Ord.cmp g.met.K.Key.Ord.total g.K.KeyOf.key_of (listed f.below) m (listed f.above) r in
-    e ∙ rw (c.in_ok-below-in-Greater.ensures.listed, c.in_ok-above-in-Greater.ensures.listed p.second, c.in_ok-item-in-Greater.ensures) (sym (put_greater g.K.Key.Ord.cmp g.met.K.Key.Ord.total g.K.KeyOf.key_of x m (listed f.below) (listed f.above) h p)))
+    let p = around g.K.Key.Ord.cmp g.met.K.Key.Ord.total g.K.KeyOf.key_of (items_of f.below) m (items_of f.above) r in
+    e ∙ rw (c.in_ok-below-in-Greater.ensures.listed, c.in_ok-above-in-Greater.ensures.listed p.second, c.in_ok-item-in-Greater.ensures) (sym (put_greater g.K.Key.Ord.cmp g.met.K.Key.Ord.total g.K.KeyOf.key_of x m (items_of f.below) (items_of f.above) h p)))
     c.balanced-in-Greater.ensures.listed
 
 pub insert_in-returns-in_ok-above-in-Equal-clause-listed : goal.insert_in-returns-in_ok-above-in-Equal-clause-listed
@@ -38,6 +38,6 @@ insert_in-returns-in_ok-above-in-Equal-clause-listed g t c =
     let h : g.K.Key.Ord.cmp (g.K.KeyOf.key_of x) (g.K.KeyOf.key_of m) ≡ Equal = search rules in
     IfOk-weaker c.branched.result _ _
     (λ b e. λ r.
-    let p = around g.K.Key.Ord.cmp g.met.K.Key.Ord.total g.K.KeyOf.key_of (listed f.below) m (listed f.above) r in
-    e ∙ rw (c.in_ok-below-in-Equal.ensures.listed, c.in_ok-above-in-Equal.ensures.listed) (sym (put_equal g.K.Key.Ord.cmp g.met.K.Key.Ord.total g.K.KeyOf.key_of x m (listed f.below) (listed f.above) h p)))
+    let p = around g.K.Key.Ord.cmp g.met.K.Key.Ord.total g.K.KeyOf.key_of (items_of f.below) m (items_of f.above) r in
+    e ∙ rw (c.in_ok-below-in-Equal.ensures.listed, c.in_ok-above-in-Equal.ensures.listed) (sym (put_equal g.K.Key.Ord.cmp g.met.K.Key.Ord.total g.K.KeyOf.key_of x m (items_of f.below) (items_of f.above) h p)))
     c.branched.ensures.listed

@@ -1,6 +1,6 @@
 use Rattle.std.proofs.Common.{◌≡◌, ◌*◌, ◌≤◌, ◌<◌, ℤ, ℕ, ◌-ℤ◌, unsigned_abs, FitsSigned, w64, to_z, of_z, to_z-of_z, arith, refl, ◌∙◌}
 use Rattle.std.proofs.lemmas.Int.{ints}
-use Rattle.runway_lines.specs.Centers.{IsSetback, extended}
+use Rattle.runway_lines.specs.Centers.{IsSetback, point_beyond}
 use Rattle.runway_lines.proofs.CenterFacts.{extended_back, extended_is, extended_only}
 use Rattle.runway_lines.proofs.setbacks.extended.Goals as goal
 
@@ -12,8 +12,8 @@ moved z w h k =
     let fd : FitsSigned w64 (z -ℤ w) = omega (arith, ints, h, k) in
     simp to_z-of_z refl
 
-past : (here there w d : ℤ) (n : ℕ) → d ≡ there -ℤ here → unsigned_abs (there -ℤ here) * unsigned_abs (there -ℤ here) ≤ n → 0 < n → IsSetback d n w → here -ℤ w ≡ extended here there n
-past here there w d n e h p s = extended_only here there n (here -ℤ w) (extended here there n) (extended_back here there n w (rw e at s)) (extended_is here there n h p)
+past : (here there w d : ℤ) (n : ℕ) → d ≡ there -ℤ here → unsigned_abs (there -ℤ here) * unsigned_abs (there -ℤ here) ≤ n → 0 < n → IsSetback d n w → here -ℤ w ≡ point_beyond here there n
+past here there w d n e h p s = extended_only here there n (here -ℤ w) (point_beyond here there n) (extended_back here there n w (rw e at s)) (extended_is here there n h p)
 
 pub invariant_of-result : goal.invariant_of-result
 invariant_of-result c =

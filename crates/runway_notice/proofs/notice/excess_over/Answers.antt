@@ -1,6 +1,6 @@
 use Rattle.std.proofs.Common.{◌≡◌, ◌≤ℤ◌, ℕ, ℤ, ◌↔◌, Bool, Option, None, true, false, FitsSigned, w64, to_z-of_z, arith, ap, ◌∙◌, subst, IsTrue}
 use Rattle.std.proofs.lemmas.Int.{ints}
-use Rattle.grid_exact.specs.Excess.{IsExcess, covering}
+use Rattle.grid_exact.specs.Excess.{IsExcess, covering_surface}
 use Rattle.grid_exact.proofs.ExcessLemmas.{IsExcess-covered, IsExcess-unique}
 use Rattle.grid_exact.proofs.TestFacts.{le_in}
 use Rattle.runway_notice.specs.Distances.{Fraction, IsAtLeastRootOf, IsAboveRootOf, run_of}
@@ -44,7 +44,7 @@ returns-then-not-is_at_most c =
 
 -- what the search says, of the slope from the runway
 abbrev IsOver : Fraction → ℤ → ℤ → ℤ → Option ℕ → Type 0
-IsOver d ratio base top e = IsExcess (covering (λ z. IsAboveRootOf d (run_of ratio base z)) (λ z. IsAtLeastRootOf d (run_of ratio base z))) top e
+IsOver d ratio base top e = IsExcess (covering_surface (λ z. IsAboveRootOf d (run_of ratio base z)) (λ z. IsAtLeastRootOf d (run_of ratio base z))) top e
 
 same_limit : (d d' : Fraction) (k k' b b' top : ℤ) (e : Option ℕ) → d ≡ d' → k ≡ k' → b ≡ b' → IsOver d k b top e → IsOver d' k' b' top e
 same_limit d d' k k' b b' top e p q s h =

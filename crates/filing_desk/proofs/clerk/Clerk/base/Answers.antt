@@ -3,4 +3,4 @@ use Rattle.filing_desk.specs.Clerks.{Clerking, HasOpening}
 use Rattle.filing_desk.proofs.clerk.Clerk.base.Goals as goal
 
 pub returns-clause-opening : goal.returns-clause-opening
-returns-clause-opening g c = subst (λ (k : Clerking). HasOpening c.self.inside.base k) c.self.view_is c.self.invariant.1
+returns-clause-opening g c = subst (λ (k : Clerking _). HasOpening c.self.inside.base k) c.self.view_is c.self.invariant.opening

@@ -1,7 +1,7 @@
 use Rattle.std.proofs.Common.{◌≡◌, ◌++◌, sym, subst}
 use Rattle.std.specs.Prelude.{OnOk}
 use Rattle.case_acts.specs.declared.effect.Step.{Step}
-use Rattle.desk_rows.specs.Changes.{step_changes}
+use Rattle.desk_tables.specs.Changes.{step_changes}
 use Rattle.filing_desk.proofs.desk.Desk.change_step.Goals as goal
 
 pub returns-in-FormPut : goal.returns-in-FormPut

@@ -1,6 +1,6 @@
 use Rattle.std.proofs.Common.{◌≡◌, refl, subst, arith, ◌<◌, ◌-◌, length, Some}
 use Rattle.case_acts.specs.declared.effect.Step.TheVariants as steps
-use Rattle.desk_rules.specs.States.{State, stepped}
+use Rattle.desk_machine.specs.States.{State, state_after_step}
 use Rattle.filing_desk.proofs.Sound.{life_sound, changed_case, most_set}
 use Rattle.filing_desk.proofs.desk.Desk.issue.Goals as goal
 
@@ -14,5 +14,5 @@ pub returns : goal.returns
 returns c =
     let short : c.args.number - 1 < length c.self.inside.cases.items = omega (arith, c.if-place-len.false, c.len.ensures) in
     let put = changed_case c.self.inside.cases.items c.args.number c.index_mut-case.result.now (λ d. record d { life = c.args.life; list = Some c.args.list }) c.if-number-eq0.false short c.index_mut-case.ensures.value in
-    let is : State → State → Type 0 = λ t s. t ≡ stepped (steps.Issued c.args.number c.args.life c.args.list) s in
+    let is : State → State → Type 0 = λ t s. t ≡ state_after_step (steps.Issued c.args.number c.args.life c.args.list) s in
     subst (is _) c.self.view_is (λ i. record { register = c.self.inside.sky; day = c.self.inside.today; closed = c.self.inside.closed; cases = put i; entries = c.self.inside.receipts })

@@ -1,11 +1,11 @@
 use Rattle.std.proofs.Common.{◌≡◌, ◌≤◌, subst, length, List}
 use Rattle.oe_keeper.specs.Kept.{Kept}
 use Rattle.oe_keeper.specs.declared.change.RowChange.{RowChange}
-use Rattle.desk_rules.specs.States.{State}
-use Rattle.desk_rules.specs.declared.entry.Entry.{Entry}
-use Rattle.desk_rules.specs.declared.entry.TheConstants.{MOST_CASES}
-use Rattle.desk_rows.specs.Changes.{changes, Fits}
-use Rattle.filing_desk.proofs.Unasked.{carried, served}
+use Rattle.desk_machine.specs.States.{State}
+use Rattle.desk_machine.specs.declared.entry.Entry.{Entry}
+use Rattle.desk_machine.specs.declared.entry.TheConstants.{MOST_CASES}
+use Rattle.desk_tables.specs.Changes.{changes, Fits}
+use Rattle.filing_desk.proofs.Unasked.{carried, not_served, served}
 use Rattle.filing_desk.proofs.office.Office.accept.Goals as goal
 
 pub returns-in-Ok-take-clause-serves : goal.returns-in-Ok-take-clause-serves
@@ -26,4 +26,11 @@ returns-in-Ok-take-clause-serves g c =
     } in
     let made = subst (λ (u : State). (rows : Kept) → g.K.Keeper.Tells c.args.keeper.now rows → list ≡ changes u e step) c.self.view_is c.in-Ok-changes.ensures in
     let carry = carried g.K.Keeper.Tells c.args.keeper.now s c.take.new.self e step list made done.1 fits in
-    served g.K.Keeper.Tells g.K.Keeper.IsLoaded g.K.Keeper.faults c.args.keeper.now c.take.new.keeper s c.take.new.self list c.in-Ok-take.field-0 c.in-Some.number c.in-Ok.outcome carry c.in-Ok-take.ensures.handed
+    served g.K.Keeper.Tells g.K.Keeper.IsLoaded g.K.Keeper.IsSteady g.K.Keeper.faults c.args.keeper.now c.take.new.keeper s c.take.new.self list c.args.c.now c.args.effect e c.in-Ok-take.field-0
+    c.in-Some.number c.in-Ok.outcome carry c.in-Ok-take.ensures
+
+pub returns-in-Err-clause-serves : goal.returns-in-Err-clause-serves
+returns-in-Err-clause-serves g c =
+    let e : Entry = record { number = c.in-Some.number; change = c.args.c.now; outcome = c.args.effect.outcome } in
+    not_served g.K.Keeper.Tells g.K.Keeper.IsLoaded g.K.Keeper.IsSteady g.K.Keeper.faults c.args.keeper.now c.take.new.keeper c.args.self.now c.take.new.self c.in-Ok-changes.changes c.args.c.now c.args.effect e
+    c.in-Err.why c.in-Err.ensures

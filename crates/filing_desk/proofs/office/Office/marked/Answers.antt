@@ -1,5 +1,5 @@
 use Rattle.std.proofs.Common.{ap, ◌∙◌, length}
-use Rattle.desk_rules.specs.Marks.{marks}
+use Rattle.desk_machine.specs.Marks.{marks}
 use Rattle.filing_desk.proofs.MarksAfter.{marks_are}
 use Rattle.filing_desk.proofs.office.Office.marked.Goals as goal
 

@@ -1,7 +1,7 @@
 use Rattle.std.proofs.Common.{sym, subst}
 use Rattle.case_acts.specs.declared.effect.Step.TheVariants as steps
-use Rattle.desk_rules.specs.States.{State}
-use Rattle.desk_rules.specs.Marks.{Goes}
+use Rattle.desk_machine.specs.States.{State}
+use Rattle.desk_machine.specs.Marks.{Goes}
 use Rattle.filing_desk.proofs.MarksAfter.{AreKept, kept_opened}
 use Rattle.filing_desk.proofs.office.Office.open.Goals as goal
 

@@ -1,6 +1,6 @@
 use Rattle.std.proofs.Common.{◌≡◌, ap, ◌∙◌, subst, List, ℕ}
 use Rattle.std.specs.Prelude.{IfOk}
-use Rattle.desk_rules.specs.Marks.{marks}
+use Rattle.desk_machine.specs.Marks.{marks}
 use Rattle.filing_desk.proofs.MarksAfter.{marks_are}
 use Rattle.filing_desk.proofs.office.Office.review.Goals as goal
 

@@ -1,6 +1,6 @@
 use Rattle.std.proofs.Common.{◌≡◌, true, ℤ, FitsSigned, w64, to_z-of_z, arith, subst, sym, ◌∙◌}
 use Rattle.std.proofs.lemmas.Int.{ints}
-use Rattle.grid_exact.specs.Excess.{IsExcess, covering, most_excess}
+use Rattle.grid_exact.specs.Excess.{IsExcess, covering_surface, most_excess}
 use Rattle.grid_exact.proofs.ExcessLemmas.{IsExcess-covered, excess_of-is, within_most}
 use Rattle.heliport_surfaces.specs.declared.rules.TheConstants.{NOTICE_RANGE}
 use Rattle.heliport_surfaces.specs.Notices.{Gap, IsAboveNotice, IsAtNotice, IsWithin, gap, is_nearer, is_over, is_within, notice}
@@ -25,10 +25,10 @@ returns c =
     let ft : FitsSigned w64 c.args.top = c.ranges.top in
     let ez : s.z ≡ l.z = simp to_z-of_z at c.new.ensures.z in
     let eg : gap_shape s.gap ≡ g = c.new.ensures.gap ∙ c.gap-gap.ensures in
-    let h : IsExcess (covering (IsAboveNotice s.z (gap_shape s.gap)) (IsAtNotice s.z (gap_shape s.gap))) c.args.top c.excess.result = simp to_z-of_z at c.excess.ensures.excess in
+    let h : IsExcess (covering_surface (IsAboveNotice s.z (gap_shape s.gap)) (IsAtNotice s.z (gap_shape s.gap))) c.args.top c.excess.result = simp to_z-of_z at c.excess.ensures.excess in
     let covered : IsWithin g NOTICE_RANGE = within_in g NOTICE_RANGE (subst (λ (p : Gap). is_within p NOTICE_RANGE ≡ true) c.gap-gap.ensures (sym c.is_near.ensures ∙ c.if-not-is_near.false)) in
-    let at_point = subst (λ (p : Gap). IsExcess (covering (IsAboveNotice s.z p) (IsAtNotice s.z p)) c.args.top c.excess.result) eg h in
+    let at_point = subst (λ (p : Gap). IsExcess (covering_surface (IsAboveNotice s.z p) (IsAtNotice s.z p)) c.args.top c.excess.result) eg h in
     let exact : IsExcess (notice l o) c.args.top c.excess.result =
     IsExcess-covered (notice l o) c.args.top c.excess.result covered
-    (subst (λ (z : ℤ). IsExcess (covering (IsAboveNotice z g) (IsAtNotice z g)) c.args.top c.excess.result) ez at_point) in
+    (subst (λ (z : ℤ). IsExcess (covering_surface (IsAboveNotice z g) (IsAtNotice z g)) c.args.top c.excess.result) ez at_point) in
     sym (excess_of-is (notice l o) (is_within g NOTICE_RANGE) (is_over (is_nearer g) l.z) (is_over (is_within g) l.z) most_excess c.args.top c.excess.result (notice_tests l o) (within_most c.excess.result c.excess.ensures.size) exact)

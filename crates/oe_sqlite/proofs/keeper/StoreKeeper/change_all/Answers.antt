@@ -1,5 +1,5 @@
 use Rattle.std.proofs.Math.Logic.{∥∥₁_map}
-use Rattle.oe_sqlite.proofs.Telling.{silent_told, on_err}
+use Rattle.oe_sqlite.proofs.Telling.{match_told, silent_told, on_err}
 use Rattle.oe_sqlite.proofs.keeper.StoreKeeper.change_all.Goals as goal
 
 pub invariant_of-self : goal.invariant_of-self
@@ -13,3 +13,6 @@ returns-clause-silent g c = silent_told c.args.self.now.is_told c.args.self.now.
 
 pub returns-clause-crash : goal.returns-clause-crash
 returns-clause-crash g c before told db may = ∥∥₁_map c.args.self.now.held (λ held. c.change.ensures.crash (held told.0) before told.1 db may)
+
+pub returns-clause-memory : goal.returns-clause-memory
+returns-clause-memory g c here before told = match_told _ _ c.change.result c.args.self.now.is_told told.0 (c.change.ensures.memory here before told.1)

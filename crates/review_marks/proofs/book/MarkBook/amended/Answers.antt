@@ -4,6 +4,7 @@ use Rattle.review_marks.specs.Books.{row_at, with_marks}
 use Rattle.review_marks.specs.Shares.{AirfieldChange, change_of, concerns_row}
 use Rattle.review_marks.specs.Turns.{HasReached, IsTurnedTo}
 use Rattle.review_marks.proofs.Turning.{IsAt, exact_after, step_on, steps_all, turned_done, turned_next}
+use Rattle.review_marks.proofs.NearCases.{near_cases}
 use Rattle.review_marks.proofs.book.MarkBook.amended.Goals as goal
 
 pub returns-in_err-recheck-clause-steps : goal.returns-in_err-recheck-clause-steps
@@ -46,3 +47,15 @@ returns-clause-exact g c =
 
 pub returns-clause-steps : goal.returns-clause-steps
 returns-clause-steps g c = steps_all (change_of c.args.changed.now) c.args.self.now _ c.args.steps.now c.loop-i.steps c.loop-i.invariant.1
+
+pub returns-in_err-recheck-clause-near : goal.returns-in_err-recheck-clause-near
+returns-in_err-recheck-clause-near g c n near =
+    let cases = near_cases (change_of c.args.changed.now) c.args.self.now n c.requires.held c.in_ok-reached.ensures.sites near in
+    let steps = returns-in_err-recheck-clause-steps g c in
+    omega (arith, cases, steps)
+
+pub returns-clause-near : goal.returns-clause-near
+returns-clause-near g c n near =
+    let cases = near_cases (change_of c.args.changed.now) c.args.self.now n c.requires.held c.in_ok-reached.ensures.sites near in
+    let steps = returns-clause-steps g c in
+    omega (arith, cases, steps)

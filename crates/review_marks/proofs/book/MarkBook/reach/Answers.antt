@@ -1,6 +1,7 @@
 use Rattle.std.proofs.Common.{◌≡◌, ◌+◌, List, ℕ, sym, subst}
 use Rattle.review_marks.specs.Turns.{ClimbsTo, HasReached}
 use Rattle.review_marks.proofs.Turning.{reached_put, climbs_on, climbs_more}
+use Rattle.review_marks.proofs.NearCases.{sites_on}
 use Rattle.review_marks.proofs.book.MarkBook.reach.Goals as goal
 
 pub returns-in_ok-push-clause-all : goal.returns-in_ok-push-clause-all
@@ -13,3 +14,9 @@ returns-in_ok-push-clause-rises c =
 
 pub returns-else-is_reached-clause-rises : goal.returns-else-is_reached-clause-rises
 returns-else-is_reached-clause-rises c = climbs_more 0 c.args.numbers.now.items c.args.place
+
+pub returns-in_ok-push-clause-sites : goal.returns-in_ok-push-clause-sites
+returns-in_ok-push-clause-sites c = sites_on c.args.self.now c.args.place c.is_reached.ensures.site
+
+pub returns-else-is_reached-clause-sites : goal.returns-else-is_reached-clause-sites
+returns-else-is_reached-clause-sites c = sites_on c.args.self.now c.args.place c.is_reached.ensures.site

@@ -1,5 +1,0 @@
-pub mod Values
-pub mod Parts
-pub mod Opening
-pub mod Counts
-pub mod Desks

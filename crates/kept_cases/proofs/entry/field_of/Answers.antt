@@ -1,6 +1,0 @@
-use Rattle.kept_rows.proofs.PartFacts.{where_none}
-use Rattle.kept_cases.proofs.EntryFacts.{no_field}
-use Rattle.kept_cases.proofs.entry.field_of.Goals as goal
-
-pub returns-clause-none : goal.returns-clause-none
-returns-clause-none c = where_none c.parse.result (no_field c.args.text.now) c.parse.ensures.none

@@ -1,5 +1,0 @@
-use Rattle.kept_cases.proofs.OneCase.{one_filing}
-use Rattle.kept_cases.proofs.laws.one_filing_row.Goals as goal
-
-pub returns : goal.returns
-returns c = one_filing

@@ -1,3 +1,0 @@
-pub mod Blank
-pub mod Found
-pub mod Left

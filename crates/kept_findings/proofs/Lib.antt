@@ -1,5 +1,0 @@
-mod Excesses
-mod PadExcesses
-mod SlopeFacts
-mod EntryFacts
-mod Findings

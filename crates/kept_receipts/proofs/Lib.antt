@@ -1,4 +1,0 @@
-mod CutFacts
-mod Choices
-mod ChangeFacts
-mod RowFacts

@@ -1,6 +1,0 @@
-use Rattle.kept_rows.proofs.PartFacts.{if_none}
-use Rattle.kept_receipts.proofs.CutFacts.{no_line}
-use Rattle.kept_receipts.proofs.cut.first_line.Goals as goal
-
-pub returns-in_err-at-clause-none : goal.returns-in_err-at-clause-none
-returns-in_err-at-clause-none c = if_none c.from_residual.result (λ line behind e. no_line c.args.text.now line behind c.in_err-at.ensures.none e)

@@ -1,0 +1,12 @@
+use Rattle.std.proofs.Common.{ap, ◌∙◌, List}
+use Rattle.airfields.specs.declared.airfield.Airfield.{Airfield}
+use Rattle.oe_findings.specs.List.{findings_of}
+use Rattle.line_desk.proofs.QueryFacts.{found_told, ok_shown, on_ok}
+use Rattle.line_desk.specs.Desk.{serving}
+use Rattle.line_desk.proofs.fulfil.append_findings.Goals as goal
+
+pub returns-clause-ok : goal.returns-clause-ok
+returns-clause-ok g c =
+    on_ok c.append_found.result
+    (found_told g.K.Keeper.IsSteady g.K.Keeper.faults (serving c.args.clerk.now) _ _ c.args.filing.now c.accepted.result c.as_slice.result.now c.accepted.ensures
+    (c.as_slice.ensures ∙ ok_shown c.find.result c.if-is_err.ensures.value c.find.ensures.found ∙ ap (λ (xs : List Airfield). findings_of xs c.args.filing.now) c.sky.ensures)) c.append_found.ensures.ok

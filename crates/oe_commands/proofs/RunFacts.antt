@@ -1,0 +1,127 @@
+-- What the end of a session says of the status.
+use Rattle.std.proofs.Common.{ℕ, List, Option, refl, sym, ap, ◌≡◌, ◌≢◌, ◌∙◌, ◌⊎◌, inl, inr}
+use Rattle.line_session.specs.Session.{Answered, Begun, HasCauses, IsOfLines, WritesWhole}
+use Rattle.line_session.specs.declared.session.Ended.{Ended}
+use Rattle.line_session.specs.declared.session.Ended.TheVariants as endings
+use Rattle.oe_commands.specs.declared.status.Status.{Status}
+use Rattle.oe_commands.specs.declared.status.Status.TheVariants as statuses
+use Rattle.oe_commands.specs.Statuses.{status_of}
+use Rattle.line_session.specs.Machine.{Step}
+use Rattle.oe_keeper.specs.Kept.{Kept}
+use Rattle.oe_keeper.specs.declared.change.Table.{Table}
+use Rattle.line_desk.specs.Desk.{Plain, Serving, StepOver}
+use Rattle.line_desk.proofs.PlainFacts.{answered, front, read, begun}
+use Rattle.oe_commands.specs.Generating.{IsGenerateEnd}
+use Rattle.oe_http.specs.Causes.{Rose}
+use Rattle.oe_commands.specs.Runs.{IsSessionEnd, IsUntouched, RunCauses, SessionRun}
+
+-- the end of the session that a status tells of
+abbrev pub ending : Status → Ended
+ending statuses.Done = endings.Closed
+ending statuses.Usage = endings.Closed
+ending statuses.ReadFault = endings.ReadFault
+ending statuses.WriteFault = endings.WriteFault
+ending statuses.KeeperFault = endings.Closed
+ending (statuses.BadRow table key) = endings.Closed
+ending statuses.NoMemory = endings.NoMemory
+ending statuses.InputLong = endings.Long
+
+ending_of_status : (e : Ended) → IsOfLines e → ending (status_of e) ≡ e
+ending_of_status endings.Closed l = refl
+ending_of_status endings.Truncated l = absurd l
+ending_of_status (endings.Refused number) l = absurd l
+ending_of_status endings.ReadFault l = refl
+ending_of_status endings.WriteFault l = refl
+ending_of_status endings.Long l = refl
+ending_of_status endings.NoMemory l = refl
+
+pub told_by : (e : Ended) (s : Status) → IsOfLines e → status_of e ≡ s → e ≡ ending s
+told_by e s l h = sym (ending_of_status e l) ∙ ap ending h
+
+fault_or_long : (e : Ended) → IsOfLines e → (status_of e ≡ statuses.ReadFault) ⊎ (status_of e ≡ statuses.InputLong) → (e ≡ endings.ReadFault) ⊎ (e ≡ endings.Long)
+fault_or_long e l (inl h) = inl (told_by e statuses.ReadFault l h)
+fault_or_long e l (inr h) = inr (told_by e statuses.InputLong l h)
+
+pub session_run : {St : Type 0} (step : Step St) (opened : St) (e : Ended) (x y h k : Option (List ℕ)) → IsOfLines e → (e ≡ endings.Closed → (after : St) × Answered step opened after x h k)
+    → Begun step opened x h k → ((after : St) × WritesWhole step opened after e x y h k) → SessionRun step opened (status_of e) x y h k
+session_run step opened e x y h k l closed b (after, w) = record {
+  done = λ s. closed (told_by e statuses.Done l s);
+  begun = b;
+  read_to_end = λ s. w.read_to_end (told_by e statuses.Done l s);
+  whole = λ s. (after, w.whole (fault_or_long e l s));
+  memory = λ s. w.memory (told_by e statuses.NoMemory l s);
+}
+
+-- over a keeper that never fails no line is refused as not kept
+pub steady_run : {K : Type 0} (Tells : K → Kept → Type 0) (IsSteady : K → Type 0) (faults : K → ℕ) (s : Serving K) (status : Status) (x y h k : Option (List ℕ)) → IsSteady s.keeper
+    → SessionRun (StepOver Tells IsSteady faults) s status x y h k → SessionRun Plain s.state status x y h k
+steady_run Tells IsSteady faults s status x y h k steady r = record {
+  done = λ e. ((r.done e).0.state, answered Tells IsSteady faults s (r.done e).0 x h k steady (r.done e).1);
+  begun = begun Tells IsSteady faults s x h k steady r.begun;
+  read_to_end = r.read_to_end;
+  whole = λ e. ((r.whole e).0.state, read Tells IsSteady faults s (r.whole e).0 x y h k steady (r.whole e).1);
+  memory = λ e. front Tells IsSteady faults s x h k steady (r.memory e);
+}
+
+pub session_end : (e : Ended) → IsOfLines e → IsSessionEnd (status_of e)
+session_end endings.Closed l = tt
+session_end endings.Truncated l = tt
+session_end (endings.Refused number) l = tt
+session_end endings.ReadFault l = tt
+session_end endings.WriteFault l = tt
+session_end endings.Long l = tt
+session_end endings.NoMemory l = tt
+
+pub run_causes : (e : Ended) (x y : Option (List ℕ)) (r0 r1 w0 w1 : ℕ) → IsOfLines e → HasCauses e x y r0 r1 w0 w1 → RunCauses (status_of e) x y r0 r1 w0 w1
+run_causes e x y r0 r1 w0 w1 l h = record {
+  read = λ s. h.read (told_by e statuses.ReadFault l s);
+  write = λ s. h.write (told_by e statuses.WriteFault l s);
+  long = λ s. h.long (told_by e statuses.InputLong l s);
+}
+
+-- how a session ends a run it does not end otherwise
+pub no_usage : (s : Status) → IsSessionEnd s → s ≢ statuses.Usage
+no_usage statuses.Done e h = cc
+no_usage statuses.Usage e h = absurd e
+no_usage statuses.ReadFault e h = cc
+no_usage statuses.WriteFault e h = cc
+no_usage statuses.KeeperFault e h = absurd e
+no_usage (statuses.BadRow table key) e h = absurd e
+no_usage statuses.NoMemory e h = cc
+no_usage statuses.InputLong e h = cc
+
+pub no_fault : (s : Status) → IsSessionEnd s → s ≢ statuses.KeeperFault
+no_fault statuses.Done e h = cc
+no_fault statuses.Usage e h = absurd e
+no_fault statuses.ReadFault e h = cc
+no_fault statuses.WriteFault e h = cc
+no_fault statuses.KeeperFault e h = absurd e
+no_fault (statuses.BadRow table key) e h = absurd e
+no_fault statuses.NoMemory e h = cc
+no_fault statuses.InputLong e h = cc
+
+pub no_bad_row : (s : Status) → IsSessionEnd s → (t : Table) (k : List ℕ) → s ≢ statuses.BadRow t k
+no_bad_row statuses.Done e t k h = cc
+no_bad_row statuses.Usage e t k h = absurd e
+no_bad_row statuses.ReadFault e t k h = cc
+no_bad_row statuses.WriteFault e t k h = cc
+no_bad_row statuses.KeeperFault e t k h = absurd e
+no_bad_row (statuses.BadRow table key) e t k h = absurd e
+no_bad_row statuses.NoMemory e t k h = cc
+no_bad_row statuses.InputLong e t k h = cc
+
+pub touched : (s : Status) → IsSessionEnd s → IsUntouched s → ⊥
+touched statuses.Done e u = u
+touched statuses.Usage e u = e
+touched statuses.ReadFault e u = u
+touched statuses.WriteFault e u = u
+touched statuses.KeeperFault e u = e
+touched (statuses.BadRow table key) e u = e
+touched statuses.NoMemory e u = u
+touched statuses.InputLong e u = u
+
+-- a run that makes a desk by draws reads nothing
+pub generate_causes : (s : Status) (x y : Option (List ℕ)) (r0 r1 w0 w1 : ℕ) → IsGenerateEnd s → (s ≡ statuses.WriteFault → Rose w0 w1) → RunCauses s x y r0 r1 w0 w1
+generate_causes s x y r0 r1 w0 w1 (inl d) cause = record { read = λ e. cc; write = cause; long = λ e. cc }
+generate_causes s x y r0 r1 w0 w1 (inr (inl f)) cause = record { read = λ e. cc; write = cause; long = λ e. cc }
+generate_causes s x y r0 r1 w0 w1 (inr (inr m)) cause = record { read = λ e. cc; write = cause; long = λ e. cc }

@@ -1,0 +1,21 @@
+use Rattle.std.proofs.Common.{subst}
+use Rattle.line_session.specs.Session.{Answered, WritesWhole}
+use Rattle.line_desk.specs.Desk.{Serving, StepOver}
+use Rattle.oe_commands.proofs.run.session.Goals as goal
+
+pub returns-clause-closed : goal.returns-clause-closed
+returns-clause-closed g c = λ e. (
+  c.records.new.desk,
+  subst
+      (λ (s : Serving g.row.K.Denot). Answered (StepOver g.K.Keeper.Tells g.K.Keeper.IsSteady g.K.Keeper.faults) s c.records.new.desk (g.S.Source.left c.args.input.now) (g.O.Sink.held c.args.output.now) (g.O.Sink.held c.records.new.output))
+      c.over.ensures (c.records.ensures.closed e),
+)
+
+pub returns-clause-written : goal.returns-clause-written
+returns-clause-written g c = (
+  c.records.new.desk,
+  subst
+      (λ (s : Serving g.row.K.Denot).
+      WritesWhole (StepOver g.K.Keeper.Tells g.K.Keeper.IsSteady g.K.Keeper.faults) s c.records.new.desk c.records.result (g.S.Source.left c.args.input.now) (g.S.Source.left c.records.new.input) (g.O.Sink.held c.args.output.now) (g.O.Sink.held c.records.new.output))
+      c.over.ensures c.records.ensures.written,
+)

@@ -1,0 +1,80 @@
+-- The status of a run, and the bytes read and written by then.
+use Rattle.std.specs.Prelude.{ℕ, List, ◌≡◌, ◌⊎◌, Option}
+use Rattle.oe_http.specs.Causes.{Rose}
+use Rattle.oe_http.specs.declared.lines.TheConstants.{INPUT_LIMIT}
+use Rattle.oe_keeper.specs.Kept.{Kept, place}
+use Rattle.line_session.specs.Machine.{Step}
+use Rattle.line_session.specs.Session.{Answered, AnsweredFront, AnsweredRead, Begun, ReadToEnd, TookAtLeast}
+use Rattle.desk_tables.specs.Opening.{Opens, IsFirstBad}
+use Rattle.filing_desk.specs.Keepers.{IsLater}
+use Rattle.filing_desk.specs.Handed.{Told}
+use Rattle.line_desk.specs.Desk.{Plain, Serving, StepOver}
+use Rattle.oe_commands.specs.declared.status.Status.{Status}
+use Rattle.oe_commands.specs.declared.status.Status.TheVariants as statuses
+
+-- the bytes that a desk has read and written since it was opened, by the status
+pub record SessionRun {St : Type 0} (step : Step St) (opened : St) (status : Status) (input left held_old held_new : Option (List ℕ)) : Type 0 where
+  -- at `Done` the output is its old content and the reply to each line of the input, in order
+  pub done : status ≡ statuses.Done → (after : St) × Answered step opened after input held_old held_new
+  -- under every status it is its old content and a beginning of these replies
+  pub begun : Begun step opened input held_old held_new
+  -- at the end of the input nothing is left of it
+  pub read_to_end : status ≡ statuses.Done → ReadToEnd input left
+  -- at a fault of the input, or at its limit, each line that was read whole has its reply
+  pub whole : (status ≡ statuses.ReadFault) ⊎ (status ≡ statuses.InputLong) → (after : St) × AnsweredRead step opened after input left held_old held_new
+  -- where memory ran out, no part of a reply was written
+  pub memory : status ≡ statuses.NoMemory → AnsweredFront step opened input held_old held_new
+
+-- the statuses of a run after a session
+abbrev pub IsSessionEnd : Status → Type 0
+IsSessionEnd statuses.Done = Unit {0}
+IsSessionEnd statuses.Usage = ⊥
+IsSessionEnd statuses.ReadFault = Unit {0}
+IsSessionEnd statuses.WriteFault = Unit {0}
+IsSessionEnd statuses.KeeperFault = ⊥
+IsSessionEnd (statuses.BadRow table key) = ⊥
+IsSessionEnd statuses.NoMemory = Unit {0}
+IsSessionEnd statuses.InputLong = Unit {0}
+
+-- a desk was opened in the state of the rows that a load of the keeper may find at the path, and answered from there on
+pub record Served {K : Type 0} (Tells : K → Kept → Type 0) (Finds : K → Option (List ℕ) → Kept → Type 0) (IsSteady : K → Type 0) (faults : K → ℕ)
+    (keeper : K) (path : Option (List ℕ)) (status : Status) (input left held_old held_new : Option (List ℕ)) : Type 0 where
+  pub opened : Serving K
+  pub rows : Kept
+  pub found : Finds keeper path rows
+  pub opens : Opens rows opened.state
+  -- its keeper is that one, later, whose rows, where known, are those of the desk
+  pub later : IsLater IsSteady faults keeper opened.keeper
+  pub told : Told Tells opened.keeper opened.state
+  pub session : SessionRun (StepOver Tells IsSteady faults) opened status input left held_old held_new
+  -- over a keeper that never fails no line is refused for a fault of it
+  pub steady : IsSteady keeper → SessionRun Plain opened.state status input left held_old held_new
+  pub ended : IsSessionEnd status
+
+-- why no desk was opened: the keeper can fail; or a row is the first bad one of those that a load may find; or memory ran out
+abbrev pub IsUnopened : {K : Type 0} → (K → Option (List ℕ) → Kept → Type 0) → (K → Type 0) → K → Option (List ℕ) → Status → Type 0
+IsUnopened {K} Finds IsSteady keeper path statuses.Done = ⊥
+IsUnopened {K} Finds IsSteady keeper path statuses.Usage = ⊥
+IsUnopened {K} Finds IsSteady keeper path statuses.ReadFault = ⊥
+IsUnopened {K} Finds IsSteady keeper path statuses.WriteFault = ⊥
+IsUnopened {K} Finds IsSteady keeper path statuses.KeeperFault = IsSteady keeper → ⊥
+IsUnopened {K} Finds IsSteady keeper path (statuses.BadRow table key) = (rows : Kept) × Finds keeper path rows × IsFirstBad rows (place table, key)
+IsUnopened {K} Finds IsSteady keeper path statuses.NoMemory = Unit {0}
+IsUnopened {K} Finds IsSteady keeper path statuses.InputLong = ⊥
+
+-- the statuses at which no stream was touched
+abbrev pub IsUntouched : Status → Type 0
+IsUntouched statuses.Done = ⊥
+IsUntouched statuses.Usage = Unit {0}
+IsUntouched statuses.ReadFault = ⊥
+IsUntouched statuses.WriteFault = ⊥
+IsUntouched statuses.KeeperFault = Unit {0}
+IsUntouched (statuses.BadRow table key) = Unit {0}
+IsUntouched statuses.NoMemory = ⊥
+IsUntouched statuses.InputLong = ⊥
+
+-- why a run ended so: a fault of a stream is reported only where its count rose, and a long input only at its limit
+pub record RunCauses (status : Status) (input left : Option (List ℕ)) (read_old read_new write_old write_new : ℕ) : Type 0 where
+  pub read : status ≡ statuses.ReadFault → Rose read_old read_new
+  pub write : status ≡ statuses.WriteFault → Rose write_old write_new
+  pub long : status ≡ statuses.InputLong → TookAtLeast INPUT_LIMIT input left

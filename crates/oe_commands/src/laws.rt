@@ -1,0 +1,34 @@
+//! Runs where nothing is stored.
+
+ghost use Rattle.std.specs.Prelude.{◌≡◌, ◌≢◌, List, ℕ, Option};
+ghost use Rattle.oe_keeper.specs.declared.change.Table.{Table};
+ghost use Rattle.desk_machine.specs.States.{empty};
+ghost use Rattle.line_desk.specs.Desk.{Plain};
+ghost use Rattle.oe_commands.specs.Commands.{IsDesk};
+ghost use Rattle.oe_commands.specs.Runs.{SessionRun};
+ghost use Rattle.oe_commands.specs.declared.status.Status.TheVariants as statuses;
+
+use crate::run::run;
+use crate::status::Status;
+use crate::words::Words;
+use desk_tables::opened_empty;
+use oe_http::{Sink, Source};
+use oe_keeper::NoKeeper;
+use std::alloc::Global;
+
+/// Runs over a keeper that stores nothing. The desk then starts empty, and no line is refused because of a keeper's fault.
+pub fn run_unkept<S: Source, O: Sink>(
+    alloc: Global,
+    words: &Words,
+    input: &mut S,
+    output: &mut O,
+) -> Status
+    ensures desk { (path : Option (List ℕ)) → IsDesk words.now path
+        → SessionRun Plain empty result (S.left input.old) (S.left input.new) (O.held output.old)
+        (O.held output.new) }
+    ensures fault { result ≢ Status.KeeperFault }
+    ensures bad_row { (table : Table) (key : List ℕ) → result ≢ statuses.BadRow table key }
+{
+    opened_empty();
+    run(alloc, words, NoKeeper, input, output)
+}

@@ -1,0 +1,155 @@
+//! The top-level function of the program.
+
+ghost use Rattle.std.specs.Prelude.{◌≡◌, ◌≢◌, ◌<◌, ◌⊎◌, List, ℕ, Option, option_copied};
+ghost use Rattle.oe_keeper.specs.Kept.{Kept, place};
+ghost use Rattle.oe_keeper.specs.declared.change.Table.{Table};
+ghost use Rattle.desk_tables.specs.Opening.{IsFirstBad};
+ghost use Rattle.line_session.specs.Session.{Answered, Begun, HasCauses, IsOfLines, WritesWhole};
+ghost use Rattle.filing_desk.specs.Handed.{Told};
+ghost use Rattle.line_desk.specs.Desk.{Plain, Serving, StepOver, serving};
+ghost use Rattle.oe_commands.specs.Commands.{IsDesk, IsGenerate, TellsUsage};
+ghost use Rattle.oe_commands.specs.Generating.{GenerateWrites, IsGenerateEnd};
+ghost use Rattle.oe_commands.specs.Runs.{IsSessionEnd, IsUnopened, IsUntouched, RunCauses, Served, SessionRun};
+ghost use Rattle.oe_commands.specs.declared.status.Status.TheVariants as statuses;
+
+use crate::generate::generate;
+use crate::status::{Status, ended_status, refused_status};
+use crate::words::{Command, Words};
+use filing_desk::Clerk;
+use line_desk::LineDesk;
+use line_session::{Ended, records};
+use oe_http::{Sink, Source};
+use oe_keeper::Keeper;
+use std::alloc::Global;
+use std::marker::Brand;
+use std::sync::ledger::{Blank, Ledger};
+
+/// Runs the session of a desk over this clerk, whose steps are counted in the ledger that `blank` opens.
+fn session<K: Keeper + Drop, L: Ledger, S: Source, O: Sink>(
+    alloc: Global,
+    clerk: Clerk<K>,
+    blank: Blank,
+    input: &mut S,
+    output: &mut O,
+) -> Ended
+    requires name { blank.name ≡ L.name }
+    requires parts { blank.parts ≡ L.parts }
+    requires some { 0 < L.parts }
+    ensures closed { result ≡ Ended.Closed
+        → (after : Serving K) × Answered (StepOver K.Tells K.IsSteady K.faults) (serving clerk)
+        after (S.left input.old) (O.held output.old) (O.held output.new) }
+    ensures begun { Begun (StepOver K.Tells K.IsSteady K.faults) (serving clerk)
+        (S.left input.old) (O.held output.old) (O.held output.new) }
+    ensures written { (after : Serving K)
+        × WritesWhole (StepOver K.Tells K.IsSteady K.faults) (serving clerk) after result
+        (S.left input.old) (S.left input.new) (O.held output.old) (O.held output.new) }
+    ensures lines { IsOfLines result }
+    ensures causes { HasCauses result (S.left input.old) (S.left input.new)
+        (S.faults input.old) (S.faults input.new) (O.faults output.old) (O.faults output.new) }
+{
+    records(
+        alloc,
+        &mut LineDesk::<K, L>::over(alloc, clerk, blank),
+        input,
+        output,
+    )
+}
+
+/// Runs the session of a desk over this clerk, and returns the status of the run.
+#[tactic(auto, using(crate::proofs::RunFacts::session_run, crate::proofs::RunFacts::session_end, crate::proofs::RunFacts::run_causes))]
+fn serve<K: Keeper + Drop, S: Source, O: Sink>(
+    alloc: Global,
+    clerk: Clerk<K>,
+    input: &mut S,
+    output: &mut O,
+) -> Status
+    ensures session { SessionRun (StepOver K.Tells K.IsSteady K.faults) (serving clerk) result
+        (S.left input.old) (S.left input.new) (O.held output.old) (O.held output.new) }
+    ensures steady { K.IsSteady clerk.keeper
+        → SessionRun Plain clerk.state result
+        (S.left input.old) (S.left input.new) (O.held output.old) (O.held output.new) }
+    ensures told { Told K.Tells clerk.keeper clerk.state }
+    ensures end { IsSessionEnd result }
+    ensures causes { RunCauses result (S.left input.old) (S.left input.new)
+        (S.faults input.old) (S.faults input.new) (O.faults output.old) (O.faults output.new) }
+{
+    // what the keeper tells are the rows of the clerk
+    clerk.keeper();
+    ended_status(session::<K, Brand, S, O>(alloc, clerk, Blank::new(1), input, output))
+}
+
+/// Opens the desk from the tables that its keeper has at a path, and answers each line of the input.
+fn serve_kept<K: Keeper + Drop, S: Source, O: Sink>(
+    alloc: Global,
+    keeper: K,
+    path: Option<&str>,
+    input: &mut S,
+    output: &mut O,
+) -> Status
+    ensures desk { Served K.Tells K.Finds K.IsSteady K.faults keeper
+        (option_copied path.entry) result
+        (S.left input.old) (S.left input.new) (O.held output.old) (O.held output.new)
+        ⊎ (IsUnopened K.Finds K.IsSteady keeper (option_copied path.entry) result
+        × (input.new ≡ input.old) × (output.new ≡ output.old)) }
+    ensures usage { result ≢ Status.Usage }
+    ensures fault { K.IsSteady keeper → result ≢ Status.KeeperFault }
+    ensures bad_row { (table : Table) (key : List ℕ) → result ≡ statuses.BadRow table key
+        → (rows : Kept) × K.Finds keeper (option_copied path.entry) rows
+        × IsFirstBad rows (place table, key) }
+    ensures untouched { IsUntouched result → (input.new ≡ input.old) × (output.new ≡ output.old) }
+    ensures causes { RunCauses result (S.left input.old) (S.left input.new)
+        (S.faults input.old) (S.faults input.new) (O.faults output.old) (O.faults output.new) }
+{
+    match Clerk::open(alloc, keeper, path) {
+        Ok(clerk) => serve(alloc, clerk, input, output),
+        Err(refusal) => refused_status(refusal),
+    }
+}
+
+/// Runs the program. With the word `desk` a desk answers each line of the input, in order; it is opened from the tables that its keeper
+/// has at the path of `--db`, or at none. With `generate SEED COUNT` a desk is generated, and its counts are written in one line.
+///
+/// Where the bytes of the input or the output are not known, as with the system's streams, the clauses on bytes say nothing.
+#[tactic(auto, using(crate::proofs::RunFacts::generate_causes))]
+pub fn run<K: Keeper + Drop, S: Source, O: Sink>(
+    alloc: Global,
+    words: &Words,
+    keeper: K,
+    input: &mut S,
+    output: &mut O,
+) -> Status
+    // A desk was opened in the state of the rows that its keeper has, and its output is the replies from there on, of which none is that a
+    // change was not kept where the keeper never fails; or none was opened, and both streams are as they were.
+    ensures desk { (path : Option (List ℕ)) → IsDesk words.now path
+        → Served K.Tells K.Finds K.IsSteady K.faults keeper path result
+        (S.left input.old) (S.left input.new) (O.held output.old) (O.held output.new)
+        ⊎ (IsUnopened K.Finds K.IsSteady keeper path result
+        × (input.new ≡ input.old) × (output.new ≡ output.old)) }
+    // A keeper that never fails is not reported to have failed.
+    ensures fault { K.IsSteady keeper → result ≢ Status.KeeperFault }
+    // The row that is named is the first bad one of those that a load may find.
+    ensures bad_row { (table : Table) (key : List ℕ) → result ≡ statuses.BadRow table key
+        → (path : Option (List ℕ)) × IsDesk words.now path
+        × ((rows : Kept) × K.Finds keeper path rows × IsFirstBad rows (place table, key)) }
+    // The line of a desk that was made by draws, and how that command ends.
+    ensures generated { (seed count : ℕ) → IsGenerate words.now seed count
+        → GenerateWrites seed count result (O.held output.old) (O.held output.new) }
+    ensures ended { (seed count : ℕ) → IsGenerate words.now seed count → IsGenerateEnd result }
+    // Usage is the status exactly where the words are no command.
+    ensures usage { TellsUsage words.now result }
+    // At `Usage`, and where a keeper failed or a row is bad, both streams are unchanged, known or not: nothing was read and
+    // nothing written.
+    ensures untouched { IsUntouched result → (input.new ≡ input.old) × (output.new ≡ output.old) }
+    // Only a desk reads.
+    ensures unread { ((path : Option (List ℕ)) → IsDesk words.now path → ⊥)
+        → input.new ≡ input.old }
+    // A fault is reported only where that stream's count of faults rose.
+    ensures causes { RunCauses result (S.left input.old) (S.left input.new)
+        (S.faults input.old) (S.faults input.new) (O.faults output.old) (O.faults output.new) }
+{
+    match words.asks_for() {
+        None => Status::Usage,
+        Some(Command::Desk { file }) => serve_kept(alloc, keeper, file, input, output),
+        Some(Command::Generate { seed, count }) => generate(alloc, seed, count, output),
+    }
+}

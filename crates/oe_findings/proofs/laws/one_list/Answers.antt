@@ -1,0 +1,5 @@
+use Rattle.airfield_plots.proofs.Once.{areas_same}
+use Rattle.oe_findings.proofs.laws.one_list.Goals as goal
+
+pub returns : goal.returns
+returns w = areas_same

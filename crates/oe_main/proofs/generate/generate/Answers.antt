@@ -1,5 +1,0 @@
-use Rattle.oe_main.proofs.GenerateFacts.{none_made}
-use Rattle.oe_main.proofs.generate.generate.Goals as goal
-
-pub returns-in_default-clause-writes : goal.returns-in_default-clause-writes
-returns-in_default-clause-writes g c = none_made _ _ _

@@ -1,0 +1,109 @@
+-- What an act that has a record comes to on a desk that rows can tell.
+use Rattle.std.proofs.Common.{◌+◌, ◌≡◌, refl, sym, ap, ◌∙◌, subst, arith, ℕ, List, All, length, slice_get, Option, Some, None, IfSome, Result, Ok}
+use Rattle.std.specs.Option.{option_map}
+use Rattle.std.proofs.lemmas.Option.{same_Some, none-some}
+use Rattle.jiff_core.specs.declared.civil.date.Date.{Date}
+use Rattle.airfields.specs.Sites.{Site}
+use Rattle.airfields.specs.declared.airfield.Airfield.{Airfield}
+use Rattle.airport_register.specs.Registers.{IsRegister}
+use Rattle.oe_findings.specs.List.{findings_of}
+use Rattle.determination_dates.specs.Days.{IsLimited}
+use Rattle.case_requests.specs.declared.act.Act.{Act}
+use Rattle.case_requests.specs.declared.act.Act.TheVariants as acts
+use Rattle.case_records.specs.declared.refusal.Refusal.{Refusal}
+use Rattle.case_records.specs.declared.case.KeptCase.{KeptCase}
+use Rattle.case_records.specs.declared.case.KeptList.{KeptList}
+use Rattle.case_acts.specs.declared.effect.Effect.{Effect}
+use Rattle.case_acts.specs.Rulings.{ruling}
+use Rattle.case_acts.specs.Rules.{form_rules, determination_rules, petition_rules, disposal_rules, extension_rules, fcc_rules, abandon_rules}
+use Rattle.case_acts.specs.Effects.{filing_effect, form_came, determination_effect, petition_effect, disposal_effect, extension_effect, license_effect, abandonment_effect}
+use Rattle.wire_cursor.specs.Groups.{IsValidSite}
+use Rattle.wire_requests.specs.Limits.{IsChangeRecord}
+use Rattle.row_cases.specs.Entries.{IsList}
+use Rattle.row_cases.specs.Filings.{IsPlainCase}
+use Rattle.reachable_desks.specs.Names.{IsNamed}
+use Rattle.desk_machine.specs.States.{State, case_at, last_number}
+use Rattle.desk_machine.specs.Evaluations.{basis_of, own_list, site_of}
+use Rattle.desk_machine.specs.Machine.{ruling_of_act, on_day, on_kept, on_list, file_rules, day_rules}
+use Rattle.desk_machine.proofs.Going.{came, ok_same, on_case_shown, on_day_shown}
+use Rattle.reachable_desks.specs.Desks.{IsDesk, IsCaseOf}
+use Rattle.reachable_desks.proofs.AmendmentNames.{names_put}
+use Rattle.reachable_desks.proofs.PlainEffects.{IsPlainEffect, life_plain}
+use Rattle.reachable_desks.proofs.CaseActs.{petition_plain, disposal_plain, extension_plain, license_plain, abandonment_plain, asked}
+use Rattle.reachable_desks.proofs.CaseStarts.{file_plain, form_plain, determination_plain}
+use Rattle.reachable_desks.proofs.NewCases.{case_found}
+
+-- the law of lists of findings
+abbrev pub FindingsAreTold : Type 0
+FindingsAreTold = (register : List Airfield) (site : Site) → IsRegister register → All IsNamed register → IsValidSite site → IsList (findings_of register site)
+
+day_limited : (o : Option Date) (today : Date) → IfSome o IsLimited → o ≡ Some today → IsLimited today
+day_limited o today h is = subst (λ d. IfSome d IsLimited) is h
+
+-- the case of a number is plain
+plain_at : (s : State) (number : ℕ) (c : KeptCase) → IsDesk s → case_at s.cases number ≡ Some c → IsPlainCase c
+plain_at s number c h at = (case_found (IsCaseOf (length s.entries)) s.cases number c h.cases at).plain
+
+ruled_some : (broken : List Refusal) (o : Option Effect) (e : Effect) → ruling broken o ≡ Ok e → o ≡ Some e
+ruled_some broken o e is = (came (slice_get broken 0) o e is).some
+
+list_shown : (s : State) (o : Option KeptCase) (c : KeptCase) (act : KeptList → Result Effect Refusal) (e : Effect) (P : Type 0) → o ≡ Some c
+    → (act (own_list s c.submission.filing) ≡ Ok e → P)
+    → on_list (option_map (own_list s) (option_map site_of o)) act ≡ Ok e → P
+list_shown s None c act e P at f is = absurd (none-some c at)
+list_shown s (Some d) c act e P at f is = f (ap act (ap (λ (x : KeptCase). own_list s x.submission.filing) (sym (same_Some d c at))) ∙ is)
+
+-- an act on a case, on a day within the limit
+on_case_plain : (s : State) (a : Act) (number : ℕ) (act : Date → KeptCase → Result Effect Refusal) (e : Effect) → IsDesk s
+    → ((today : Date) (c : KeptCase) → IsLimited today → case_at s.cases number ≡ Some c → IsPlainCase c → act today c ≡ Ok e → IsPlainEffect s a e)
+    → on_day s.day (λ today. on_kept (case_at s.cases number) (act today)) ≡ Ok e → IsPlainEffect s a e
+on_case_plain s a number act e h f is =
+    on_case_shown s number act e (IsPlainEffect s a e)
+    (λ today c day at k. f today c (day_limited s.day today h.day day) at (plain_at s number c h at) k) is
+
+pub acted_plain : (s : State) (caller key : List ℕ) (a : Act) (e : Effect) → FindingsAreTold → IsDesk s
+    → IsChangeRecord (record { caller = caller; key = key; act = a })
+    → ruling_of_act s (basis_of s (last_number s) None a) a ≡ Ok e → IsPlainEffect s a e
+acted_plain s caller key (acts.Amend a) e told h q is =
+    subst (IsPlainEffect s (acts.Amend a)) (ok_same _ e is) (record { led = refl; list = omega arith; step = names_put caller key a q.shape })
+acted_plain s caller key (acts.Day d) e told h q is =
+    subst (IsPlainEffect s (acts.Day d)) (same_Some _ e (ruled_some (day_rules s.day d) _ e is)) (record { led = refl; list = omega arith; step = q.valid })
+acted_plain s caller key (acts.Closed d) e told h q is =
+    subst (IsPlainEffect s (acts.Closed d)) (ok_same _ e is) (record { led = refl; list = omega arith; step = q.valid })
+acted_plain s caller key (acts.File n) e told h q is =
+    on_day_shown s.day _ e (IsPlainEffect s (acts.File n) e)
+    (λ today day k.
+    let shown = came (slice_get (file_rules s.cases) 0) (filing_effect (length s.cases + 1) today n) e k in
+    file_plain s today n e day (day_limited s.day today h.day day) q.valid shown.none shown.some) is
+acted_plain s caller key (acts.Form number) e told h q is =
+    on_case_plain s (acts.Form number) number _ e h
+    (λ today c day at plain k. form_plain s number today c e day plain (same_Some (form_came number today c) e (ruled_some (form_rules c) _ e k))) is
+acted_plain s caller key (acts.Determine number finding) e told h q is =
+    on_case_plain s (acts.Determine number finding) number _ e h
+    (λ today c day at plain k. list_shown s (case_at s.cases number) c _ e (IsPlainEffect s (acts.Determine number finding) e) at
+    (λ m.
+    let site = c.submission.filing in
+    let kept = own_list s site in
+    determination_plain s number finding today c kept e day (omega arith) h.counted (told s.register site h.register h.named plain.submission.filing)
+    (ruled_some (determination_rules finding kept today c) (determination_effect number finding s.closed kept today c) e m)) k) is
+acted_plain s caller key (acts.Petition number party) e told h q is =
+    on_case_plain s (acts.Petition number party) number _ e h
+    (λ today c day at plain k. life_plain s (acts.Petition number party) number c e at
+    (petition_plain number party c e plain (ruled_some (petition_rules today c) (petition_effect number c) e k))) is
+acted_plain s caller key (acts.Dispose number affirm) e told h q is =
+    on_case_plain s (acts.Dispose number affirm) number _ e h
+    (λ today c day at plain k. life_plain s (acts.Dispose number affirm) number c e at
+    (disposal_plain number affirm today c e day plain (ruled_some (disposal_rules today c) (disposal_effect number affirm today c) e k))) is
+acted_plain s caller key (acts.Extend number months started filing warranted) e told h q is =
+    on_case_plain s (acts.Extend number months started filing warranted) number _ e h
+    (λ today c day at plain k. life_plain s (acts.Extend number months started filing warranted) number c e at
+    (extension_plain number months started filing warranted c e q.valid.1 q.valid.2 plain
+    (ruled_some (extension_rules (asked months started filing warranted) today c) (extension_effect number (asked months started filing warranted) c) e k))) is
+acted_plain s caller key (acts.Fcc number completion) e told h q is =
+    on_case_plain s (acts.Fcc number completion) number _ e h
+    (λ today c day at plain k. life_plain s (acts.Fcc number completion) number c e at
+    (license_plain number completion today c e q.valid.1 day plain (ruled_some (fcc_rules today c) (license_effect number completion today c) e k))) is
+acted_plain s caller key (acts.Abandon number) e told h q is =
+    on_case_plain s (acts.Abandon number) number _ e h
+    (λ today c day at plain k. life_plain s (acts.Abandon number) number c e at
+    (abandonment_plain number c e plain (same_Some (abandonment_effect number c) e (ruled_some (abandon_rules today c) (Some (abandonment_effect number c)) e k)))) is

@@ -1,0 +1,15 @@
+pub mod RowsCounted
+pub mod CaseKeys
+pub mod ClosedSets
+pub mod OneReading
+pub mod RowNames
+pub mod PartsOf
+pub mod FieldRows
+pub mod DayRows
+pub mod CaseRows
+pub mod RequestsIn
+pub mod NoneWanting
+pub mod NotAlone
+pub mod SameDesks
+pub mod OpensAgain
+pub mod Telling

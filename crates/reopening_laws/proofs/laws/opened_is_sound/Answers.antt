@@ -1,0 +1,11 @@
+use Rattle.reopening_laws.proofs.OneReading.{no_first_bad}
+use Rattle.reopening_laws.proofs.laws.opened_is_sound.Goals as goal
+
+pub returns : goal.returns
+returns c = no_first_bad (record {
+  airfields = c.one_airfield_row.ensures;
+  runways = c.one_runway_row.ensures;
+  days = c.one_desk_row.ensures;
+  cases = c.one_filing_row.ensures;
+  requests = c.one_receipt_row.ensures;
+})

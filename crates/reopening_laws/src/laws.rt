@@ -1,0 +1,56 @@
+//! Laws of desks opened from their rows.
+
+ghost use Rattle.std.specs.Prelude.{◌≡◌};
+ghost use Rattle.desk_tables.specs.Opening.{IsFirstBad, Opens};
+ghost use Rattle.desk_tables.specs.Rows.{AreRows};
+ghost use Rattle.desk_machine.specs.States.{State};
+ghost use Rattle.oe_keeper.specs.Kept.{Kept, Key};
+ghost use Rattle.reachable_desks.specs.Desks.{IsDesk};
+
+use reachable_desks::{
+    airport_comes, all_is_whole, heliport_comes, names_go_on, nothing_is_part, register_goes_on,
+    runway_comes,
+};
+use row_cases::one_filing_row;
+use row_receipts::one_receipt_row;
+use row_register::{one_airfield_row, one_desk_row, one_runway_row};
+
+/// The rows of a desk open as the same desk.
+pub fn reopens()
+    ensures { (s : State) (kept : Kept) → IsDesk s → AreRows s kept → Opens kept s }
+{
+    one_airfield_row();
+    one_runway_row();
+    one_desk_row();
+    one_filing_row();
+    one_receipt_row();
+    register_goes_on();
+    names_go_on();
+    nothing_is_part();
+    airport_comes();
+    heliport_comes();
+    runway_comes();
+    all_is_whole();
+}
+
+/// Tables open as at most one desk.
+pub fn opened_is_one()
+    ensures { (s t : State) (kept : Kept) → Opens kept s → Opens kept t → s ≡ t }
+{
+    one_airfield_row();
+    one_runway_row();
+    one_desk_row();
+    one_filing_row();
+    one_receipt_row();
+}
+
+/// Tables that open as a desk have no bad row.
+pub fn opened_is_sound()
+    ensures { (s : State) (kept : Kept) (k : Key) → Opens kept s → IsFirstBad kept k → ⊥ }
+{
+    one_airfield_row();
+    one_runway_row();
+    one_desk_row();
+    one_filing_row();
+    one_receipt_row();
+}

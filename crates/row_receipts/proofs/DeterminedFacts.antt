@@ -1,0 +1,147 @@
+-- Determinations and their fields.
+use Rattle.std.proofs.Common.{arith, ℕ, ◌≡◌, ◌≢◌, ◌<◌, ◌==◌, ◌^◌, List, [], ◌∷◌, ◌++◌, take, length, Option, All, codes, refl, ap, sym, subst, ◌∙◌, append_assoc, append-nil}
+use Rattle.std.specs.Fmt.{decimal}
+use Rattle.std.proofs.lemmas.List.{append_cancel_left}
+use Rattle.std.proofs.lemmas.List.Elements.{All-head, All-tail}
+use Rattle.std.proofs.lemmas.List.Splits.{slice_split_at}
+use Rattle.jiff_core.specs.declared.civil.date.Date.{Date}
+use Rattle.finding_lists.specs.declared.finding.Finding.{Finding}
+use Rattle.determination_dates.specs.Days.{IsLimited}
+use Rattle.determination_dates.specs.Text.{date_text}
+use Rattle.determination_dates.specs.declared.determination.Decision.{Decision}
+use Rattle.case_records.specs.declared.outcome.Outcome.{Outcome}
+use Rattle.case_records.specs.declared.outcome.Outcome.TheVariants as outcomes
+use Rattle.wire_values.specs.Commas.{joined, with_commas}
+use Rattle.wire_values.specs.Words.{decision_word, optional_date, IsAnyLimited}
+use Rattle.wire_values.proofs.FieldFacts.{short_word}
+use Rattle.wire_replies.specs.States.{date_word, day_text}
+use Rattle.wire_replies.specs.Entries.{entries_text, list_text}
+use Rattle.wire_replies.specs.Outcomes.{determined_fields, determined_text, outcome_text}
+use Rattle.row_register.specs.Parts.{parts_of}
+use Rattle.row_register.proofs.PartFacts.{IsUncut, parts_joined}
+use Rattle.row_register.proofs.FieldShapes.{uncut}
+use Rattle.row_cases.specs.Entries.{IsList}
+use Rattle.row_receipts.specs.Kinds.{IsDetermined}
+use Rattle.row_receipts.specs.Fields.{issued_fields}
+use Rattle.row_receipts.proofs.Words.{day_is, decision_short}
+use Rattle.row_receipts.proofs.KindFacts.{each, number_uncut, date_uncut, optional_uncut}
+
+-- ---- fields behind others
+
+with_commas_append : (xs ys : List (List ℕ)) → with_commas (xs ++ ys) ≡ with_commas xs ++ with_commas ys
+with_commas_append [] ys = refl
+with_commas_append (x ∷ xs) ys = ap (λ t. (44 ∷ x) ++ t) (with_commas_append xs ys) ∙ sym (append_assoc (44 ∷ x) (with_commas xs) (with_commas ys))
+
+joined_append : (x : List ℕ) (xs ys : List (List ℕ)) → joined (x ∷ (xs ++ ys)) ≡ joined (x ∷ xs) ++ with_commas ys
+joined_append x xs ys = ap (λ t. x ++ t) (with_commas_append xs ys) ∙ sym (append_assoc x (with_commas xs) (with_commas ys))
+
+-- the parts of fields with a text behind them
+parts_before : (first : List ℕ) (more : List (List ℕ)) (tail : List ℕ) → All IsUncut (first ∷ more) → parts_of 44 (joined (first ∷ more) ++ 44 ∷ tail) ≡ first ∷ (more ++ parts_of 44 tail)
+parts_before first [] tail h =
+    ap (λ t. parts_of 44 (t ++ 44 ∷ tail)) (append-nil first) ∙ slice_split_at (λ b. b == 44) first 44 tail (All-head IsUncut first [] h) refl
+parts_before first (f ∷ fs) tail h =
+    ap (parts_of 44) (append_assoc first (44 ∷ joined (f ∷ fs)) (44 ∷ tail))
+    ∙ slice_split_at (λ b. b == 44) first 44 (joined (f ∷ fs) ++ 44 ∷ tail) (All-head IsUncut first (f ∷ fs) h) refl
+    ∙ ap (λ parts. first ∷ parts) (parts_before f fs tail (All-tail IsUncut first (f ∷ fs) h))
+
+-- ---- a determination before its list
+
+-- its fields behind the first
+abbrev more_fields : ℕ → Decision → ℕ → Date → Option Date → Option Date → Option Date → List (List ℕ)
+more_fields n decision last issued deadline effective expiry = decimal n ∷ decision_word decision ∷ decimal last ∷ date_text issued
+    ∷ optional_date deadline ∷ optional_date effective ∷ optional_date expiry ∷ []
+
+determined_same : (n : ℕ) (decision : Decision) (last : ℕ) (issued : Date) (deadline effective expiry : Option Date)
+    → determined_fields n decision last issued deadline effective expiry ≡ issued_fields n decision last issued deadline effective expiry
+unfolding date_word
+determined_same n decision last issued deadline effective expiry =
+    let head : List (List ℕ) → List (List ℕ) = λ days. codes "determine" ∷ decimal n ∷ decision_word decision ∷ decimal last ∷ date_text issued ∷ days in
+    ap (λ d. head (d ∷ day_text effective ∷ day_text expiry ∷ [])) (day_is deadline)
+    ∙ ap (λ d. head (optional_date deadline ∷ d ∷ day_text expiry ∷ [])) (day_is effective)
+    ∙ ap (λ d. head (optional_date deadline ∷ optional_date effective ∷ d ∷ [])) (day_is expiry)
+
+-- the text of a determination, with its dates as records spell them
+pub text_same : (n : ℕ) (decision : Decision) (last : ℕ) (issued : Date) (deadline effective expiry : Option Date) (list : List Finding)
+    → determined_text n decision last issued deadline effective expiry list ≡ joined (issued_fields n decision last issued deadline effective expiry) ++ list_text list
+text_same n decision last issued deadline effective expiry list = ap (λ fields. joined fields ++ list_text list) (determined_same n decision last issued deadline effective expiry)
+
+-- the values of a determination are within their limits
+pub record AreIssued (n last : ℕ) (issued : Date) (deadline effective expiry : Option Date) : Type 0 where
+  pub number : n < 2 ^ 32
+  pub last_small : last < 2 ^ 64
+  pub issued_in : IsLimited issued
+  pub deadline_in : IsAnyLimited deadline
+  pub effective_in : IsAnyLimited effective
+  pub expiry_in : IsAnyLimited expiry
+
+issued_uncut : (n : ℕ) (decision : Decision) (last : ℕ) (issued : Date) (deadline effective expiry : Option Date) → AreIssued n last issued deadline effective expiry
+    → All IsUncut (issued_fields n decision last issued deadline effective expiry)
+issued_uncut n decision last issued deadline effective expiry h =
+    each (issued_fields n decision last issued deadline effective expiry) (
+      uncut (codes "determine") (short_word _ (omega arith) (omega arith) refl),
+      (
+        number_uncut n (omega (arith, h.number)),
+        (
+          uncut (decision_word decision) (decision_short decision),
+          (
+            number_uncut last h.last_small,
+            (date_uncut issued h.issued_in, (optional_uncut deadline h.deadline_in, (optional_uncut effective h.effective_in, (optional_uncut expiry h.expiry_in, tt)))),
+          ),
+        ),
+      ),
+    )
+
+-- the parts of a list's text behind its comma
+abbrev pub list_parts : List Finding → List (List ℕ)
+list_parts list = parts_of 44 (decimal (length list) ++ entries_text list)
+
+pub determined_parts : (text : List ℕ) (n : ℕ) (decision : Decision) (last : ℕ) (issued : Date) (deadline effective expiry : Option Date) (list : List Finding)
+    → AreIssued n last issued deadline effective expiry → text ≡ determined_text n decision last issued deadline effective expiry list
+    → parts_of 44 text ≡ issued_fields n decision last issued deadline effective expiry ++ list_parts list
+determined_parts text n decision last issued deadline effective expiry list h e =
+    ap (parts_of 44) (e ∙ text_same n decision last issued deadline effective expiry list)
+    ∙ parts_before (codes "determine") (more_fields n decision last issued deadline effective expiry) (decimal (length list) ++ entries_text list) (issued_uncut n decision last issued deadline effective expiry h)
+
+-- a text with these parts
+read_text : (text : List ℕ) (n : ℕ) (decision : Decision) (last : ℕ) (issued : Date) (deadline effective expiry : Option Date) (rest : List (List ℕ))
+    → parts_of 44 text ≡ issued_fields n decision last issued deadline effective expiry ++ rest
+    → text ≡ joined (issued_fields n decision last issued deadline effective expiry) ++ with_commas rest
+read_text text n decision last issued deadline effective expiry rest e =
+    parts_joined text _ _ e ∙ joined_append (codes "determine") (more_fields n decision last issued deadline effective expiry) rest
+
+pub determined_told : (text : List ℕ) (n : ℕ) (decision : Decision) (last : ℕ) (issued : Date) (deadline effective expiry : Option Date) (rest : List (List ℕ)) (list : List Finding)
+    → parts_of 44 text ≡ issued_fields n decision last issued deadline effective expiry ++ rest → with_commas rest ≡ list_text list
+    → text ≡ determined_text n decision last issued deadline effective expiry list
+determined_told text n decision last issued deadline effective expiry rest list e told =
+    read_text text n decision last issued deadline effective expiry rest e
+    ∙ ap (λ t. joined (issued_fields n decision last issued deadline effective expiry) ++ t) told
+    ∙ sym (text_same n decision last issued deadline effective expiry list)
+
+-- a text that tells no determination before a list
+
+pub no_issued : (text : List ℕ) (n : ℕ) → n < 2 ^ 32
+    → ((decision : Decision) (last : ℕ) (issued : Date) (deadline effective expiry : Option Date) (rest : List (List ℕ)) → last < 2 ^ 64 → IsLimited issued → IsAnyLimited deadline
+    → IsAnyLimited effective → IsAnyLimited expiry → parts_of 44 text ≢ issued_fields n decision last issued deadline effective expiry ++ rest)
+    → (v : Outcome) → IsDetermined n v → text ≢ outcome_text v
+no_issued text n small misses (outcomes.Determined number decision last issued deadline effective expiry list) good e =
+    let e' = subst (λ m. text ≡ determined_text m decision last issued deadline effective expiry list) good.0 e in
+    let h : AreIssued n last issued deadline effective expiry =
+    record { number = small; last_small = good.1; issued_in = good.2; deadline_in = good.3; effective_in = good.4; expiry_in = good.5 } in
+    misses decision last issued deadline effective expiry _ good.1 good.2 good.3 good.4 good.5 (determined_parts text n decision last issued deadline effective expiry list h e')
+no_issued text n small misses _ good e = good
+
+-- a text that tells no list behind its determination
+
+pub no_list_behind : (text : List ℕ) (n : ℕ) → n < 2 ^ 32 → (decision : Decision) (last : ℕ) (issued : Date) (deadline effective expiry : Option Date) (rest : List (List ℕ))
+    → parts_of 44 text ≡ issued_fields n decision last issued deadline effective expiry ++ rest → ((list : List Finding) → IsList list → with_commas rest ≢ list_text list)
+    → (v : Outcome) → IsDetermined n v → text ≢ outcome_text v
+no_list_behind text n small decision last issued deadline effective expiry rest p misses (outcomes.Determined number decision' last' issued' deadline' effective' expiry' list) good e =
+    let e' = subst (λ m. text ≡ determined_text m decision' last' issued' deadline' effective' expiry' list) good.0 e in
+    let h : AreIssued n last' issued' deadline' effective' expiry' =
+    record { number = small; last_small = good.1; issued_in = good.2; deadline_in = good.3; effective_in = good.4; expiry_in = good.5 } in
+    let mine = issued_fields n decision last issued deadline effective expiry in
+    let first : mine ≡ issued_fields n decision' last' issued' deadline' effective' expiry' =
+    ap (take 8) (sym p ∙ determined_parts text n decision' last' issued' deadline' effective' expiry' list h e') in
+    let whole = sym (read_text text n decision last issued deadline effective expiry rest p) ∙ e' ∙ text_same n decision' last' issued' deadline' effective' expiry' list in
+    misses list good.6 (append_cancel_left (joined mine) (with_commas rest) (list_text list) (whole ∙ ap (λ fields. joined fields ++ list_text list) (sym first)))
+no_list_behind text n small decision last issued deadline effective expiry rest p misses _ good e = good

@@ -1,0 +1,13 @@
+//! Tests of keepers: in memory, with failures, and of SQLite, in memory and in a file.
+#![tactic(auto)]
+
+#[cfg(test)]
+mod clerk_tests;
+#[cfg(test)]
+mod keeper_tests;
+#[cfg(test)]
+mod rows;
+#[cfg(test)]
+mod sqlite_tests;
+#[cfg(test)]
+mod table_tests;

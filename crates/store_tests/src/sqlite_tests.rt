@@ -1,0 +1,41 @@
+//! Keepers of SQLite, in memory and in a file.
+
+use crate::rows::{has_rows, put};
+use oe_keeper::{KeepErr, Keeper, Table};
+use oe_sqlite::SqliteKeeper;
+use std::test::Fail;
+
+const ROWS: [(Table, &str, &str); 2] = [
+    (Table::Airfield, "AAA", "x"),
+    (Table::Desk, "format", "1"),
+];
+
+#[test]
+fn in_memory(rt: HostRuntime) -> Result<(), Fail> {
+    let alloc = rt.alloc();
+    let mut keeper = SqliteKeeper::new(&rt);
+    assert!(rt; matches!(keeper.load(alloc, Some(":memory:")), Err(KeepErr::Failed)));
+    assert_eq!(rt; keeper.load(alloc, None)?.len(), 0);
+    let changes = [
+        put(alloc, Table::Desk, "format", "1")?,
+        put(alloc, Table::Airfield, "AAA", "x")?,
+    ];
+    keeper.apply(alloc, &changes)?;
+    assert!(rt; has_rows(&keeper.load(alloc, None)?, &ROWS));
+    Ok(())
+}
+
+#[test]
+fn in_a_file(rt: HostRuntime) -> Result<(), Fail> {
+    let alloc = rt.alloc();
+    let mut keeper = SqliteKeeper::new(&rt);
+    assert_eq!(rt; keeper.load(alloc, Some("office.db"))?.len(), 0);
+    keeper.apply(alloc, &[put(alloc, Table::Desk, "format", "1")?])?;
+    keeper.apply(alloc, &[put(alloc, Table::Airfield, "AAA", "x")?])?;
+    drop(keeper);
+    let mut again = SqliteKeeper::new(&rt);
+    assert!(rt; has_rows(&again.load(alloc, Some("office.db"))?, &ROWS));
+    let mut keeper = SqliteKeeper::new(&rt);
+    assert!(rt; matches!(keeper.load(alloc, Some(".")), Err(KeepErr::Failed)));
+    Ok(())
+}
