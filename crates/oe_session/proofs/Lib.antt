@@ -1,0 +1,4 @@
+pub mod Lists
+pub mod ActFacts
+pub mod Judging
+pub mod Orders

@@ -1,0 +1,20 @@
+# Completion of oe and its tools for bash.
+_oe() {
+    local word=${COMP_WORDS[COMP_CWORD]} before=${COMP_WORDS[COMP_CWORD - 1]}
+    COMPREPLY=()
+    case $COMP_CWORD,$before in
+        1,*) mapfile -t COMPREPLY < <(compgen -W "desk generate" -- "$word") ;;
+        2,desk) mapfile -t COMPREPLY < <(compgen -W "--db" -- "$word") ;;
+        *,--db | *,=) mapfile -t COMPREPLY < <(compgen -f -- "$word") ;;
+    esac
+}
+
+# A tool's words are those of its own --help.
+_oe_tool() {
+    local word=${COMP_WORDS[COMP_CWORD]}
+    COMPREPLY=()
+    [[ $word != -* ]] || mapfile -t COMPREPLY < <(compgen -W "$("$1" --help 2>/dev/null | grep -oE -- '--[a-z]+(-[a-z]+)*' | sort -u)" -- "$word")
+}
+
+complete -o filenames -o default -F _oe oe
+complete -o filenames -o default -F _oe_tool oe-clean oe-draw oe-from-points oe-say

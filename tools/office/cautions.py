@@ -1,0 +1,98 @@
+"""Where an answer may look better than it is: an empty desk, a misspelt airfield, numbers in the wrong place."""
+import math
+
+from office import forms
+from office.desk import Pair
+from office.records import TENTHS, show
+from office.register import AIRFIELD_FORMS, NOT_DESCRIBED, Airfield, Register, point
+from office.replies import NONE, Accepted, Found, Verdict
+
+FAR_AWAY = 200_000  # feet; no surface of an airport reaches as far
+FEET_FOR_TENTHS = range(100, 1000)  # tallest structures of a file that may have been written in feet
+TALLER_THAN_GROUND = 5000  # tenths of a foot; a taller structure on low ground is looked at twice
+EXEMPT = "SDR"
+
+
+def changes_of(pair: Pair) -> int | None:
+    """Over how many changes a structure was judged, or nothing where none was."""
+    return pair.reply.changes if isinstance(pair.reply, Found | Verdict) else None
+
+
+def has_structure(pair: Pair) -> bool:
+    return changes_of(pair) is not None or isinstance(pair.reply, Accepted) and pair.record.form == "file"
+
+
+def of_register(pair: Pair, register: Register) -> list[str]:
+    changes = changes_of(pair)
+    if changes is None:
+        return []
+    if changes == 0 or register.is_whole(changes) and not register.airfields:
+        return ["no airfield is registered, so this says nothing of airports: was --db forgotten, another file named, or the airfields refused?"]
+    out, on = [], pair.record.values["ON"]
+    if register.is_whole(changes):
+        out += of_place(pair, register)
+        if on != NONE and on not in register.airfields:
+            out.append(f"it is said to be on {on}, and no airfield {on} is registered, so 77.9(d) is not met by it: is the ID misspelt?")
+        elif on != NONE and register.airfields[on].category == NOT_DESCRIBED:
+            out.append(f"it is on {on}, which is private: 77.9(d) does not ask a notice there")
+    elif on != NONE and isinstance(pair.reply, Found) and not is_exempt(pair) and not is_met_on(pair.reply, on):
+        out.append(f"it is said to be on {on}, and 77.9(d) is not met: is {on} registered, not misspelt, and not private?")
+    return out
+
+
+def of_place(pair: Pair, register: Register) -> list[str]:
+    """Whether all airfields are so far away that the structure may be on another grid."""
+    def distance(airfield: Airfield) -> float:
+        return math.dist(airfield.at, point(pair.record.values))
+    if any(distance(airfield) <= FAR_AWAY for airfield in register.airfields.values()):
+        return []
+    nearest = min(register.airfields.values(), key=distance)
+    return [f"the nearest airfield, {nearest.id}, is {show(distance(nearest), 0)} ft away: are both on one grid, in tenths of a foot?"]
+
+
+def is_met_on(reply: Found, on: str) -> bool:
+    return any(entry.rule.name == "9d" and entry.airfield == on for entry in reply.entries)
+
+
+def is_exempt(pair: Pair) -> bool:
+    """Whether a notice rule may be taken away by 77.9(e)."""
+    values = pair.record.values
+    is_small = values["KIND"] == "antenna" and int(values["HEIGHT"]) <= 200
+    return is_small or any(letter in values["FLAGS"] for letter in EXEMPT)
+
+
+def of_structure(pair: Pair) -> list[str]:
+    values, out = pair.record.values, []
+    ground, height = int(values["GROUND"]), int(values["HEIGHT"])
+    is_way = values["KIND"] not in ("object", "antenna")
+    if height == 0 and not is_way:
+        out.append("its height is 0: are ground and height exchanged?")
+    if height > TALLER_THAN_GROUND and 0 < ground * TENTHS < height:
+        out.append(f"it is {show(height / TENTHS)} ft tall on ground of {show(ground / TENTHS)} ft: "
+                   "are ground and height exchanged, or is the height one above sea level?")
+    if any(letter in values["FLAGS"] for letter in EXEMPT):
+        out.append("flag S, D or R takes every notice rule away (77.9(e)): does it hold?")
+    return out
+
+
+def cautions(pair: Pair, register: Register) -> list[str]:
+    """The cautions about one record, with what is known of the register before it."""
+    return of_register(pair, register) + of_structure(pair) if has_structure(pair) else []
+
+
+def of_file(pairs: list[Pair]) -> list[str]:
+    """A caution about the heights of a whole file."""
+    heights = [int(pair.record.values["HEIGHT"]) for pair in pairs if has_structure(pair) and pair.record.values["KIND"] in ("object", "antenna")]
+    if heights and max(heights) in FEET_FOR_TENTHS:
+        return [f"no structure of this file is taller than {show(max(heights) / TENTHS)} ft: were feet written for tenths of a foot?"]
+    return []
+
+
+def of_over(pairs: list[Pair]) -> list[str]:
+    """A caution about records that a desk in memory answers otherwise than the office's own."""
+    others = sorted({pair.record.form for pair in pairs if pair.record.form in forms.FORMS} - {"screen", "verdict", "airfield", *AIRFIELD_FORMS})
+    if not others:
+        return []
+    return [f"the desk in memory has the office's airfields, and not its day, cases and keys: it answers {', '.join(others)} otherwise"]
+
+

@@ -1,0 +1,140 @@
+"""Records beside their replies: from a file of replies, or asked of a desk in memory. An office's file is only read."""
+import argparse
+import os
+import shutil
+import sqlite3
+import subprocess
+from contextlib import closing
+from dataclasses import dataclass
+from pathlib import Path
+
+from office import replies
+from office.faults import Fault
+from office.records import BEFORE, Record, read_bytes, record, records
+from office.replies import Accepted, Refusal, Reply
+
+BUILT = Path(__file__).resolve().parent.parent.parent / "crates" / "oe_main" / "out" / "oe_main"
+STORED_CALLER = "_office_file_"  # of records that are made from the rows of an office's file
+AIRFIELD_TABLE, RUNWAY_TABLE, CASE_TABLE = 0, 1, 3
+SITE_IN_CASE = slice(5, 13)  # X to ON in the row of a case (docs/TABLES.md)
+END_OF_CASE = 15  # abandoned, reversed or -
+
+
+@dataclass(frozen=True)
+class Pair:
+    """A record and its reply."""
+    record: Record
+    reply: Reply
+
+    @property
+    def is_accepted(self) -> bool:
+        return isinstance(self.reply, Accepted)
+
+
+def program(chosen: str | None) -> str:
+    """The desk to ask: the one that was named, that of OE, `oe` on the path, or this repository's where it is built already."""
+    named = chosen or os.environ.get("OE")
+    found = shutil.which(named or "oe")
+    if found is None and not named and os.access(BUILT, os.X_OK):
+        found = str(BUILT)
+    if found is None:
+        raise Fault(f"{named or 'oe'}: no such program; name the desk with --oe PROGRAM, or give its replies as a second file")
+    return found
+
+
+def ask(desk: str, content: bytes) -> list[str]:
+    """The lines of the replies of a desk in memory."""
+    done = subprocess.run([desk, "desk"], input=content, stdout=subprocess.PIPE)
+    if done.returncode:
+        raise Fault(f"{desk} desk ended with status {done.returncode}")
+    return done.stdout.decode().splitlines()
+
+
+def table(db: str, number: int) -> list[tuple[str, str]]:
+    """Key and value of each row of one table of an office's file."""
+    path = Path(db)
+    if not path.exists():
+        raise Fault(f"{db}: no such file")
+    try:
+        with closing(sqlite3.connect(path.resolve().as_uri() + "?mode=ro", uri=True)) as opened:
+            return opened.execute("SELECT k, v FROM kept WHERE t = ? ORDER BY k", (number,)).fetchall()
+    except sqlite3.Error as error:
+        raise Fault(f"{db}: {error} ({hint(db, str(error))})") from error
+
+
+def hint(db: str, error: str) -> str:
+    """What mostly lies behind an error of SQLite."""
+    if "locked" in error:
+        return "a desk has it open: end that desk first, or ask it and give its replies as a second file"
+    if "no such table" in error and "kept" in error:
+        return f"was {db}-wal left behind when it was copied? Or it is no file of `oe desk --db`"
+    return "is it a file of `oe desk --db`?"
+
+
+def stored_airfields(db: str) -> list[Record]:
+    """The airfields and runways of an office's file as records, the airfields first."""
+    rows = table(db, AIRFIELD_TABLE)
+    if not rows:
+        raise Fault(f"{db} has no airfields (was {db}-wal left behind when it was copied?)")
+    texts: list[str] = []
+    for key, value in rows:
+        form, _, rest = value.partition(",")
+        texts.append(f"{form},{STORED_CALLER},{len(texts) + 1},{key},{rest}")
+    for key, value in table(db, RUNWAY_TABLE):
+        texts.append(f"runway,{STORED_CALLER},{len(texts) + 1},{key.replace(' ', ',')},{value}")
+    return [record(BEFORE, text) for text in texts]
+
+
+def stored_cases(db: str) -> list[tuple[str, Record]]:
+    """The structures of the cases that were neither abandoned nor reversed, to be screened, each with its number."""
+    rows = [(key, value.split(",")) for key, value in table(db, CASE_TABLE)]
+    return [(key.lstrip("0"), record(BEFORE, ",".join(["screen", *values[SITE_IN_CASE]])))
+            for key, values in rows if values[END_OF_CASE] == replies.NONE]
+
+
+def pair_up(some: list[Record], told: list[str], path: str) -> list[Pair]:
+    """Each record with its reply, where the replies are of its sort and as many."""
+    rest, pairs = iter(told), []
+    for one in some:
+        reply = replies.read(rest)
+        if reply is None:
+            raise Fault(f"the replies end before line {one.line} of {path}: the desk stopped there, or they are not its replies")
+        if not replies.answers(one.form, reply):
+            raise Fault(f'line {one.line} of {path} is "{one.form}", and its reply is of another sort: these are not its replies')
+        pairs.append(Pair(one, reply))
+    if next(rest, None) is not None:
+        raise Fault(f"there are more replies than records in {path}: they are not its replies")
+    return pairs
+
+
+def asked(content: bytes, before: list[Record], path: str, desk: str) -> list[Pair]:
+    """The records of a file answered by a desk in memory that has answered the records before them."""
+    head = "".join(one.text + "\n" for one in before).encode()
+    pairs = pair_up(before + records(content), ask(desk, head + content), path)
+    for pair in pairs[:len(before)]:
+        if isinstance(pair.reply, Refusal):
+            raise Fault(f"the desk refuses a row of the office's file: {pair.record.text} ({pair.reply.name})")
+    return pairs
+
+
+def add_arguments(parser: argparse.ArgumentParser, records_wanted: bool = True) -> None:
+    wanted = parser.add_argument("records", metavar="RECORDS", help="the records that the desk read (-: standard input)")
+    if not records_wanted:
+        wanted.nargs, wanted.required = "?", False
+    parser.add_argument("replies", metavar="REPLIES", nargs="?",
+                        help="its replies; where they are left out, a desk in memory is asked now, and nothing is kept")
+    parser.add_argument("--oe", metavar="PROGRAM", help="the desk to ask (else the variable OE, else oe)")
+    parser.add_argument("--over", metavar="FILE",
+                        help="begin with the airfields of an office's file (of `oe desk --db FILE`), which is only read")
+    parser.add_argument("--names", metavar="CSV",
+                        help="names of structures: X,Y,GROUND,HEIGHT,NAME in each line, as oe-from-points writes them")
+
+
+def pairs_of(args: argparse.Namespace) -> list[Pair]:
+    """The pairs that the arguments of a tool name."""
+    content, path = (read_bytes(args.records), args.records) if args.records else (b"", "no file")
+    if args.replies:
+        if args.over:
+            raise Fault("--over asks a desk now: leave REPLIES out")
+        return pair_up(records(content), read_bytes(args.replies).decode("utf-8", "replace").splitlines(), path)
+    return asked(content, stored_airfields(args.over) if args.over else [], path, program(args.oe))

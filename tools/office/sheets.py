@@ -1,0 +1,117 @@
+"""Records out of a spreadsheet's CSV, each cell as the form of its row wants it; what is not so is refused by its line."""
+import csv
+from collections.abc import Iterator
+from dataclasses import dataclass
+
+from office import forms
+from office.faults import Fault
+from office.records import read_bytes
+
+REMARK = "#"
+OTHER_ENCODINGS = (b"\xff\xfe", b"\xfe\xff")  # the marks of UTF-16
+TEMPLATE_REMARKS = (
+    f"{REMARK} A row that begins with {REMARK} is a remark and is left out. Type records below the heading of their form.",
+    f"{REMARK} Lengths and heights are whole tenths of a foot: 200 ft is 2000. Format all columns as text before you type.",
+)
+
+
+@dataclass(frozen=True)
+class Row:
+    """A row of a sheet: its line, and its cells without spaces around them and without empty ones at the end."""
+    line: int
+    cells: list[str]
+
+    @property
+    def is_record(self) -> bool:
+        return bool(self.cells) and not self.cells[0].startswith(REMARK)
+
+
+def text_of(path: str) -> str:
+    content = read_bytes(path)
+    try:
+        if content.startswith(OTHER_ENCODINGS):
+            raise UnicodeDecodeError("utf-8", content, 0, 2, "UTF-16")
+        return content.decode("utf-8-sig")
+    except UnicodeDecodeError as error:
+        raise Fault(f"{path}: it is no UTF-8 text; save the sheet as CSV UTF-8") from error
+
+
+def trimmed(cells: list[str]) -> list[str]:
+    bare = [cell.strip() for cell in cells]
+    while bare and not bare[-1]:
+        bare.pop()
+    return bare
+
+
+def rows(path: str) -> Iterator[Row]:
+    """The rows of a sheet. A cell that goes over several lines is refused."""
+    reader = csv.reader(text_of(path).splitlines(keepends=True), strict=True)
+    line = 0
+    try:
+        for cells in reader:
+            line += 1
+            if reader.line_num != line:
+                raise Fault(f"{path} line {line}: a cell goes over several lines")
+            yield Row(line, trimmed(cells))
+    except csv.Error as error:
+        raise Fault(f"{path} line {reader.line_num}: it is no row of a CSV ({error})") from error
+
+
+def about_form(cell: str) -> str:
+    """Why a first cell is no form."""
+    if cell.lower() in forms.FORMS:
+        return f'"{cell}": write {cell.lower()}'
+    if ";" in cell or "\t" in cell:
+        return f'"{cell[:40]}": the columns are not parted by commas; save the sheet as CSV with commas'
+    return f'"{cell[:40]}" is no form ({", ".join(forms.FORMS)}); begin a row of headings or remarks with {REMARK}'
+
+
+def about_runway(cells: list[str]) -> str | None:
+    """A name that the desk would take, and that a spreadsheet made of 04/22."""
+    name = forms.by_name(cells).get("NAME", "")
+    return f'the runway "{name}" was made a date; format the column as text' if name.count("/") > 1 and forms.is_sheet_date(name) else None
+
+
+def fault_of(row: Row) -> str | None:
+    """What is wrong with a row's cells, or nothing."""
+    number = forms.first_bad_field(row.cells)
+    if number is None:
+        return about_runway(row.cells)
+    if number == 1:
+        return about_form(row.cells[0])
+    form = forms.FORMS[row.cells[0]]
+    if number > len(form) + 1:
+        return f"field {number}: {row.cells[0]} has {len(form) + 1} fields, and the row has {len(row.cells)}"
+    field = form[number - 2]
+    cell = row.cells[number - 1] if number <= len(row.cells) else ""
+    why = forms.cause(cell, field) if cell else "it is wanting"
+    return f"field {number}, {field.name}: " + (f'"{cell}"' if cell else "nothing") + (f" ({why})" if why else "") + f"; wanted is {field.wanted}"
+
+
+def reused_keys(some: list[Row]) -> Iterator[tuple[int, str]]:
+    """Rows with the CALLER and KEY of an earlier one that are another request."""
+    seen: dict[tuple[str, str], Row] = {}
+    for row in some:
+        values = forms.by_name(row.cells)
+        if "CALLER" not in values or forms.first_bad_field(row.cells) is not None:
+            continue
+        first = seen.setdefault((values["CALLER"], values["KEY"]), row)
+        if first.cells != row.cells:
+            yield row.line, f"CALLER {values['CALLER']} and KEY {values['KEY']} stand in line {first.line} for another request"
+
+
+def clean(path: str) -> tuple[list[str], list[str]]:
+    """The lines of a sheet as records, an empty one for each row that is none, and what is wrong with others."""
+    some = list(rows(path))
+    wrong = [(row.line, why) for row in some if row.is_record and (why := fault_of(row))]
+    wrong += reused_keys([row for row in some if row.is_record])
+    return ([",".join(row.cells) if row.is_record else "" for row in some],
+            [f"{path} line {line}: {why}" for line, why in sorted(wrong)])
+
+
+def template() -> list[list[str]]:
+    """A sheet with the heading of every form, and below it what each field wants."""
+    sheet = [[remark] for remark in TEMPLATE_REMARKS]
+    for name, form in forms.FORMS.items():
+        sheet += [[], [REMARK + name, *(field.name for field in form)], [REMARK, *(field.wanted for field in form)]]
+    return sheet

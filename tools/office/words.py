@@ -1,0 +1,221 @@
+"""Replies in words: heights in feet, the paragraph of 14 CFR Part 77, what was refused and what is wanted."""
+from collections.abc import Iterable
+
+from office import forms
+from office.desk import Pair
+from office.records import TENTHS, Record, feet, show
+from office.replies import (NONE, Accepted, AirfieldRow, CaseState, Entry, Found, Refusal, Report, Review, Verdict, read_entries)
+from office.structures import ENTRIES_OF_DETERMINATION
+
+MALFORMED = 13
+LONGEST_QUOTED = 60  # letters of a field that was refused
+REFUSALS = {  # {0} and {1} are the values of the refusal
+    2: "a utility runway cannot have a precision approach",
+    3: "no airfield of this ID is registered: register it first, or look for a misspelt ID",
+    4: "the airport has no runway of this name",
+    5: "a runway is 100 to 20,000 ft long: are the coordinates tenths of a foot?",
+    6: "an end of a runway is more than 40,000 ft east or north of the reference point, or west or south: are all on one grid?",
+    7: "the airport has 16 runways, and no more are taken",
+    8: "4,096 airfields are registered, and no more are taken",
+    9: "an elevation is below -2,000 ft or above 20,000 ft: is it in tenths of a foot?",
+    10: "the area of a heliport is 10 to 1,000 ft long and 10 to 500 ft wide",
+    11: "this ID is an airfield of the other sort (airport, heliport)",
+    12: "a date that follows from it would be before 1900 or after 2999",
+    14: "there is no case of this number",
+    15: "the desk has 100,000 cases, and no more are taken",
+    16: "the desk's day is {0} and does not go back to {1}",
+    17: "the case is {0}, and this act does not come then",
+    18: "a standard is exceeded: say none or substantial for its adverse effect",
+    19: "no standard is exceeded: say - for the finding",
+    20: "this determination has no deadline, so no petition against it is taken",
+    21: "petitions were due by {0}, and it is {1}",
+    22: "a petition is pending already",
+    23: "no petition is pending",
+    24: "an extension was to be asked for by {0}, and it is {1}",
+    25: "structural work has started, so nothing is extended",
+    26: "it was extended before; without an FCC application that is done once",
+    27: "the evidence of the FCC application is wanting (77.35(c))",
+    28: "this CALLER and KEY stand for another request, entry {0}: take a new KEY",
+    29: "the desk has no day yet: send a `day` record first",
+    30: "it could not be stored in the file: look at the disk and its permissions, then send it again",
+    31: "memory was wanting: send it again",
+    32: "no form is due on this case",
+}
+
+
+def feet_of(tenths: int) -> str:
+    return f"{show(tenths / TENTHS)} ft"
+
+
+def key_of(entry: Entry) -> str:
+    """The key of a finding: which runway, which of its ends, which side."""
+    runway, _, part = entry.key.rpartition(".") if "." in entry.key else ("", "", entry.key)
+    match entry.rule.name:
+        case "19d":
+            names = runway.split("/")
+            return f"{runway}, end {part}" + (f" ({names[int(part) - 1]})" if len(names) == 2 else "")
+        case "23a":
+            return f"end {part}"
+        case "19e" | "23t":
+            side = "beside the primary surface" if part == "0" else f"beside the approach of end {part}"
+            return f"{runway}, {side}" if runway else side
+    return entry.key
+
+
+def excess_of(entry: Entry) -> str:
+    if entry.rule.name == "9d":
+        return ""
+    return f"by {feet_of(entry.excess)}" if entry.excess else "by less than 0.1 ft"
+
+
+def say_entry(entry: Entry) -> tuple[str, str, str]:
+    return entry.rule.paragraph, entry.rule.words.format(airfield=entry.airfield, key=key_of(entry)), excess_of(entry)
+
+
+def say_entries(entries: Iterable[Entry]) -> list[str]:
+    """Standards first, then what requires a notice, with the excesses in a column."""
+    rows = [(entry.rule.is_standard, *say_entry(entry)) for entry in entries]
+    wide, out = max((len(row[2]) for row in rows), default=0), []
+    for is_standard, head in ((True, "OBSTRUCTION, it exceeds:"), (False, "NOTICE to the FAA is required (Form 7460-1), it meets:")):
+        some = [row for row in rows if row[0] == is_standard]
+        out += [head] if some else []
+        out += [f"  {paragraph:<15} {text:<{wide}}  {excess}".rstrip() for _, paragraph, text, excess in some]
+    if rows and all(row[0] for row in rows):
+        out.append("no notice rule that the desk knows is met")
+    return out or ["no rule that the desk knows is met"]
+
+
+def say_day(day: str) -> str:
+    return "none" if day == NONE else day
+
+
+def say_lateness(text: str) -> str:
+    days = text.removeprefix("late ")
+    return "in time" if days == text else f"late by {days} {'day' if days == '1' else 'days'}"
+
+
+def say_dates(deadline: str, effective: str, expiry: str) -> str:
+    return f"petitions until {say_day(deadline)}; effective {say_day(effective)}; expires {say_day(expiry)}"
+
+
+def say_decision(decision: str) -> str:
+    return {"nohazard": "NO HAZARD", "hazard": "HAZARD"}.get(decision, decision)
+
+
+def say_notice(case: str, timely: str, fcc: str, presumed: str) -> list[str]:
+    due = timely.removeprefix("emergency ")
+    out = [f"filed as case {case}; " + (f"an emergency, its form is due by {due}" if due != timely else f"the notice is {say_lateness(timely)}")]
+    if fcc != NONE:
+        out.append(f"counted from the FCC application the notice is {say_lateness(fcc)}")
+    if presumed != NONE:
+        out.append(f"more than 2,000 ft, {presumed}: presumed a hazard (77.7(d))")
+    return out
+
+
+def say_determination(values: tuple[str, ...]) -> list[str]:
+    case, decision, _, issued, deadline, effective, expiry, _ = values[:ENTRIES_OF_DETERMINATION]
+    head = f"case {case}: {say_decision(decision)}, issued {issued}; {say_dates(deadline, effective, expiry)}"
+    return [head, *say_entries(read_entries(list(values[ENTRIES_OF_DETERMINATION:])))]
+
+
+def say_act(form: str, values: tuple[str, ...]) -> list[str]:
+    match form, values:
+        case "case", (case, timely, fcc, presumed):
+            return say_notice(case, timely, fcc, presumed)
+        case "determine", _:
+            return say_determination(values)
+        case "form", (case, late):
+            return [f"case {case}: the form came, {say_lateness(late)}"]
+        case "petition", (case,):
+            return [f"case {case}: a petition is pending"]
+        case "abandon", (case,):
+            return [f"case {case}: given up"]
+        case "dispose", (case, disposition, effective, expiry):
+            ending = "affirmed" if disposition == "affirm" else "reversed"
+            return [f"case {case}: {ending}; effective {say_day(effective)}; expires {say_day(expiry)}"]
+        case "extend", (case, expiry, last):
+            return [f"case {case}: expires {expiry} now; the last day to ask for another extension is {last}"]
+        case "fcc", (case, expiry):
+            return [f"case {case}: expires {expiry} now"]
+    return [" ".join([form, *values])]
+
+
+def say_accepted(record: Record, reply: Accepted) -> list[str]:
+    name = " ".join(record.values[key] for key in ("ID", "NAME", "DATE") if key in record.values)
+    match reply.form:
+        case "airport" | "heliport" | "runway":
+            out = [f"{reply.form} {name} is registered"]
+        case "drop" | "droprunway":
+            out = [f"{'airfield' if reply.form == 'drop' else 'runway'} {name} is taken out"]
+        case "day":
+            out = [f"the desk's day is {name}"]
+        case "closed":
+            out = [f"{name} is a closed day"]
+        case _:
+            out = say_act(reply.form, reply.values)
+    return [f"entry {reply.number}: {out[0]}", *out[1:]]
+
+
+def say_malformed(record: Record, number: int) -> list[str]:
+    head = f"REFUSED ({MALFORMED})"
+    if number == 0:
+        return [f"{head}: the line is longer than 8,192 bytes, or it is not one record (a quote or a line's end is out of place)"]
+    if number == 1 or record.form not in forms.FORMS:
+        return [f'{head} at field 1: there is no form "{record.form[:LONGEST_QUOTED]}"']
+    form = forms.FORMS[record.form]
+    if number > len(form) + 1:
+        return [f"{head} at field {number}: {record.form} has {len(form) + 1} fields (a spreadsheet pads lines with commas; oe-clean takes them off)"]
+    field = form[number - 2]
+    if number > len(record.fields):
+        return [f"{head} at field {number}, {field.name}: it is wanting; wanted is {field.wanted}"]
+    text = record.fields[number - 1]
+    why = forms.cause(text, field)
+    return [f'{head} at field {number}, {field.name}: "{text[:LONGEST_QUOTED]}"' + (f" ({why})" if why else "") + f"; wanted is {field.wanted}"]
+
+
+def say_refusal(record: Record, reply: Refusal) -> list[str]:
+    if reply.number == MALFORMED:
+        return say_malformed(record, int(reply.values[0]))
+    return [f"REFUSED ({reply.number}): " + REFUSALS.get(reply.number, reply.name).format(*reply.values)]
+
+
+def say_case(state: CaseState) -> list[str]:
+    out = f"case {state.case} is {state.status.replace('inforce', 'in force')}"
+    if state.decision != NONE:
+        out += f": {say_decision(state.decision)}, issued {state.issued}; {say_dates(state.deadline, state.effective, state.expiry)}"
+        out += f"; the last day to ask for an extension is {say_day(state.last_day)}"
+    return [out + ("; MARKED FOR REVIEW, its findings would now be others" if state.mark == "marked" else "")]
+
+
+def say_row(values: tuple[str, ...]) -> list[str]:
+    if values[0] == "airport":
+        _, category, x, y, elevation = values
+        return [f"airport, {category}, reference point {show(feet(x))} ft east {show(feet(y))} ft north, {show(feet(elevation))} ft above mean sea level"]
+    _, category, xa, ya, xb, yb, width, elevation = values
+    return [f"heliport, {category}, axis from {show(feet(xa))} ft east {show(feet(ya))} ft north to {show(feet(xb))} ft east {show(feet(yb))} ft north, "
+            f"{show(feet(width))} ft wide, {show(feet(elevation))} ft above mean sea level"]
+
+
+def yes_or_no(value: bool) -> str:
+    return "yes" if value else "no"
+
+
+def say(pair: Pair) -> list[str]:
+    """What a reply says, in lines."""
+    match pair.reply:
+        case Refusal() as reply:
+            return say_refusal(pair.record, reply)
+        case Accepted() as reply:
+            return say_accepted(pair.record, reply)
+        case Found(_, entries):
+            return say_entries(entries)
+        case Verdict(_, notice, obstruction, count):
+            return [f"notice required: {yes_or_no(notice)}; obstruction: {yes_or_no(obstruction)}; findings: {count} (`screen` lists them)"]
+        case CaseState() as state:
+            return say_case(state)
+        case AirfieldRow(values):
+            return say_row(values)
+        case Review(cases):
+            return [f"cases marked for review: {', '.join(cases) or 'none'}"]
+        case Report(name, some):
+            return [f"report {name}, lines: {len(some)}", *some]

@@ -1,0 +1,35 @@
+"""Runs the tests of the tools: run.py [--oe PROGRAM] [NAME ..]. What is missing here is said in a line, and its tests are skipped."""
+import argparse
+import importlib.util
+import os
+import sys
+import unittest
+from pathlib import Path
+
+TOOLS = Path(__file__).resolve().parent.parent
+MISSING = {
+    "pyproj": "pyproj is missing (Debian: python3-pyproj): the positions of oe-from-points are not tested",
+    "shapely": "shapely is missing (Debian: python3-shapely): the outline of the horizontal surface is not compared with its own",
+}
+
+
+def main() -> int:
+    parser = argparse.ArgumentParser(prog="tools/test", description=__doc__)
+    parser.add_argument("--oe", metavar="PROGRAM", help="the program to ask too (else the variable OE_TESTED); without it stored replies are used alone")
+    parser.add_argument("names", metavar="NAME", nargs="*", help="tests to run, as tests.test_words (default: all)")
+    args = parser.parse_args()
+    program = args.oe or os.environ.get("OE_TESTED")
+    if program:
+        os.environ["OE_TESTED"] = os.path.abspath(program)
+    sys.dont_write_bytecode = True
+    sys.path.insert(0, str(TOOLS))
+    said = [text for name, text in MISSING.items() if importlib.util.find_spec(name) is None]
+    said += [] if program else ["no program is named (--oe PROGRAM): what asks the desk is not tested"]
+    for text in said:
+        print(f"tools/test: skipped: {text}")
+    loader = unittest.defaultTestLoader
+    tests = loader.loadTestsFromNames(args.names) if args.names else loader.discover(str(TOOLS / "tests"), top_level_dir=str(TOOLS))
+    return 0 if unittest.TextTestRunner().run(tests).wasSuccessful() else 1
+
+
+sys.exit(main())

@@ -1,0 +1,74 @@
+"""The examples of docs/TOOLS.md, typed as they stand there, and that each tool says what it is."""
+import importlib.util
+import os
+import subprocess
+import unittest
+from dataclasses import dataclass
+
+from tests import stored
+from tests.trial import PROGRAM, STORED_DESK, TOOLS, Trial
+
+NAMES = ("oe-say", "oe-from-points", "oe-clean", "oe-draw")
+INDENT, PROMPT = "    ", "    $ "
+PICTURES = ("plan.svg", "profile.svg")
+
+
+@dataclass
+class Typed:
+    command: str
+    shown: str = ""
+
+
+def examples() -> list[Typed]:
+    """The commands of the document, each with what it shows."""
+    out: list[Typed] = []
+    for line in (stored.TOP / "docs" / "TOOLS.md").read_text().splitlines():
+        if line.startswith(PROMPT):
+            out.append(Typed(line.removeprefix(PROMPT)))
+        elif out and line.startswith(INDENT):
+            out[-1].shown += line.removeprefix(INDENT) + "\n"
+        elif out and not line and "head -n" in out[-1].command and out[-1].shown.count("==>") == 1:
+            out[-1].shown += "\n"  # between two files that head shows
+    return out
+
+
+class Document(Trial):
+    def setUp(self) -> None:
+        super().setUp()
+        for name in ("docs", "tools"):
+            (self.folder / name).symlink_to(stored.TOP / name)
+        (self.folder / "out").mkdir()
+
+    def type(self, typed: Typed) -> str:
+        environment = {**os.environ, "OE": PROGRAM or str(STORED_DESK), "PYTHONDONTWRITEBYTECODE": "1"}
+        done = subprocess.run(["sh", "-c", typed.command], cwd=self.folder, env=environment, stdout=subprocess.PIPE, stderr=subprocess.STDOUT)
+        return done.stdout.decode()
+
+    @unittest.skipUnless(importlib.util.find_spec("pyproj"), "pyproj is missing")
+    def test_examples(self) -> None:
+        typed = examples()
+        self.assertEqual({name for name in NAMES if any(f"tools/{name}" in one.command for one in typed)}, set(NAMES))
+        for one in typed:
+            if PROGRAM or "oe-draw" not in one.command:  # its records have no stored replies
+                self.assertEqual(self.type(one), one.shown, one.command)
+        for picture in PICTURES if PROGRAM else ():
+            self.assertEqual((self.folder / "out" / picture).read_text(), (stored.TOP / "docs" / picture).read_text(), f"look at {picture}, then copy it to docs")
+
+    def test_each_tool_says_what_it_is(self) -> None:
+        for name in NAMES:
+            done = subprocess.run([str(TOOLS / name), "--help"], cwd=self.folder, capture_output=True, text=True)
+            self.assertEqual((done.returncode, done.stderr), (0, ""), name)
+            self.assertIn("is not proved", " ".join(done.stdout.split()), name)
+            self.assertIn(f"`tools/{name}`", (stored.TOP / "docs" / "TOOLS.md").read_text())
+
+    def test_a_tool_is_found_through_a_link(self) -> None:
+        (self.folder / "bin").mkdir()
+        (self.folder / "bin" / "oe-clean").symlink_to(TOOLS / "oe-clean")
+        done = subprocess.run(["bin/oe-clean", "-"], input="review,,\n", cwd=self.folder, capture_output=True, text=True)
+        self.assertEqual((done.returncode, done.stdout, done.stderr), (0, "review\n", ""))
+
+    def test_a_reader_that_has_enough(self) -> None:
+        session = stored.sessions()["structures at airports and heliports of all kinds"]
+        files = self.write("in", session.content), self.write("replies", "\n".join(session.replies) + "\n")
+        done = subprocess.run(["sh", "-c", f"tools/oe-say {' '.join(files)} | head -n 1"], cwd=self.folder, capture_output=True, text=True)
+        self.assertEqual((done.stdout.count("\n"), done.stderr), (1, ""))

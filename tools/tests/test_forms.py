@@ -1,0 +1,78 @@
+"""Forms and replies against the stored sessions and docs/RECORDS.md."""
+import re
+import unittest
+
+from office import forms, replies, words
+from office.records import lines, record
+from office.replies import Found, Refusal
+from tests import stored
+
+
+def table_words(heading: str) -> list[str]:
+    """The first words in backquotes of the rows of a table in docs/RECORDS.md."""
+    text = (stored.TOP / "docs" / "RECORDS.md").read_text()
+    part = text[text.index(heading):]
+    return re.findall(r"^\| `(\w+)`", part[:part.index("\n## ", 5)], re.M)
+
+
+class Forms(unittest.TestCase):
+    def test_all_forms_are_those_of_the_document(self) -> None:
+        self.assertEqual(set(table_words("## Forms")), set(forms.FORMS))
+
+    def test_the_field_that_is_refused(self) -> None:
+        """Every stored refusal 13 names the field that our forms name, and no other record has a bad field."""
+        refused = 0
+        for session in stored.known():
+            for pair in session.pairs():
+                said = int(pair.reply.values[0]) if isinstance(pair.reply, Refusal) and pair.reply.number == words.MALFORMED else None
+                fields = forms.cut(pair.record.text)
+                ours = 0 if fields is None else forms.first_bad_field(fields)
+                self.assertEqual(ours, said, (session.title, pair.record.text))
+                refused += said is not None
+        self.assertGreater(refused, 200)
+
+    def test_a_line_is_cut_as_the_desk_cuts_it(self) -> None:
+        self.assertEqual(lines(b"a\r\n\n\r\nb\r\r\nc\r"), ["a", "", "", "b\r", "c\r"])
+        self.assertEqual(forms.cut('\ufeff"screen","0"'), ["screen", "0"])
+        self.assertIsNone(forms.cut("a\rb"))
+        self.assertIsNone(forms.cut("\ufeff"))
+
+    def test_causes(self) -> None:
+        field = forms.FORMS["airport"][2]
+        for text, cause in (("1/15/2026", "date"), ("22-Apr", "date"), ("1,000", "commas"), ("100.0", "point"), ("1E+06", "large"), ("007", "zeros"),
+                            ("+5", "sign"), (" 5", "spaces"), ("aaa", "capital")):
+            self.assertIn(cause, forms.cause(text, field) or "", text)
+        self.assertIsNone(forms.cause("?", field))
+
+
+class Replies(unittest.TestCase):
+    def test_every_stored_reply_is_read_and_said(self) -> None:
+        kinds, rules = set(), set()
+        for session in stored.known():
+            for pair in session.pairs():
+                self.assertTrue(all(words.say(pair)), pair)
+                kinds.add(type(pair.reply))
+                rules |= {entry.rule.name for entry in pair.reply.entries} if isinstance(pair.reply, Found) else set()
+        self.assertEqual(kinds, set(replies.Reply.__args__))
+        self.assertEqual(rules, set(replies.RULES))
+
+    def test_every_refusal_of_the_document_has_words(self) -> None:
+        text = (stored.TOP / "docs" / "RECORDS.md").read_text()
+        numbers = {int(number) for number in re.findall(r"^\| ([0-9]+) \| `", text, re.M)}
+        self.assertEqual(numbers, set(words.REFUSALS) | {words.MALFORMED})
+
+    def test_the_values_of_a_refusal_are_in_its_words(self) -> None:
+        for session in stored.known():
+            for pair in session.pairs():
+                if isinstance(pair.reply, Refusal) and pair.reply.number != words.MALFORMED:
+                    said = words.say(pair)[0]
+                    self.assertTrue(all(value in said for value in pair.reply.values), said)
+
+    def test_forms_of_changes_have_caller_and_key(self) -> None:
+        for name, form in forms.FORMS.items():
+            names = [field.name for field in form]
+            self.assertEqual(len(names), len(set(names)), name)
+            self.assertEqual("CALLER" in names, name not in ("screen", "verdict", "airfield", "case", "review", "report"), name)
+
+    def test_fields_are_found_by_name(self) -> None:
+        self.assertEqual(record(1, "fcc,a,b,7,granted,2026-01-31").values["DATE"], "2026-01-31")

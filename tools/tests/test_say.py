@@ -1,0 +1,124 @@
+"""oe-say: words of replies, cautions, and files that do not belong together."""
+from tests import stored
+from tests.trial import Trial
+
+EMPTY = "no airfield is registered"
+TWO = "airport,a,1,AAA,public,0,0,0\nrunway,a,2,AAA,09/27,other,hard,-30000,0,0,V,30000,0,0,V\n"
+
+
+class Say(Trial):
+    def said(self, records: str, replies: str, *words: str) -> str:
+        return self.good("oe-say", self.write("in", records), self.write("out", replies), *words).out
+
+    def test_the_example(self) -> None:
+        """The replies of docs/RECORDS.md, in words written by hand."""
+        out = self.good("oe-say", str(stored.TOP / "docs" / "first.csv")).out
+        for words in (
+                "line 1: airport,office,1,AAA,public,0,0,1000\n    entry 1: airport AAA is registered\n",
+                "line 3: screen: 200.0 ft on ground of 100.0 ft, top 300.0 ft\n    OBSTRUCTION, it exceeds:\n"
+                "      77.19(a)        horizontal surface of AAA             by 50.0 ft\n"
+                "      77.19(c)        primary surface of AAA runway 09/27   by 200.0 ft\n"
+                "    NOTICE to the FAA is required (Form 7460-1), it meets:\n"
+                "      77.9(b)(1)      100 to 1 slope from AAA runway 09/27  by 200.0 ft\n",
+                "line 6: screen: 200.1 ft on ground of 100.0 ft, top 300.1 ft\n    OBSTRUCTION, it exceeds:\n"
+                "      77.17(a)(2)     the height near AAA                   by less than 0.1 ft\n",
+                "    REFUSED (5): a runway is 100 to 20,000 ft long: are the coordinates tenths of a foot?\n",
+                '    REFUSED (13) at field 2, X: "20000001"; wanted is tenths of a foot on the grid, -20000000 to 20000000\n',
+                "      77.23(b)        approach surface of heliport HHH, end 2                             by 0.1 ft\n",
+                "      77.23(c)        transitional surface of heliport HHH, beside the approach of end 2  by 0.1 ft\n",
+                "      77.9(c), (b)(1) 100 to 1 slope from AAA runway 09/27, raised by its traffic  by 17.4 ft\n",
+                "line 15: verdict: 20.0 ft on ground of 100.0 ft, top 120.0 ft\n    notice required: no; obstruction: yes; findings: 1 (`screen` lists them)\n",
+                "screened: obstructions 8, notice only 1, without a finding 0; records refused 3; with a caution 0\n"):
+            self.assertIn(words, out)
+        self.assertNotIn("CAUTION", out)
+
+    def test_a_case_from_notice_to_expiry(self) -> None:
+        session = stored.sessions()["a case from notice to expiry"]
+        out = self.good("oe-say", self.write("in", session.content)).out
+        for words in ("entry 6: case 1: NO HAZARD, issued 2026-01-15; petitions until 2026-02-17; effective 2026-02-24; expires 2027-08-24",
+                      "REFUSED (21): petitions were due by 2026-02-17, and it is 2026-02-20",
+                      "entry 11: case 1: expires 2029-02-24 now; the last day to ask for another extension is 2029-02-09",
+                      "REFUSED (16): the desk's day is 2027-08-09 and does not go back to 2027-08-08", "case 1 is expired: NO HAZARD"):
+            self.assertIn(words, out)
+
+    def test_an_emergency(self) -> None:
+        session = stored.sessions()["emergency and presumption"]
+        out = self.good("oe-say", self.write("in", session.content)).out
+        for words in ("filed as case 1; an emergency, its form is due by 2026-01-20", "unexplained: presumed a hazard", "the form came, late by 1 day\n"):
+            self.assertIn(words, out)
+
+    def test_names_and_short(self) -> None:
+        name = self.write("names", "0,0,0,2001,\"Mast, <old>\"\n")
+        out = self.said(TWO + "screen,0,0,0,2001,object,0,-,-\n", "ok,1,published,airport\nok,2,published,runway\nfound,2,0\n", "--names", name, "--short")
+        self.assertTrue(out.startswith("line 3: screen Mast, <old>: 200.1 ft"), out)
+
+    def test_sheets_of_other_machines(self) -> None:
+        """A byte order mark, carriage returns, quotes and an empty line: lines keep their numbers."""
+        out = self.said('\ufeffday,a,1,2026-01-15\r\n\r\n"screen","0","0",0,0,object,0,-,-\r\n', "ok,1,published,day\nfound,1,0\n")
+        self.assertIn("line 3: screen: 0.0 ft", out)
+
+    def test_bytes_that_are_no_text(self) -> None:
+        ended = self.good("oe-say", self.write("in", b"screen,\xff\x1b[0m,0\n" + b"x" * 9000 + b"\n"), self.write("out", "no,13,Malformed,2\nno,13,Malformed,0\n"))
+        self.assertIn('at field 2, X: "??[0m"', ended.out)
+        self.assertIn("longer than 8,192 bytes", ended.out)
+        self.assertTrue(all(len(line) < 200 and line.isprintable() for line in ended.out.splitlines()), ended.out)
+
+    def test_a_report(self) -> None:
+        out = self.said("report,review\ncase,1\n", "report,review,1\n     1  nohazard  2026-01-15\nno,14,UnknownCase\n")
+        self.assertIn("    report review, lines: 1\n         1  nohazard  2026-01-15\n", out)
+        self.assertIn("line 2: case,1\n    REFUSED (14)", out)
+
+    def test_replies_of_another_file(self) -> None:
+        records = self.write("in", TWO)
+        for replies, words in (("ok,1,published,airport\n", "the replies end before line 2"), ("ok,1,published,airport\n" * 2, "another sort"),
+                               ("ok,1,published,airport\nok,2,published,runway\nfound,2,0\n", "more replies than records"),
+                               ("ok,1,published,airport\nfound,x,0\n", "no whole reply"), ("report,expiry,3\n", "no whole reply")):
+            self.fault(words, "oe-say", records, self.write("out", replies))
+
+    def test_faults(self) -> None:
+        self.fault("No such file", "oe-say", "nothing")
+        self.fault("no such program", "oe-say", self.write("in", TWO), desk="/nowhere/oe")
+        self.fault("leave REPLIES out", "oe-say", self.write("in", TWO), self.write("out", ""), "--over", "office.db")
+        self.fault("2 columns", "oe-say", self.write("in", ""), self.write("out", ""), "--names", self.write("names", "1,2\n"))
+        self.fault("no such file", "oe-say", self.write("in", TWO), "--over", "office.db")
+        self.fault("is it a file of", "oe-say", self.write("in", TWO), "--over", self.write("office.db", "no database" * 100))
+
+
+class Cautions(Trial):
+    def said(self, records: str, replies: str) -> str:
+        return self.good("oe-say", self.write("in", records), self.write("out", replies)).out
+
+    def test_an_empty_desk(self) -> None:
+        self.assertIn(EMPTY, self.said("screen,0,0,0,2500,object,0,-,-\n", "found,0,1,9a - - 500\n"))
+        self.assertIn(EMPTY, self.said("day,a,1,2026-01-15\nscreen,0,0,0,2500,object,0,-,-\n", "ok,1,published,day\nfound,1,1,9a - - 500\n"))
+        self.assertIn(EMPTY, self.said("verdict,0,0,0,2500,object,0,-,-\n", "verdict,0,yes,no,1\n"))
+        self.assertIn(EMPTY, self.said("airport,a,1,AAA,public,0,0,999999\nscreen,0,0,0,2500,object,0,-,-\n", "no,9,ElevationRange\nfound,0,0\n"))
+
+    def test_airfields_of_a_file_before(self) -> None:
+        """Where the desk has changes that this file does not have, nothing is said of an empty one."""
+        self.assertNotIn(EMPTY, self.said("day,a,1,2026-01-15\nscreen,0,0,0,2500,object,0,-,-\n", "ok,9,published,day\nfound,9,0\n"))
+
+    def test_an_airfield_that_is_not_registered(self) -> None:
+        session = stored.sessions()["structures near a runway"]
+        out = self.good("oe-say", self.write("in", session.content)).out
+        last = out[out.index("line 10:"):]
+        self.assertIn("it is said to be on ZZZ, and no airfield ZZZ is registered", last)
+        self.assertNotIn("it is said to be on", out[:out.index("line 10:")])
+
+    def test_an_airfield_that_may_not_be_registered(self) -> None:
+        out = self.said("screen,0,0,0,250,object,0,-,AAB\n", "found,7,0\n")
+        self.assertIn("is AAB registered, not misspelt, and not private?", out)
+        self.assertNotIn("is AAA registered", self.said("screen,0,0,0,250,object,0,-,AAA\n", "found,7,1,9d AAA - 0\n"))
+
+    def test_a_private_airfield(self) -> None:
+        out = self.said(TWO.replace("public", "private") + "screen,0,0,0,1200,object,0,-,AAA\n", "ok,1,published,airport\nok,2,published,runway\nfound,2,0\n")
+        self.assertIn("it is on AAA, which is private", out)
+
+    def test_numbers_in_the_wrong_place(self) -> None:
+        answered = "ok,1,published,airport\nok,2,published,runway\nfound,2,0\n"
+        for site, words in (("0,0,2500,0,object,0,-,-", "its height is 0"), ("0,0,30,9000,object,0,-,-", "are ground and height exchanged"),
+                            ("0,0,30,300,object,0,-,-", "were feet written for tenths"),
+                            ("9000000,0,30,3000,object,0,-,-", "the nearest airfield, AAA, is 900,000 ft away"),
+                            ("0,0,30,3000,object,0,D,-", "flag S, D or R")):
+            self.assertIn(words, self.said(TWO + f"screen,{site}\n", answered), site)
+        self.assertNotIn("CAUTION", self.said(TWO + "screen,50000,0,30,3000,object,0,-,-\n", answered))

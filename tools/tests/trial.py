@@ -1,0 +1,68 @@
+"""Runs a tool in a folder of its own, within this process, which is quicker than a new one."""
+import contextlib
+import io
+import os
+import runpy
+import sys
+import tempfile
+import unittest
+from dataclasses import dataclass
+from pathlib import Path
+from unittest import mock
+
+TOOLS = Path(__file__).resolve().parent.parent
+STORED_DESK = TOOLS / "tests" / "stored_desk.py"
+PROGRAM = os.environ.get("OE_TESTED")
+
+
+@dataclass(frozen=True)
+class Ended:
+    status: int
+    out: str
+    err: str
+
+
+class Trial(unittest.TestCase):
+    """A test with a folder; `run_tool` runs a tool in it."""
+    maxDiff = None
+
+    def setUp(self) -> None:
+        folder = tempfile.TemporaryDirectory()
+        self.addCleanup(folder.cleanup)
+        self.folder = Path(folder.name)
+
+    def write(self, name: str, content: str | bytes) -> str:
+        path = self.folder / name
+        path.write_bytes(content.encode() if isinstance(content, str) else content)
+        return str(path)
+
+    def run_tool(self, tool: str, *words: str, given: bytes = b"", desk: str | None = None) -> Ended:
+        out, err, before = io.StringIO(), io.StringIO(), os.getcwd()
+        stdin = io.TextIOWrapper(io.BytesIO(given))
+        os.chdir(self.folder)
+        try:
+            with (mock.patch.object(sys, "argv", [tool, *words]), mock.patch.object(sys, "stdin", stdin), mock.patch.object(sys, "path", list(sys.path)),
+                  mock.patch.dict(os.environ, {"OE": desk or str(STORED_DESK)}), contextlib.redirect_stdout(out), contextlib.redirect_stderr(err)):
+                runpy.run_path(str(TOOLS / tool), run_name="__main__")
+            status: object = 0
+        except SystemExit as ended:
+            status = ended.code
+        finally:
+            os.chdir(before)
+        if isinstance(status, str):  # Python itself writes these words
+            return Ended(1, out.getvalue(), err.getvalue() + status + "\n")
+        return Ended(int(status or 0), out.getvalue(), err.getvalue())
+
+    def good(self, tool: str, *words: str, given: bytes = b"", desk: str | None = None) -> Ended:
+        """Runs a tool that must end with status 0."""
+        ended = self.run_tool(tool, *words, given=given, desk=desk)
+        self.assertEqual((ended.status, "Traceback" in ended.err), (0, False), ended.err)
+        return ended
+
+    def fault(self, wanted: str, tool: str, *words: str, given: bytes = b"", desk: str | None = None) -> None:
+        """Runs a tool that must end with status 1 and one line that has the wanted words."""
+        ended = self.run_tool(tool, *words, given=given, desk=desk)
+        self.assertEqual(ended.status, 1, ended)
+        self.assertEqual(ended.err.count("\n"), 1, ended.err)
+        self.assertIn(wanted, ended.err)
+        self.assertEqual(ended.out, "")
