@@ -3,9 +3,12 @@
 //! `run` of oe_commands does all of the work; `main` opens the system's streams and passes them to it.
 #![tactic(auto)]
 
+use crash_disks::FileDisk;
+use named_keeper::ByName;
 use oe_commands::run::run;
 use oe_commands::{Status, Words};
 use oe_http::{ReadSource, WriteSink};
+use oe_journal::JournalKeeper;
 use oe_keeper::PlacedKeeper;
 use oe_sqlite::SqliteKeeper;
 use std::env;
@@ -32,13 +35,15 @@ fn arguments(rt: &HostRuntime) -> Result<Words, Status> {
     Ok(words)
 }
 
-/// Runs the desk over the standard streams, with its tables in a file where one is named.
+/// Runs the desk over the standard streams, with its tables in a file where one is named: a journal where the name ends in `.oej`, else a
+/// store of SQLite's.
 fn run_on_streams(rt: &HostRuntime) -> Status {
+    let journal = JournalKeeper::new(FileDisk::new(rt));
     match arguments(rt) {
         Ok(words) => run(
             rt.alloc(),
             &words,
-            PlacedKeeper::new(SqliteKeeper::new(rt)),
+            PlacedKeeper::new(ByName::new(SqliteKeeper::new(rt), journal)),
             &mut ReadSource::new(rt.stdin()),
             &mut WriteSink::new(rt.stdout()),
         ),

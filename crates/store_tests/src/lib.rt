@@ -1,8 +1,10 @@
-//! Tests of keepers: in memory, with failures, and of SQLite, in memory and in a file.
+//! Tests of keepers: in memory, with failures, of SQLite and of journals, in memory and in a file.
 #![tactic(auto)]
 
 #[cfg(test)]
 mod clerk_tests;
+#[cfg(test)]
+mod journal_tests;
 #[cfg(test)]
 mod keeper_tests;
 #[cfg(test)]

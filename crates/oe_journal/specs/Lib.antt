@@ -1,0 +1,4 @@
+pub mod Standing
+pub mod Journal
+pub mod Results
+pub mod Runs

@@ -1,0 +1,4 @@
+pub mod Joining
+pub mod Order
+pub mod Ways
+pub mod Merging
