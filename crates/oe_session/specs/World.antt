@@ -81,7 +81,8 @@ noted_in m all who (Some past) = slice_set all who (m ∷ past)
 abbrev pub sessions_noting : Moment → List (List Moment) → ℕ → List (List Moment)
 sessions_noting m all who = noted_in m all who (slice_get all who)
 
--- the world after an event; one that cannot be, as of a session that is not there, changes nothing
+-- the world after an event; a look or a note of a session that is not there changes nothing, and a change by it, or over a front that is not
+-- there, is one without a list
 abbrev pub world_after : State → World → Event → World
 world_after opening w (Look who) = record w { sessions = sessions_noting (Had w.published) w.sessions who }
 world_after opening w (Change who q given) =

@@ -23,9 +23,10 @@ pub record CanJoin (way : List Site) (site : Site) : Type 0 where
   pub alike : IsAlike way site
   pub room : length way < MOST_STATIONS
 
--- the first of the rules in this order that the site breaks: it is no traverse way, it is unlike the first station, the way is full
+-- the first of the rules in this order that the site breaks: it is no traverse way, it is unlike the first station, the way is full;
+-- memory is refused only to a site that breaks none
 abbrev pub IsRefused : List Site → Site → WayRefusal → Type 0
 IsRefused way site NotAWay = ¬ IsTrue (is_traverse_way site.kind)
 IsRefused way site WayMixed = IsTrue (is_traverse_way site.kind) × ¬ IsAlike way site
 IsRefused way site WayFull = IsTrue (is_traverse_way site.kind) × IsAlike way site × (length way ≡ MOST_STATIONS)
-IsRefused way site NoMemory = ⊤
+IsRefused way site NoMemory = CanJoin way site

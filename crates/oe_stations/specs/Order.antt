@@ -1,5 +1,9 @@
 -- The order of the findings of a way.
 use Rattle.std.specs.Prelude.{ℕ}
+use Rattle.std.specs.Option.{option_cmp}
+use Rattle.std.specs.Ordering.{nat_cmp, ordering_then}
+use Rattle.std.specs.declared.cmp.Ordering.{Ordering}
+use Rattle.airfields.specs.Names.{name_cmp}
 use Rattle.finding_lists.specs.declared.finding.Finding.{Finding}
 use Rattle.finding_lists.specs.declared.finding.Rule.{Rule}
 use Rattle.finding_lists.specs.declared.finding.Rule.TheVariants as rules
@@ -59,3 +63,9 @@ place_of f = record {
   rank = rank_of f.rule;
   side = f.key.part;
 }
+
+-- places in order: by part of the list, airfield, runway, rule, and end or side; what has no airfield or no runway comes first
+abbrev pub place_cmp : Place → Place → Ordering
+place_cmp p q =
+    ordering_then (nat_cmp p.part q.part) (ordering_then (option_cmp name_cmp p.field q.field) (ordering_then (option_cmp name_cmp p.runway q.runway)
+    (ordering_then (nat_cmp p.rank q.rank) (nat_cmp p.side q.side))))
