@@ -3,8 +3,8 @@ _oe() {
     local word=${COMP_WORDS[COMP_CWORD]} before=${COMP_WORDS[COMP_CWORD - 1]}
     COMPREPLY=()
     case $COMP_CWORD,$before in
-        1,*) mapfile -t COMPREPLY < <(compgen -W "desk generate" -- "$word") ;;
-        2,desk) mapfile -t COMPREPLY < <(compgen -W "--db" -- "$word") ;;
+        1,*) mapfile -t COMPREPLY < <(compgen -W "ceiling desk generate stations" -- "$word") ;;
+        2,ceiling | 2,desk | 2,stations) mapfile -t COMPREPLY < <(compgen -W "--db" -- "$word") ;;
         *,--db | *,=) mapfile -t COMPREPLY < <(compgen -f -- "$word") ;;
     esac
 }

@@ -63,6 +63,14 @@ class Found:
 
 
 @dataclass(frozen=True)
+class Ceiling:
+    """The greatest height without a finding, in tenths of a foot, where there is one, and the findings above it (`oe ceiling`)."""
+    changes: int
+    height: int | None
+    entries: tuple[Entry, ...]
+
+
+@dataclass(frozen=True)
 class Verdict:
     changes: int
     notice: bool
@@ -114,7 +122,7 @@ class Report:
     lines: tuple[str, ...]
 
 
-Reply = Found | Verdict | Accepted | Refusal | CaseState | AirfieldRow | Review | Report
+Reply = Found | Ceiling | Verdict | Accepted | Refusal | CaseState | AirfieldRow | Review | Report
 
 
 def read_entries(texts: list[str]) -> tuple[Entry, ...]:
@@ -125,6 +133,8 @@ def parse(first: str, rest: Iterator[str]) -> Reply:
     match first.split(","):
         case ["found", changes, _, *entries]:
             return Found(int(changes), read_entries(entries))
+        case ["ceiling", changes, height, _, *entries]:
+            return Ceiling(int(changes), None if height == NONE else int(height), read_entries(entries))
         case ["verdict", changes, required, obstruction, count]:
             return Verdict(int(changes), required == "yes", obstruction == "yes", int(count))
         case ["ok", number, _, form, *values]:
@@ -161,5 +171,5 @@ def answers(form: str, reply: Reply) -> bool:
         case Accepted():
             return reply.form == {"file": "case"}.get(form, form)
         case _:
-            kinds = {"screen": Found, "verdict": Verdict, "case": CaseState, "airfield": AirfieldRow, "review": Review, "report": Report}
+            kinds = {"screen": (Found, Ceiling), "verdict": Verdict, "case": CaseState, "airfield": AirfieldRow, "review": Review, "report": Report}
             return isinstance(reply, kinds.get(form, ()))

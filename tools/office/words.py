@@ -4,7 +4,7 @@ from collections.abc import Iterable
 from office import forms
 from office.desk import Pair
 from office.records import TENTHS, Record, feet, show
-from office.replies import (NONE, Accepted, AirfieldRow, CaseState, Entry, Found, Refusal, Report, Review, Verdict, read_entries)
+from office.replies import (NONE, Accepted, AirfieldRow, CaseState, Ceiling, Entry, Found, Refusal, Report, Review, Verdict, read_entries)
 from office.structures import ENTRIES_OF_DETERMINATION
 
 MALFORMED = 13
@@ -40,6 +40,10 @@ REFUSALS = {  # {0} and {1} are the values of the refusal
     30: "it could not be stored in the file: look at the disk and its permissions, then send it again",
     31: "memory was wanting: send it again",
     32: "no form is due on this case",
+    35: "a way has at most 64 stations: end it with -, and begin the next one where it ends",
+    36: "KIND, MOBILE, FLAGS and ON are those of the way's first station",
+    37: "the way that ends here has no station",
+    38: "a station is a point of a road, railroad or waterway, and no object or antenna",
 }
 
 
@@ -83,6 +87,11 @@ def say_entries(entries: Iterable[Entry]) -> list[str]:
     if rows and all(row[0] for row in rows):
         out.append("no notice rule that the desk knows is met")
     return out or ["no rule that the desk knows is met"]
+
+
+def say_ceiling(height: int | None, entries: Iterable[Entry]) -> list[str]:
+    head = "at every height it has a finding:" if height is None else f"without a finding up to {feet_of(height)} above the ground; 0.1 ft higher:"
+    return [head, *say_entries(entries)]
 
 
 def say_day(day: str) -> str:
@@ -160,7 +169,9 @@ def say_malformed(record: Record, number: int) -> list[str]:
     head = f"REFUSED ({MALFORMED})"
     if number == 0:
         return [f"{head}: the line is longer than 8,192 bytes, or it is not one record (a quote or a line's end is out of place)"]
-    if number == 1 or record.form not in forms.FORMS:
+    if number == 1 and record.form in forms.FORMS:
+        return [f"{head} at field 1: `oe ceiling` and `oe stations` read `screen` records, and this is `{record.form}`"]
+    if record.form not in forms.FORMS:
         return [f'{head} at field 1: there is no form "{record.form[:LONGEST_QUOTED]}"']
     form = forms.FORMS[record.form]
     if number > len(form) + 1:
@@ -209,6 +220,8 @@ def say(pair: Pair) -> list[str]:
             return say_accepted(pair.record, reply)
         case Found(_, entries):
             return say_entries(entries)
+        case Ceiling(_, height, entries):
+            return say_ceiling(height, entries)
         case Verdict(_, notice, obstruction, count):
             return [f"notice required: {yes_or_no(notice)}; obstruction: {yes_or_no(obstruction)}; findings: {count} (`screen` lists them)"]
         case CaseState() as state:

@@ -53,7 +53,8 @@ class Replies(unittest.TestCase):
                 self.assertTrue(all(words.say(pair)), pair)
                 kinds.add(type(pair.reply))
                 rules |= {entry.rule.name for entry in pair.reply.entries} if isinstance(pair.reply, Found) else set()
-        self.assertEqual(kinds, set(replies.Reply.__args__))
+        # the stored sessions are those of `oe desk`, which has no ceilings
+        self.assertEqual(kinds, set(replies.Reply.__args__) - {replies.Ceiling})
         self.assertEqual(rules, set(replies.RULES))
 
     def test_every_refusal_of_the_document_has_words(self) -> None:

@@ -68,6 +68,17 @@ class Say(Trial):
         self.assertIn("    report review, lines: 1\n         1  nohazard  2026-01-15\n", out)
         self.assertIn("line 2: case,1\n    REFUSED (14)", out)
 
+    def test_ceilings(self) -> None:
+        """The replies of `oe ceiling`: a height, none, a record of another form."""
+        out = self.said("screen,0,0,1000,0,object,0,-,-\nscreen,0,0,1000,0,object,0,-,AAA\nreview\n",
+                        "ceiling,2,1020,1,9b1 AAA 09/27 1\nceiling,2,-,1,9d AAA - 0\nno,13,Malformed,1\n")
+        for words in ("without a finding up to 102.0 ft above the ground; 0.1 ft higher:\n"
+                      "    NOTICE to the FAA is required (Form 7460-1), it meets:\n"
+                      "      77.9(b)(1)      100 to 1 slope from AAA runway 09/27  by 0.1 ft\n",
+                      "    at every height it has a finding:\n", "      77.9(d)         it is on the airfield AAA\n",
+                      "read `screen` records, and this is `review`\n"):
+            self.assertIn(words, out)
+
     def test_replies_of_another_file(self) -> None:
         records = self.write("in", TWO)
         for replies, words in (("ok,1,published,airport\n", "the replies end before line 2"), ("ok,1,published,airport\n" * 2, "another sort"),

@@ -1,9 +1,9 @@
 -- What a file stands for where its front is that of another, and a closed gate, a short end or one frame more stands behind it.
-use Rattle.std.proofs.Common.{◌≡◌, ℕ, suc, ◌+◌, ◌-◌, ◌<◌, ◌≤◌, ◌^◌, true, false, List, [], ◌∷◌, ◌++◌, map, length, get_or, take, drop, refl, sym, ap, subst, ◌∙◌, arith, length-take, length-append, append_assoc}
+use Rattle.std.proofs.Common.{◌≡◌, ℕ, suc, ◌+◌, ◌-◌, ◌<◌, ◌≤◌, ◌^◌, true, false, List, [], ◌∷◌, ◌++◌, map, length, get_or, take, drop, refl, sym, ap, subst, ◌∙◌, arith, length-take, length-append, append_assoc, Option}
 use Rattle.std.specs.Int.{w64, from_be_bytes, to_be_bytes}
 use Rattle.std.specs.FinMap as maps
 use Rattle.std.proofs.lemmas.Nat.{from_be_bytes-to_be_bytes_8}
-use Rattle.std.proofs.lemmas.List.{take-take, take_at, drop_at, drop-drop, drop-take, map-append}
+use Rattle.std.proofs.lemmas.List.{take-take, take_at, drop_at, drop-drop, drop-take, map-append, append-nil}
 use Rattle.oe_keeper.specs.Kept.{Kept, rows_after_changes}
 use Rattle.oe_keeper.specs.declared.change.RowChange.{RowChange}
 use Rattle.change_frames.specs.Spelling.{spelled, block, AreChanges}
@@ -89,6 +89,17 @@ block_open p junk fits =
       holds = ap (λ (k : ℕ). take k (drop 8 (block p ++ junk))) size ∙ ap (λ (l : List ℕ). take (length p) l) behind ∙ take_at p (0 ∷ junk) (length p) refl;
       rest = ap (λ (k : ℕ). drop k (1 ∷ block p ++ junk)) (sym nine) ∙ rest;
     }
+
+-- a file that is one frame stands for its list
+pub one_list : (frame : List ℕ) (changes : List RowChange) → frame ≡ 1 ∷ block (spelled changes) → length (spelled changes) < 2 ^ 64 → AreChanges changes → lists_of frame ≡ changes ∷ []
+one_list frame changes is fits are =
+    let p = spelled changes in
+    let same : 1 ∷ block p ++ [] ≡ frame = ap (λ (l : List ℕ). 1 ∷ l) (append-nil (block p)) ∙ sym is in
+    let is_open : IsOpen p [] frame = subst (IsOpen p []) same (block_open p [] fits) in
+    let shut : counts (drop (9 + size_at frame) frame) ≡ false = subst (λ (k : ℕ). counts (drop (9 + k) frame) ≡ false) (sym is_open.size) (subst (λ (l : List ℕ). counts l ≡ false) (sym is_open.rest) (closed_gate (0 ∷ []) (λ e. absurd (omega arith)))) in
+    let one : frames frame ≡ (0, p) ∷ [] =
+    frames_counts 0 frame is_open.whole ∙ ap (λ (l : List (ℕ × List ℕ)). (0, payload frame) ∷ l) (frames_closed _ _ shut) ∙ ap (λ (q : List ℕ). (0, q) ∷ []) is_open.holds in
+    ap (λ (l : List (ℕ × List ℕ)). map list_of l) one ∙ ap (λ (read : Option (List RowChange)). or_damaged 0 read ∷ []) (changes_again changes are)
 
 pub record HasMore (base : List ℕ) (changes : List RowChange) (c : List ℕ) : Type 0 where
   pub rows : rows_of c ≡ rows_after_changes (rows_of base) changes

@@ -1,7 +1,8 @@
 //! A list of changes as bytes.
 
-ghost use Rattle.std.specs.Prelude.{◌≡◌, ◌<◌, ◌^◌, ◌++◌, ◌∷◌, length, IfOk, OnOk};
+ghost use Rattle.std.specs.Prelude.{◌≡◌, ◌<◌, ◌^◌, ◌++◌, [], ◌∷◌, length, IfOk, OnOk};
 ghost use Rattle.change_frames.specs.Spelling.{text, spelled_change, spelled, block, FitsText, Fits, AreChanges};
+ghost use Rattle.change_frames.specs.Frames.{lists_of};
 
 use crate::marks::{CLOSED_GATE, OPEN_GATE, PUT, REMOVE};
 use grid_exact::{NoMemory, Text};
@@ -46,7 +47,8 @@ fn payload_of(alloc: Global, changes: &[RowChange]) -> Result<Vec<u8>, NoMemory>
     Ok(out)
 }
 
-/// The frame that holds the changes, with its gate open, and a closed gate behind it.
+/// The frame that holds the changes, with its gate open, and a closed gate behind it. Read as a file it
+/// stands for this one list.
 ///
 /// # Errors
 ///
@@ -55,6 +57,7 @@ pub fn frame_of(alloc: Global, changes: &[RowChange]) -> Result<Vec<u8>, NoMemor
     ensures bytes { IfOk result (λ v. v.items ≡ 1 ∷ block (spelled changes.now)) }
     ensures bound { OnOk result (length (spelled changes.now) < 2 ^ 63) }
     ensures fits { OnOk result (AreChanges changes.now) }
+    ensures read { IfOk result (λ v. lists_of v.items ≡ changes.now ∷ []) }
 {
     let payload = payload_of(alloc, changes)?;
     let mut out = Vec::new(alloc);

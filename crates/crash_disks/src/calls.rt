@@ -8,9 +8,9 @@ ghost use Rattle.crash_disks.specs.Turns.{turn_at};
 
 use crate::bytes::with_patch;
 use crate::disk::Failed;
-use crate::fail_list::FailList;
 use crate::step::Step;
 use grid_exact::NoMemory;
+use oe_keeper::FailList;
 use std::alloc::Global;
 use std::collections::VecDeque;
 

@@ -1,6 +1,6 @@
 //! What a disk's calls do to its bytes, and what a crash may make of them.
 
-ghost use Rattle.std.specs.Prelude.{◌≡◌, ◌≤◌, ◌<◌, ◌+◌, ◌^◌, ℕ, List, Option, IfOk, OnOk, length, option_copied, take};
+ghost use Rattle.std.specs.Prelude.{◌≡◌, ◌≤◌, ◌<◌, ◌+◌, ◌^◌, ℕ, Bool, List, Option, is_ok, IfOk, OnOk, OnErr, length, option_copied, take};
 ghost use Rattle.crash_disks.specs.Bytes.{Holds, Torn, Cut, IsPart};
 ghost use Rattle.crash_disks.specs.Crash.{Only, Follows, Stays, GoesOn, HasCause};
 
@@ -37,6 +37,12 @@ pub trait Disk {
     /// An `open` of this place that answered Ok leads from the one disk to the other.
     ghost Opens: { Self → Option (List ℕ) → Self → Type 0 };
 
+    /// An `open` of this place that failed leads from the one disk to the other.
+    ghost FailsToOpen: { Self → Option (List ℕ) → Self → Type 0 };
+
+    /// One call leads from the one disk to the other, and answered Ok or did not.
+    ghost Called: { Self → Bool → Self → Type 0 };
+
     /// Opens the file at the place, or one of its own where none is named.
     ///
     /// # Errors
@@ -44,7 +50,9 @@ pub trait Disk {
     /// `Failed` only where its count of faults rose, as in each call.
     fn open(&mut self, place: Option<&str>) -> Result<(), Failed>
         ensures opened { OnOk result (Opens self.old (option_copied place.entry) self.new) }
-        ensures cause { HasCause (faults self.old) (faults self.new) result };
+        ensures unopened { OnErr result (FailsToOpen self.old (option_copied place.entry) self.new) }
+        ensures cause { HasCause (faults self.old) (faults self.new) result }
+        ensures called { Called self.old (is_ok result) self.new };
 
     /// How many bytes there are.
     ///
@@ -57,7 +65,8 @@ pub trait Disk {
         ensures content { IsTold → content self.new ≡ content self.old }
         ensures crash { IsTold → Stays (MayLeave self.old) (MayLeave self.new) }
         ensures time { TellsPast → GoesOn moment LeftSince MayLeave self.old self.new }
-        ensures cause { HasCause (faults self.old) (faults self.new) result };
+        ensures cause { HasCause (faults self.old) (faults self.new) result }
+        ensures called { Called self.old (is_ok result) self.new };
 
     /// Hands out bytes from this place on: at least one into a buffer that is not empty.
     ///
@@ -72,7 +81,8 @@ pub trait Disk {
         ensures content { IsTold → content self.new ≡ content self.old }
         ensures crash { IsTold → Stays (MayLeave self.old) (MayLeave self.new) }
         ensures time { TellsPast → GoesOn moment LeftSince MayLeave self.old self.new }
-        ensures cause { HasCause (faults self.old) (faults self.new) result };
+        ensures cause { HasCause (faults self.old) (faults self.new) result }
+        ensures called { Called self.old (is_ok result) self.new };
 
     /// Writes over what is there, and past the end. Until a sync a crash may leave any bytes in the range.
     ///
@@ -87,7 +97,8 @@ pub trait Disk {
         ensures crash { IsTold
             → Follows (Torn at (length bytes.now)) (MayLeave self.old) (MayLeave self.new) }
         ensures time { TellsPast → GoesOn moment LeftSince MayLeave self.old self.new }
-        ensures cause { HasCause (faults self.old) (faults self.new) result };
+        ensures cause { HasCause (faults self.old) (faults self.new) result }
+        ensures called { Called self.old (is_ok result) self.new };
 
     /// Cuts the file to a length. Until a sync a crash may leave any length between.
     ///
@@ -99,7 +110,8 @@ pub trait Disk {
         ensures cut { IsTold → OnOk result (content self.new ≡ take len (content self.old)) }
         ensures crash { IsTold → Follows (Cut len) (MayLeave self.old) (MayLeave self.new) }
         ensures time { TellsPast → GoesOn moment LeftSince MayLeave self.old self.new }
-        ensures cause { HasCause (faults self.old) (faults self.new) result };
+        ensures cause { HasCause (faults self.old) (faults self.new) result }
+        ensures called { Called self.old (is_ok result) self.new };
 
     /// Afterwards a crash leaves what a read gives.
     ///
@@ -111,7 +123,8 @@ pub trait Disk {
         ensures content { IsTold → OnOk result (content self.new ≡ content self.old) }
         ensures crash { IsTold → Stays (MayLeave self.old) (MayLeave self.new) }
         ensures time { TellsPast → GoesOn moment LeftSince MayLeave self.old self.new }
-        ensures cause { HasCause (faults self.old) (faults self.new) result };
+        ensures cause { HasCause (faults self.old) (faults self.new) result }
+        ensures called { Called self.old (is_ok result) self.new };
 
     /// What a read gives is one of the things that a crash may leave.
     ghost content_left: { (d : Self) → IsTold → MayLeave d (content d) };

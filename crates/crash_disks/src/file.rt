@@ -138,6 +138,10 @@ impl<'a> Disk for FileDisk<'a> {
 
     ghost Opens = { λ d place e. Unit {0} };
 
+    ghost FailsToOpen = { λ d place e. Unit {0} };
+
+    ghost Called = { λ d ok e. Unit {0} };
+
     ghost content_left = { λ d told. absurd told };
 
     ghost counts_now = { λ d t c told le now. absurd told };

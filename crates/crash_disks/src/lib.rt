@@ -7,14 +7,12 @@ mod bytes;
 mod calls;
 mod crash;
 mod disk;
-mod fail_list;
 mod file;
 mod memory;
 mod step;
 mod synced;
 
 pub use disk::{Disk, Failed};
-pub use fail_list::FailList;
 pub use file::FileDisk;
 pub use memory::MemoryDisk;
 pub use synced::{cut_synced, write_synced};

@@ -6,9 +6,9 @@ ghost use Rattle.crash_disks.specs.Replay.{replay, fits};
 use crate::calls::{Turn, cut, fault, hand_out, next_turn, note, write};
 use crate::crash::left_by;
 use crate::disk::{Disk, Failed};
-use crate::fail_list::FailList;
 use crate::step::Step;
 use grid_exact::NoMemory;
+use oe_keeper::FailList;
 use std::alloc::Global;
 use std::collections::VecDeque;
 
@@ -81,6 +81,7 @@ impl MemoryDisk {
 impl Disk for MemoryDisk {
     ghost use Rattle.std.specs.Prelude.{length};
     ghost use Rattle.crash_disks.specs.Replay.{Leaves, LeftAfter};
+    ghost use Rattle.crash_disks.specs.Memory.{HasSameBytes, IsCounted};
     ghost use Rattle.crash_disks.specs.Laws.{bytes_left, left_now, only_left_now};
 
     ghost IsTold = { Unit {0} };
@@ -97,8 +98,11 @@ impl Disk for MemoryDisk {
 
     ghost faults = { λ d. d.faults };
 
-    ghost Opens = { λ d place e. (e.first.items ≡ d.first.items) × (e.steps.items ≡ d.steps.items)
-        × (e.bytes.items ≡ d.bytes.items) };
+    ghost Opens = { λ d place e. HasSameBytes d e };
+
+    ghost FailsToOpen = { λ d place e. HasSameBytes d e };
+
+    ghost Called = { IsCounted };
 
     ghost content_left = { λ d _. bytes_left d };
 

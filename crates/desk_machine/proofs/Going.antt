@@ -5,7 +5,6 @@ use Rattle.std.proofs.lemmas.Grind.{common_steps}
 use Rattle.jiff_core.specs.declared.civil.date.Date.{Date}
 use Rattle.jiff_core.specs.Date.{epoch_day}
 use Rattle.airfields.specs.declared.airfield.Airfield.{Airfield}
-use Rattle.oe_findings.specs.List.{findings_of}
 use Rattle.determination_dates.specs.declared.determination.Record.{Record}
 use Rattle.determination_dates.specs.declared.life.End.TheVariants as ends
 use Rattle.determination_dates.specs.declared.life.Life.{Life}
@@ -32,7 +31,6 @@ use Rattle.case_acts.specs.Rulings.{by_first, ruling}
 use Rattle.case_acts.specs.Effects.{ended_life, petition_effect, disposal_effect, settlement_effect, extension_effect, moved, license_effect, abandonment_effect, determination_effect, issue_effect, filing_effect, form_came}
 use Rattle.case_acts.specs.Decisions.{decision_by, is_reviewable}
 use Rattle.desk_machine.specs.States.{State, case_at}
-use Rattle.desk_machine.specs.Evaluations.{basis_of, own_list, site_of}
 use Rattle.desk_machine.specs.Machine.{ruling_of_act, on_day, on_kept, on_list, day_rules, file_rules}
 use Rattle.desk_machine.specs.Marks.{Goes, stands_on}
 
@@ -174,40 +172,38 @@ abandon_goes : (s : State) (number : ℕ) (c : KeptCase) (broken : List Refusal)
 abandon_goes s number c broken e h =
     goes_as s (abandonment_effect number c) e (abandoned_out s number c s.day refl) (some_same _ e (came (slice_get broken 0) (Some (abandonment_effect number c)) e h).some)
 
-determination_goes : (s : State) (number : ℕ) (finding : Option Impact) (today : Date) (c : KeptCase) (kept : KeptList) (e : Effect) → case_at s.cases number ≡ Some c → kept ≡ own_list s c.submission.filing
+determination_goes : (s : State) (number : ℕ) (finding : Option Impact) (today : Date) (c : KeptCase) (kept : KeptList) (e : Effect)
     → ruling (determination_rules finding kept today c) (determination_effect number finding s.closed kept today c) ≡ Ok e → Goes s e.step
-determination_goes s number finding today c kept e at own h =
-    goes_mapped Record s (issued_record today (decision_by finding) (is_reviewable (decision_by finding) c.submission.filing kept.list) s.closed) _ e
-    (λ r d is. (let same : c ≡ d = cc (at, is) in ap (λ (k : KeptList). k.list) own ∙ ap (λ (x : KeptCase). findings_of s.register x.submission.filing) same))
+determination_goes s number finding today c kept e h =
+    goes_mapped Record s (issued_record today (decision_by finding) (is_reviewable (decision_by finding) c.submission.filing kept.list) s.closed) _ e (λ r. tt)
     (came (slice_get (determination_rules finding kept today c) 0) (determination_effect number finding s.closed kept today c) e h).some
 
-list_shown : (s : State) (o : Option KeptCase) (c : KeptCase) (act : KeptList → Result Effect Refusal) (e : Effect) (P : Type 0) → o ≡ Some c → ((kept : KeptList) → kept ≡ own_list s c.submission.filing → act kept ≡ Ok e → P)
-    → on_list (option_map (own_list s) (option_map site_of o)) act ≡ Ok e → P
-list_shown s None c act e P is f h = absurd (cc (is))
-list_shown s (Some d) c act e P is f h = f (own_list s d.submission.filing) (ap (λ (x : KeptCase). own_list s x.submission.filing) (let same : d ≡ c = cc (is) in same)) h
+pub on_list_shown : (o : Option KeptList) (act : KeptList → Result Effect Refusal) (e : Effect) (P : Type 0) → ((kept : KeptList) → o ≡ Some kept → act kept ≡ Ok e → P) → on_list o act ≡ Ok e → P
+on_list_shown None act e P f h = absurd (cc (h))
+on_list_shown (Some kept) act e P f h = f kept refl h
 
-pub acted_goes : (s : State) (p : ℕ) (act : Act) (e : Effect) → ruling_of_act s (basis_of s p None act) act ≡ Ok e → Goes s e.step
-acted_goes s p (acts.Amend a) e h = goes_as s _ e tt (ok_same _ e h)
-acted_goes s p (acts.Day d) e h =
+pub acted_goes : (s : State) (basis : Option KeptList) (act : Act) (e : Effect) → ruling_of_act s basis act ≡ Ok e → Goes s e.step
+acted_goes s basis (acts.Amend a) e h = goes_as s _ e tt (ok_same _ e h)
+acted_goes s basis (acts.Day d) e h =
     goes_as s _ e (day_goes s s.day d _ e refl h) (some_same _ e (came (slice_get (day_rules s.day d) 0) _ e h).some)
-acted_goes s p (acts.Closed d) e h = goes_as s _ e tt (ok_same _ e h)
-acted_goes s p (acts.File n) e h = on_day_shown s.day _ e (Goes s e.step) (λ today day k. file_goes s today (length s.cases + 1) n e day k) h
-acted_goes s p (acts.Form number) e h = on_case_shown s number _ e (Goes s e.step) (λ today c day at k. form_goes s number today c _ e k) h
-acted_goes s p (acts.Determine number finding) e h =
+acted_goes s basis (acts.Closed d) e h = goes_as s _ e tt (ok_same _ e h)
+acted_goes s basis (acts.File n) e h = on_day_shown s.day _ e (Goes s e.step) (λ today day k. file_goes s today (length s.cases + 1) n e day k) h
+acted_goes s basis (acts.Form number) e h = on_case_shown s number _ e (Goes s e.step) (λ today c day at k. form_goes s number today c _ e k) h
+acted_goes s basis (acts.Determine number finding) e h =
     on_case_shown s number _ e (Goes s e.step)
-    (λ today c day at k. list_shown s (case_at s.cases number) c _ e (Goes s e.step) at (λ kept own m. determination_goes s number finding today c kept e at own m) k) h
-acted_goes s p (acts.Petition number party) e h =
+    (λ today c day at k. on_list_shown basis _ e (Goes s e.step) (λ kept on m. determination_goes s number finding today c kept e m) k) h
+acted_goes s basis (acts.Petition number party) e h =
     on_case_shown s number _ e (Goes s e.step)
     (λ today c day at k. standing_act s number (of_record c.life.determination (review_rules today)) (petition_effect number c) (is_standing (status_of c.life (epoch_day today))) (refusals.NotStanding (status_of c.life (epoch_day today))) today c e day at (λ b. b) (petition_puts number c e) k) h
-acted_goes s p (acts.Dispose number affirm) e h =
+acted_goes s basis (acts.Dispose number affirm) e h =
     on_case_shown s number _ e (Goes s e.step)
     (λ today c day at k. standing_act s number (of_record c.life.determination pending_rules) (disposal_effect number affirm today c) (is_standing (status_of c.life (epoch_day today))) (refusals.NotStanding (status_of c.life (epoch_day today))) today c e day at (λ b. b) (disposal_puts number affirm today c e) k) h
-acted_goes s p (acts.Extend number months started filing warranted) e h =
+acted_goes s basis (acts.Extend number months started filing warranted) e h =
     on_case_shown s number _ e (Goes s e.step)
     (λ today c day at k.
     let x : Extension = record { months = months; started = started; filed = filing; warranted = warranted } in
     standing_act s number (of_record c.life.determination (moving_rules x today c.submission.fcc)) (extension_effect number x c) (is_in_force (status_of c.life (epoch_day today))) (refusals.NotStanding (status_of c.life (epoch_day today))) today c e day at (in_force_stands (status_of c.life (epoch_day today))) (extension_puts number x c e) k) h
-acted_goes s p (acts.Fcc number completion) e h =
+acted_goes s basis (acts.Fcc number completion) e h =
     on_case_shown s number _ e (Goes s e.step)
     (λ today c day at k. standing_act s number (of_record c.life.determination (λ r. license_rules c)) (license_effect number completion today c) (is_in_force (status_of c.life (epoch_day today))) (refusals.NotStanding (status_of c.life (epoch_day today))) today c e day at (in_force_stands (status_of c.life (epoch_day today))) (license_puts number completion today c e) k) h
-acted_goes s p (acts.Abandon number) e h = on_case_shown s number _ e (Goes s e.step) (λ today c day at k. abandon_goes s number c _ e k) h
+acted_goes s basis (acts.Abandon number) e h = on_case_shown s number _ e (Goes s e.step) (λ today c day at k. abandon_goes s number c _ e k) h

@@ -53,8 +53,8 @@ case_view s number = option_map (view_of s.day (is_marked s number) number) (cas
 
 -- ---- steps that fit the state
 
--- a new case has the desk's day and no list; the desk's day does not move back; a determination is issued on the list of its structure
--- over the present airfields; and no other act makes a determination stand again
+-- a new case has the desk's day and no list; the desk's day does not move back; and no act but an issuance makes a determination stand
+-- again
 abbrev pub Goes : State → Step → Type 0
 Goes s (steps.Amended a) = Unit {0}
 Goes s (steps.DaySet d) = IfSome s.day (λ kept. epoch_day kept ≤ℤ epoch_day d)
@@ -62,4 +62,14 @@ Goes s (steps.DayClosed d) = Unit {0}
 Goes s (steps.CaseFiled c) = (c.list ≡ None) × (s.day ≢ None)
 Goes s (steps.FormPut number day) = Unit {0}
 Goes s (steps.LifePut number life) = (c : KeptCase) → case_at s.cases number ≡ Some c → stands_on s.day c ≡ false → stands_on s.day (record c { life = life }) ≡ false
-Goes s (steps.Issued number life kept) = (c : KeptCase) → case_at s.cases number ≡ Some c → kept.list ≡ findings_of s.register c.submission.filing
+Goes s (steps.Issued number life kept) = Unit {0}
+
+-- a determination is issued on the list of its structure over the present airfields
+abbrev pub IsPresent : State → Step → Type 0
+IsPresent s (steps.Amended a) = Unit {0}
+IsPresent s (steps.DaySet d) = Unit {0}
+IsPresent s (steps.DayClosed d) = Unit {0}
+IsPresent s (steps.CaseFiled c) = Unit {0}
+IsPresent s (steps.FormPut number day) = Unit {0}
+IsPresent s (steps.LifePut number life) = Unit {0}
+IsPresent s (steps.Issued number life kept) = (c : KeptCase) → case_at s.cases number ≡ Some c → kept.list ≡ findings_of s.register c.submission.filing

@@ -2,7 +2,7 @@
 
 use grid_exact::Bytes;
 use oe_commands::run::run;
-use oe_commands::{Command, Status, Words};
+use oe_commands::{Command, Service, Status, Words};
 use oe_http::{FakeSink, FakeSource};
 use oe_keeper::NoKeeper;
 use std::alloc::Global;
@@ -38,21 +38,64 @@ fn words_of_generate(rt: HostRuntime) -> Result<(), Fail> {
     Ok(())
 }
 
-/// Whether the words are the command `desk`, with a file or without.
-fn is_desk(alloc: Global, list: &[&str]) -> Result<bool, Fail> {
+/// Whether the words ask for this service, with a file or without.
+fn serves(alloc: Global, list: &[&str], wanted: Service) -> Result<bool, Fail> {
     let words = words(alloc, list)?;
-    Ok(matches!(words.asks_for(), Some(Command::Desk { .. })))
+    match words.asks_for() {
+        Some(Command::Serve { service, .. }) => Ok(service == wanted),
+        _ => Ok(false),
+    }
 }
 
 #[test]
-fn words_of_a_desk(rt: HostRuntime) -> Result<(), Fail> {
+fn words_of_services(rt: HostRuntime) -> Result<(), Fail> {
     let alloc = rt.alloc();
-    assert!(rt; is_desk(alloc, &["desk"])?);
-    assert!(rt; is_desk(alloc, &["desk", "--db", "a"])?);
-    assert!(rt; is_desk(alloc, &["desk", "--db=a"])?);
-    assert!(rt; !is_desk(alloc, &[])?);
-    assert!(rt; !is_desk(alloc, &["desk", "--db"])?);
-    assert!(rt; !is_desk(alloc, &["desk", "--db", "-x"])?);
+    for (word, service) in [
+        ("desk", Service::Desk),
+        ("ceiling", Service::Ceiling),
+        ("stations", Service::Stations),
+    ] {
+        assert!(rt; serves(alloc, &[word], service)?);
+        assert!(rt; serves(alloc, &[word, "--db", "a"], service)?);
+        assert!(rt; serves(alloc, &[word, "--db=a"], service)?);
+        assert!(rt; !serves(alloc, &[word, "--db"], service)?);
+        assert!(rt; !serves(alloc, &[word, "--db", "-x"], service)?);
+    }
+    assert!(rt; !serves(alloc, &["ceiling"], Service::Stations)?);
+    assert!(rt; !serves(alloc, &[], Service::Desk)?);
+    Ok(())
+}
+
+/// Whether a run with this word, over no keeper, ends done and writes this text for this input.
+fn writes(alloc: Global, word: &str, input: &[u8], text: &[u8]) -> Result<bool, Fail> {
+    let mut source = FakeSource::new(Bytes::from_slice(alloc, input)?, 4096, Vec::new(alloc));
+    let mut sink = FakeSink::new(alloc, 4096, Vec::new(alloc))?;
+    let words = words(alloc, &[word])?;
+    let status = run(alloc, &words, NoKeeper, &mut source, &mut sink);
+    Ok(matches!(&status, Status::Done) && sink.bytes() == text)
+}
+
+/// Ceilings and ways over no airfields: at 200 ft notice is required of a structure (77.9(a)), and of the highest vehicle on a road. A way
+/// ends with the input too.
+#[test]
+fn questions_about_places(rt: HostRuntime) -> Result<(), Fail> {
+    let alloc = rt.alloc();
+    assert!(rt;
+        writes(
+            alloc,
+            "ceiling",
+            b"screen,0,0,1000,0,object,0,-,-\nscreen,0,0,1000,1,object,0,-,-\nreview\n",
+            b"ceiling,0,2000,1,9a - - 1\nno,13,Malformed,5\nno,13,Malformed,1\n"
+        )?
+    );
+    assert!(rt;
+        writes(
+            alloc,
+            "stations",
+            b"screen,0,0,0,1,object,0,-,-\n-\nscreen,0,0,0,1900,road,0,-,-\nscreen,9,0,0,1901,road,0,-,-\n",
+            b"no,38,NotAWay\nno,37,WayEmpty\nstations,0,2,1,9c-a - - 51 2\n"
+        )?
+    );
     Ok(())
 }
 

@@ -25,7 +25,7 @@ use Rattle.review_marks.specs.Books.{row_at, joined, row_marked_as, marked_cases
 use Rattle.review_marks.specs.Shares.{AirfieldChange, concerns}
 use Rattle.review_marks.specs.Turns.{Leads, row_after_change}
 use Rattle.review_marks.specs.declared.row.Row.{Row}
-use Rattle.review_marks.proofs.Unconcerned.{same_lists, unconcerned}
+use Rattle.review_marks.proofs.Unconcerned.{unconcerned}
 use Rattle.review_marks.proofs.Turning.{apart, by_places, eq_suc, same_number, suc_zero, zero_suc}
 use Rattle.desk_machine.specs.States.{State, case_at, cases_changed_at, with_case, state_after_step}
 use Rattle.desk_machine.proofs.CaseFacts.{case_changed, case_past}
@@ -219,26 +219,22 @@ marks_fallen s k f rows are fallen n =
 abbrev issued_case : Life → KeptList → KeptCase → KeptCase
 issued_case life kept c = record c { life = life; list = Some kept }
 
-abbrev unmarked : KeptCase → KeptList → Row
-unmarked c kept = record { filing = c.submission.filing; stored = kept.list; marked = false }
-
-issued_at : (s : State) (life : Life) (kept : KeptList) (there : KeptCase) (b : Bool) (o : Option KeptCase) → differs kept.list (findings_of s.register there.submission.filing) ≡ false
+issued_at : (s : State) (life : Life) (kept : KeptList) (there : KeptCase) (b : Bool) (o : Option KeptCase)
     → (b ≡ true → (o ≡ Some there) × (stands_on s.day (issued_case life kept there) ≡ true))
-    → cond b (Some (unmarked there kept)) (with_some o (watched_row s)) ≡ with_some (option_map (λ c. cond b (issued_case life kept c) c) o) (watched_row s)
-issued_at s life kept there false None same h = refl
-issued_at s life kept there false (Some c) same h = refl
-issued_at s life kept there true o same h =
+    → cond b (Some (comparison_row s there kept)) (with_some o (watched_row s)) ≡ with_some (option_map (λ c. cond b (issued_case life kept c) c) o) (watched_row s)
+issued_at s life kept there false None h = refl
+issued_at s life kept there false (Some c) h = refl
+issued_at s life kept there true o h =
     let p = h refl in
-    ap (λ (m : Bool). Some (record { filing = there.submission.filing; stored = kept.list; marked = m })) (sym same)
-    ∙ ap (λ (x : Bool). cond x (Some (comparison_row s (issued_case life kept there) kept)) None) (sym p.1)
+    ap (λ (x : Bool). cond x (Some (comparison_row s (issued_case life kept there) kept)) None) (sym p.1)
     ∙ ap (λ o. with_some (option_map (λ c. issued_case life kept c) o) (watched_row s)) (sym p.0)
 
 pub marks_issued : (s : State) (k : ℕ) (life : Life) (kept : KeptList) (there : KeptCase) (rows : List (Option Row)) → AreMarks s rows → 1 ≤ k → k ≤ length rows → case_at s.cases k ≡ Some there
-    → differs kept.list (findings_of s.register there.submission.filing) ≡ false → stands_in (record s { cases = with_case k (issued_case life kept) s.cases }) k ≡ true
-    → AreMarks (record s { cases = with_case k (issued_case life kept) s.cases }) (slice_set rows (k - 1) (Some (unmarked there kept)))
-marks_issued s k life kept there rows are low high at same stands n =
-    put_row rows (unmarked there kept) k n low high ∙ ap (cond (nat_eq k n) (Some (unmarked there kept))) (are n)
-    ∙ issued_at s life kept there (nat_eq k n) (case_at s.cases n) same (λ e. (ap (case_at s.cases) (sym (same_number k n e)) ∙ at, stands_then s k (issued_case life kept) there true at stands))
+    → stands_in (record s { cases = with_case k (issued_case life kept) s.cases }) k ≡ true
+    → AreMarks (record s { cases = with_case k (issued_case life kept) s.cases }) (slice_set rows (k - 1) (Some (comparison_row s there kept)))
+marks_issued s k life kept there rows are low high at stands n =
+    put_row rows (comparison_row s there kept) k n low high ∙ ap (cond (nat_eq k n) (Some (comparison_row s there kept))) (are n)
+    ∙ issued_at s life kept there (nat_eq k n) (case_at s.cases n) (λ e. (ap (case_at s.cases) (sym (same_number k n e)) ∙ at, stands_then s k (issued_case life kept) there true at stands))
     ∙ ap (λ o. with_some o (watched_row s)) (sym (case_changed k (issued_case life kept) s.cases n))
 
 -- where it does not stand, the row that was put is closed again
@@ -388,19 +384,18 @@ pub kept_alive : (s : State) (k : ℕ) (life : Life) (rows : List (Option Row)) 
 kept_alive s k life rows goes h = (lived s k life rows (stands_in (state_after_step (steps.LifePut k life) s) k) refl goes h.0, day_formed s k (λ c. record c { life = life }) h.1)
 
 issued_rows : (s : State) (k : ℕ) (life : Life) (kept : KeptList) (there : KeptCase) (rows : List (Option Row)) (b : Bool) → stands_in (record s { cases = with_case k (issued_case life kept) s.cases }) k ≡ b
-    → Goes s (steps.Issued k life kept) → 1 ≤ k → k ≤ length rows → case_at s.cases k ≡ Some there → AreMarks s rows
-    → AreMarks (record s { cases = with_case k (issued_case life kept) s.cases }) (cond b (slice_set rows (k - 1) (Some (unmarked there kept))) (rows_after_close k (slice_set rows (k - 1) (Some (unmarked there kept)))))
-issued_rows s k life kept there rows true is goes low high at are =
-    marks_issued s k life kept there rows are low high at (same_lists kept.list (findings_of s.register there.submission.filing) (goes there at)) is
-issued_rows s k life kept there rows false is goes low high at are =
-    λ n. closed_put rows (unmarked there kept) k low high n ∙ marks_fallen s k (issued_case life kept) rows are is n
+    → 1 ≤ k → k ≤ length rows → case_at s.cases k ≡ Some there → AreMarks s rows
+    → AreMarks (record s { cases = with_case k (issued_case life kept) s.cases }) (cond b (slice_set rows (k - 1) (Some (comparison_row s there kept))) (rows_after_close k (slice_set rows (k - 1) (Some (comparison_row s there kept)))))
+issued_rows s k life kept there rows true is low high at are = marks_issued s k life kept there rows are low high at is
+issued_rows s k life kept there rows false is low high at are =
+    λ n. closed_put rows (comparison_row s there kept) k low high n ∙ marks_fallen s k (issued_case life kept) rows are is n
 
-pub kept_issued : (s : State) (k : ℕ) (life : Life) (kept : KeptList) (there : KeptCase) (old rows : List (Option Row)) → Goes s (steps.Issued k life kept) → case_at s.cases k ≡ Some there → ((n : ℕ) → row_at rows n ≡ row_at old n)
+pub kept_issued : (s : State) (k : ℕ) (life : Life) (kept : KeptList) (there : KeptCase) (old rows : List (Option Row)) → case_at s.cases k ≡ Some there → ((n : ℕ) → row_at rows n ≡ row_at old n)
     → k ≤ length rows → AreKept s old
     → AreKept (state_after_step (steps.Issued k life kept) s)
-    (cond (stands_in (state_after_step (steps.Issued k life kept) s) k) (slice_set rows (k - 1) (Some (unmarked there kept))) (rows_after_close k (slice_set rows (k - 1) (Some (unmarked there kept)))))
-kept_issued s k life kept there old rows goes at same high h =
-    (issued_rows s k life kept there rows (stands_in (state_after_step (steps.Issued k life kept) s) k) refl goes (not_zero k at) high at (λ n. same n ∙ h.0 n), day_formed s k (issued_case life kept) h.1)
+    (cond (stands_in (state_after_step (steps.Issued k life kept) s) k) (slice_set rows (k - 1) (Some (comparison_row s there kept))) (rows_after_close k (slice_set rows (k - 1) (Some (comparison_row s there kept)))))
+kept_issued s k life kept there old rows at same high h =
+    (issued_rows s k life kept there rows (stands_in (state_after_step (steps.Issued k life kept) s) k) refl (not_zero k at) high at (λ n. same n ∙ h.0 n), day_formed s k (issued_case life kept) h.1)
   where
     not_zero : (k : ℕ) → case_at s.cases k ≡ Some there → 1 ≤ k
     not_zero zero e = absurd (cc (e))

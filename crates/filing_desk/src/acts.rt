@@ -1,20 +1,22 @@
 //! The rulings on acts, on the present state of the desk.
 
-ghost use Rattle.std.specs.Prelude.{◌≡◌, ◌≢◌, ◌<◌, ◌≤◌, None, Ok, Err, IfOk, IfSome, MatchResult};
+ghost use Rattle.std.specs.Prelude.{◌≡◌, ◌≢◌, ◌<◌, ◌≤◌, true, None, Ok, Err, IfOk, IfSome, MatchResult, option_copied};
 ghost use Rattle.wire_requests.specs.Limits.{IsValidAct};
 ghost use Rattle.case_requests.specs.declared.act.Act.TheVariants as acts;
 ghost use Rattle.case_acts.specs.Cases.{HasLimitedDates, IsSoundStep};
 ghost use Rattle.determination_dates.specs.Days.{IsLimited};
 ghost use Rattle.determination_dates.specs.declared.determination.TheConstants.{EXTENSION_MONTHS};
-ghost use Rattle.desk_machine.specs.States.{last_number};
-ghost use Rattle.desk_machine.specs.Evaluations.{basis_of};
+ghost use Rattle.desk_machine.specs.Evaluations.{basis_of, evaluation_of};
 ghost use Rattle.desk_machine.specs.Machine.{ruling_of_act};
 
 use crate::desk::Desk;
+use crate::evaluated::Evaluated;
+use airfields::Filing;
 use case_acts::{Effect, Extension, Step, is_before};
 use case_records::{KeptList, Outcome, Refusal};
 use case_requests::{Act, Impact, Party, Submission};
 use desk_machine::MOST_CASES;
+use grid_exact::NoMemory;
 use jiff::civil::Date;
 use review_marks::findings;
 use std::alloc::Global;
@@ -68,18 +70,67 @@ impl Desk {
         case_acts::form(number, today, case)
     }
 
-    /// Outcome of a determination made on the findings over the present airfields.
+    /// The list that a determination of this structure is made on: the given one, where it is of this structure and its number is at most
+    /// `p`; else that over the present airfields.
+    ///
+    /// # Errors
+    ///
+    /// `NoMemory` where memory was refused.
+    fn evaluation(
+        &self,
+        alloc: Global,
+        filing: &Filing,
+        p: u64,
+        given: Option<&Evaluated>,
+    ) -> Result<KeptList, NoMemory>
+        ensures { IfOk result (λ kept. kept
+            ≡ evaluation_of self.now p (option_copied given.entry) filing.now) }
+    {
+        if let Some(evaluated) = given {
+            if evaluated.fits(filing, p) {
+                return evaluated.kept(alloc);
+            }
+        }
+        let found = findings(alloc, &self.sky, filing)?;
+        // the copy has no spare capacity; it is stored as long as the case
+        let list = found.copy(alloc)?;
+        Ok(KeptList {
+            last: self.receipts.len() as u64,
+            list,
+        })
+    }
+
+    /// Whether the act is surely not made on the given list.
+    pub(crate) fn is_own(&self, act: &Act, p: u64, given: Option<&Evaluated>) -> bool
+        ensures { result ≡ true → basis_of self.now p (option_copied given.entry) act.now
+            ≡ basis_of self.now p None act.now }
+    {
+        let Some(evaluated) = given else {
+            return true;
+        };
+        let Act::Determine { case: number, .. } = act else {
+            return true;
+        };
+        match self.case(*number) {
+            Some(case) => !evaluated.fits(&case.submission.filing, p),
+            None => true,
+        }
+    }
+
+    /// Outcome of a determination, made on the given list or on the findings over the present airfields.
     fn on_determine(
         &self,
         alloc: Global,
         number: u32,
         finding: Option<Impact>,
+        p: u64,
+        given: Option<&Evaluated>,
     ) -> Result<Effect, Refusal>
         ensures value { MatchResult result
-            (λ e. ruling_of_act self.now (basis_of self.now (last_number self.now) None
+            (λ e. ruling_of_act self.now (basis_of self.now p (option_copied given.entry)
             (acts.Determine number finding)) (acts.Determine number finding) ≡ Ok e)
-            (λ why. why ≢ Refusal.NoMemory → ruling_of_act self.now (basis_of self.now
-            (last_number self.now) None (acts.Determine number finding))
+            (λ why. why ≢ Refusal.NoMemory → ruling_of_act self.now (basis_of self.now p
+            (option_copied given.entry) (acts.Determine number finding))
             (acts.Determine number finding) ≡ Err why) }
         ensures sound { IfOk result (λ e. IsSoundStep e.step) }
     {
@@ -89,16 +140,8 @@ impl Desk {
         let Some(case) = self.case(number) else {
             return Err(Refusal::UnknownCase);
         };
-        let Ok(found) = findings(alloc, &self.sky, &case.submission.filing) else {
+        let Ok(kept) = self.evaluation(alloc, &case.submission.filing, p, given) else {
             return Err(Refusal::NoMemory);
-        };
-        // the copy has no spare capacity; it is stored as long as the case
-        let Ok(list) = found.copy(alloc) else {
-            return Err(Refusal::NoMemory);
-        };
-        let kept = KeptList {
-            last: self.receipts.len() as u64,
-            list,
         };
         case_acts::determine(alloc, number, finding, &self.closed, kept, today, case)
     }
@@ -182,13 +225,19 @@ impl Desk {
     ///
     /// The first rule that the act breaks, or `NoMemory` where memory was refused.
     #[tactic(auto, using(crate::proofs::Limits::any_limited, crate::proofs::Limits::notice_dates))]
-    pub(crate) fn acted(&self, alloc: Global, act: &Act) -> Result<Effect, Refusal>
+    pub(crate) fn acted(
+        &self,
+        alloc: Global,
+        act: &Act,
+        p: u64,
+        given: Option<&Evaluated>,
+    ) -> Result<Effect, Refusal>
         requires { IsValidAct act.now }
         ensures value { MatchResult result
-            (λ e. ruling_of_act self.now (basis_of self.now
-            (last_number self.now) None act.now) act.now ≡ Ok e)
-            (λ why. why ≢ Refusal.NoMemory → ruling_of_act self.now (basis_of self.now
-            (last_number self.now) None act.now) act.now ≡ Err why) }
+            (λ e. ruling_of_act self.now (basis_of self.now p (option_copied given.entry) act.now)
+            act.now ≡ Ok e)
+            (λ why. why ≢ Refusal.NoMemory → ruling_of_act self.now (basis_of self.now p
+            (option_copied given.entry) act.now) act.now ≡ Err why) }
         ensures sound { IfOk result (λ e. IsSoundStep e.step) }
     {
         match act {
@@ -203,7 +252,7 @@ impl Desk {
             }),
             Act::File(notice) => self.on_file(notice),
             Act::Form(case) => self.on_form(*case),
-            Act::Determine { case, finding } => self.on_determine(alloc, *case, *finding),
+            Act::Determine { case, finding } => self.on_determine(alloc, *case, *finding, p, given),
             Act::Petition { case, party } => self.on_petition(*case, *party),
             Act::Dispose { case, affirm } => self.on_dispose(*case, *affirm),
             Act::Extend {

@@ -1,17 +1,18 @@
 //! Deciding changing requests.
 
-ghost use Rattle.std.specs.Prelude.{◌≡◌, ◌≢◌, None, Ok};
+ghost use Rattle.std.specs.Prelude.{◌≡◌, ◌≢◌, true, None, Ok, option_copied};
 ghost use Rattle.case_requests.specs.contracts.act.ActPartialEq.TheImpl as act;
 ghost use Rattle.case_acts.specs.Cases.{IsSoundStep};
 ghost use Rattle.desk_machine.specs.States.{State, entry_of};
-ghost use Rattle.desk_machine.specs.Machine.{decide_new, register_effect, answer_of_repeat as repeat};
-ghost use Rattle.desk_machine.specs.Marks.{Goes};
+ghost use Rattle.desk_machine.specs.Machine.{decide, decide_new, register_effect, answer_of_repeat as repeat};
+ghost use Rattle.desk_machine.specs.Marks.{Goes, IsPresent};
 ghost use Rattle.desk_tables.specs.Changes.{HasRoom, IsNamed};
 ghost use Rattle.wire_values.specs.Words.{IsWord};
-ghost use Rattle.filing_desk.specs.Answers.{Answers, IfRefused, decision};
+ghost use Rattle.filing_desk.specs.Answers.{Answers, IfRefused};
 ghost use Rattle.filing_desk.specs.Handed.{Serves};
 
 use crate::answer::Answer;
+use crate::evaluated::Evaluated;
 use crate::handing::Accepted;
 use crate::office::Office;
 use airport_register::Amendment;
@@ -84,18 +85,21 @@ fn repeated(alloc: Global, entry: &Entry, c: &Change) -> Answer
 }
 
 impl Office {
-    /// Accepts a request with this effect, where the rules of the register allow it.
+    /// Accepts a request with this effect, where the rules of the register allow it. Where `own` is true, a determination is made on the
+    /// list over the present airfields.
     fn accept<K: Keeper>(
         &mut self,
         alloc: Global,
         keeper: &mut K,
         c: &Change,
         effect: Effect,
+        own: bool,
     ) -> Answer
         requires new { entry_of c.now.caller c.now.key self.old.entries ≡ None }
         requires sound { IsSoundStep effect.step }
         requires room { HasRoom self.old.cases effect.step }
         requires goes { Goes self.old effect.step }
+        requires present { own ≡ true → IsPresent self.old effect.step }
         requires loaded { ∥ K.IsLoaded keeper.old ∥₁ }
         ensures answer { Answers
             (decide_new self.old c.now (register_effect self.old.register (Ok effect)))
@@ -122,7 +126,7 @@ impl Office {
         let Ok(changes) = self.desk.changes(alloc, keeper, &entry, &step) else {
             return Answer::Refused(Refusal::NoMemory);
         };
-        match self.take(alloc, keeper, Accepted { entry, changes }, step) {
+        match self.take(alloc, keeper, Accepted { entry, changes }, step, own) {
             Ok(()) => Answer::Accepted {
                 entry: number,
                 outcome,
@@ -131,12 +135,21 @@ impl Office {
         }
     }
 
-    /// Decides a changing request.
+    /// Decides a changing request, where `p` is the number of the last published entry and a list may be given.
     #[tactic(auto, using(crate::proofs::Deciding::known_as, crate::proofs::Deciding::refused_as, crate::proofs::Deciding::accepted_as))]
-    pub(crate) fn apply<K: Keeper>(&mut self, alloc: Global, keeper: &mut K, c: &Change) -> Answer
+    pub(crate) fn apply<K: Keeper>(
+        &mut self,
+        alloc: Global,
+        keeper: &mut K,
+        c: &Change,
+        p: u64,
+        given: Option<&Evaluated>,
+    ) -> Answer
         requires { ∥ K.IsLoaded keeper.old ∥₁ }
-        ensures answer { Answers (decision self.old c.now) self.old self.new result }
-        ensures serves { Serves K.Tells K.IsLoaded K.IsSteady K.faults (decision self.old c.now)
+        ensures answer { Answers (decide self.old p c.now (option_copied given.entry))
+            self.old self.new result }
+        ensures serves { Serves K.Tells K.IsLoaded K.IsSteady K.faults
+            (decide self.old p c.now (option_copied given.entry))
             keeper.old keeper.new self.old self.new result }
     {
         match self.desk.entry(c.caller, c.key) {
@@ -144,8 +157,9 @@ impl Office {
             None => {}
         }
         c.has_record();
-        match self.desk.acted(alloc, &c.act) {
-            Ok(effect) => self.accept(alloc, keeper, c, effect),
+        let own = self.desk.is_own(&c.act, p, given);
+        match self.desk.acted(alloc, &c.act, p, given) {
+            Ok(effect) => self.accept(alloc, keeper, c, effect, own),
             Err(why) => Answer::Refused(why),
         }
     }

@@ -1,11 +1,12 @@
 //! The clerk of the desk.
 
-ghost use Rattle.std.specs.Prelude.{◌≡◌, ◌≤◌, List, IfOk, drop, length, option_map};
+ghost use Rattle.std.specs.Prelude.{◌≡◌, ◌≤◌, List, IfOk, drop, length, option_copied, option_map};
 ghost use Rattle.desk_machine.specs.Reports.{IsExpiryOrder, expiry_rows, review_rows};
 ghost use Rattle.oe_reports.specs.Tables.{expiry_table, review_table};
 ghost use Rattle.oe_reports.specs.declared.rows.ExpiryRow.{ExpiryRow};
 ghost use Rattle.desk_machine.specs.States.{case_at, last_number};
 ghost use Rattle.desk_machine.specs.Evaluations.{site_of};
+ghost use Rattle.desk_machine.specs.Machine.{decide};
 ghost use Rattle.desk_machine.specs.Marks.{case_view, marks};
 ghost use Rattle.reachable_desks.specs.Desks.{IsDesk};
 ghost use Rattle.filing_desk.specs.Answers.{decision};
@@ -13,6 +14,7 @@ ghost use Rattle.filing_desk.specs.Clerks.{Advances, HasOpening};
 ghost use Rattle.filing_desk.specs.Handed.{HasCause, Told};
 
 use crate::answer::Answer;
+use crate::evaluated::{Evaluated, given_told};
 use crate::office::Office;
 use airfields::Filing;
 use case_records::{CaseList, CaseView};
@@ -56,16 +58,35 @@ impl<K: Keeper> Clerk<K> {
     /// The first rule that the request breaks, in the order of the rules; or `KeeperFault`, only where no rule is broken, an entry was to be
     /// made and the keeper failed; or `NoMemory` where memory ran out. Neither the desk nor, where they are known, its stored rows are then
     /// changed. The keeper is not asked where no entry is made.
-    #[tactic(auto, using(crate::proofs::Deciding::advances))]
     pub fn apply(&mut self, alloc: Global, c: &Change) -> Answer
         ensures answer { Advances (decision self.old.state c.now) self.old self.new result }
         ensures cause { HasCause K.IsSteady K.faults (decision self.old.state c.now)
             self.old.keeper self.new.keeper result }
         ensures told { Told K.Tells self.new.keeper self.new.state }
     {
+        self.apply_with(alloc, c, None)
+    }
+
+    /// As `apply`, where a list may be given that was evaluated before. A determination is made on it where it is of the structure of the
+    /// case and its number is at most that of the last entry; else on the list over the present airfields. It is marked exactly where its
+    /// list differs from the one over the present airfields.
+    ///
+    /// # Errors
+    ///
+    /// Those of `apply`.
+    pub fn apply_with(&mut self, alloc: Global, c: &Change, given: Option<&Evaluated>) -> Answer
+        ensures answer { Advances (decide self.old.state (last_number self.old.state) c.now
+            (option_copied given.entry)) self.old self.new result }
+        ensures cause { HasCause K.IsSteady K.faults (decide self.old.state
+            (last_number self.old.state) c.now (option_copied given.entry))
+            self.old.keeper self.new.keeper result }
+        ensures told { Told K.Tells self.new.keeper self.new.state }
+    {
         desk_goes_on();
         c.has_record();
-        let answer = self.office.apply(alloc, &mut self.keeper, c);
+        given_told(given);
+        let p = self.office.accepted();
+        let answer = self.office.apply(alloc, &mut self.keeper, c, p, given);
         // the number of the last entry is one of the type
         self.office.accepted();
         answer

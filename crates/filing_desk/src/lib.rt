@@ -8,7 +8,9 @@ mod answer;
 mod applying;
 mod clerk;
 mod desk;
+mod evaluated;
 mod handing;
+mod issued_mark;
 mod laws;
 mod marking;
 mod office;
@@ -24,5 +26,6 @@ mod view;
 
 pub use answer::Answer;
 pub use clerk::Clerk;
+pub use evaluated::Evaluated;
 pub use laws::goes_on;
 pub use opening::OpenRefusal;

@@ -1,18 +1,19 @@
 //! Steps of the desk, each with the entry of its request, and the marks after it. Everything that allocates is done first.
 
-ghost use Rattle.std.specs.Prelude.{◌≡◌, ◌≢◌, ℕ, cond, not, Some, None, IfErr, IfSome, OnOk, OnErr};
+ghost use Rattle.std.specs.Prelude.{◌≡◌, ◌≢◌, ℕ, true, cond, not, Some, None, IfErr, IfSome, OnOk, OnErr};
 ghost use Rattle.case_acts.specs.declared.effect.Step.TheVariants as steps;
 ghost use Rattle.case_acts.specs.Cases.{IsSound, IsSoundStep};
 ghost use Rattle.determination_dates.specs.Days.{IsLimited};
 ghost use Rattle.determination_dates.specs.Effects.{IsKept};
 ghost use Rattle.desk_machine.specs.States.{with_entry, state_after_step};
-ghost use Rattle.desk_machine.specs.Marks.{Goes, stands_in};
+ghost use Rattle.desk_machine.specs.Marks.{Goes, IsPresent, stands_in};
 ghost use Rattle.desk_tables.specs.Changes.{HasRoom};
 ghost use Rattle.filing_desk.specs.Handed.{IsNew, Keeps, TakesStep};
 ghost use Rattle.review_marks.specs.Books.{rows_after_close, row_at};
 
 use crate::desk::Desk;
 use crate::handing::Accepted;
+use crate::issued_mark::issued_mark;
 use crate::office::Office;
 use crate::register_change::mark_change;
 use airport_register::Amendment;
@@ -181,7 +182,8 @@ impl Office {
     }
 
     /// Replaces the life of a case and stores the list of its determination, where the case exists. The determination is watched from then
-    /// on, as long as it stands.
+    /// on, as long as it stands, and is marked exactly where its list differs from that over the present airfields; where `own` is true it
+    /// is that list.
     fn issue<K: Keeper>(
         &mut self,
         alloc: Global,
@@ -190,11 +192,12 @@ impl Office {
         number: u32,
         life: Life,
         list: KeptList,
+        own: bool,
     ) -> Result<(), Refusal>
         requires new { IsNew accepted.entry self.old.entries }
         requires loaded { ∥ K.IsLoaded keeper.old ∥₁ }
         requires kept { IfSome life.determination IsKept }
-        requires goes { Goes self.old (steps.Issued number life list) }
+        requires present { own ≡ true → IsPresent self.old (steps.Issued number life list) }
         ensures { Keeps K.Tells K.IsLoaded K.IsSteady K.faults keeper.old keeper.new
             accepted.changes self.old
             (with_entry accepted.entry (state_after_step (steps.Issued number life list) self.old))
@@ -203,10 +206,15 @@ impl Office {
         let Some(case) = self.desk.case(number) else {
             return self.desk.keep(alloc, keeper, accepted);
         };
-        let change = match self
-            .marks
-            .added_unmarked(number, &case.submission.filing, &list.list)
-        {
+        let filing = case.submission.filing;
+        let change = match issued_mark(
+            &mut self.marks,
+            number,
+            &filing,
+            &list.list,
+            &self.desk,
+            own,
+        ) {
             Ok(change) => change,
             Err(_) => return Err(Refusal::NoMemory),
         };
@@ -217,7 +225,8 @@ impl Office {
         Ok(())
     }
 
-    /// Does a step, and stores the entry of its request.
+    /// Does a step, and stores the entry of its request. Where `own` is true, a determination is issued on the list over the present
+    /// airfields.
     ///
     /// # Errors
     ///
@@ -229,12 +238,14 @@ impl Office {
         keeper: &mut K,
         accepted: Accepted,
         step: Step,
+        own: bool,
     ) -> Result<(), Refusal>
         requires new { IsNew accepted.entry self.old.entries }
         requires loaded { ∥ K.IsLoaded keeper.old ∥₁ }
         requires sound { IsSoundStep step }
         requires room { HasRoom self.old.cases step }
         requires goes { Goes self.old step }
+        requires present { own ≡ true → IsPresent self.old step }
         ensures { TakesStep K.Tells K.IsLoaded K.IsSteady K.faults keeper.old keeper.new
             accepted.changes accepted.entry step self.old self.new result }
     {
@@ -246,7 +257,7 @@ impl Office {
             Step::FormPut { number, day } => self.put_form(alloc, keeper, accepted, number, day),
             Step::LifePut { number, life } => self.put_life(alloc, keeper, accepted, number, life),
             Step::Issued { number, life, list } => self.issue(
-                alloc, keeper, accepted, number, life, list,
+                alloc, keeper, accepted, number, life, list, own,
             ),
         }
     }

@@ -1,11 +1,13 @@
 -- What the end of a session says of the status.
-use Rattle.std.proofs.Common.{ℕ, List, Option, refl, sym, ap, ◌≡◌, ◌≢◌, ◌∙◌, ◌⊎◌, inl, inr}
+use Rattle.std.proofs.Common.{ℕ, List, [], Option, refl, subst, sym, ap, ◌≡◌, ◌≢◌, ◌∙◌, ◌⊎◌, inl, inr}
 use Rattle.line_session.specs.Session.{Answered, Begun, HasCauses, IsOfLines, WritesWhole}
 use Rattle.line_session.specs.declared.session.Ended.{Ended}
 use Rattle.line_session.specs.declared.session.Ended.TheVariants as endings
 use Rattle.oe_commands.specs.declared.status.Status.{Status}
 use Rattle.oe_commands.specs.declared.status.Status.TheVariants as statuses
 use Rattle.oe_commands.specs.Statuses.{status_of}
+use Rattle.oe_commands.specs.declared.words.Service.{Service}
+use Rattle.oe_commands.specs.declared.words.Service.TheVariants as services
 use Rattle.line_session.specs.Machine.{Step}
 use Rattle.oe_keeper.specs.Kept.{Kept}
 use Rattle.oe_keeper.specs.declared.change.Table.{Table}
@@ -13,7 +15,13 @@ use Rattle.line_desk.specs.Desk.{Plain, Serving, StepOver}
 use Rattle.line_desk.proofs.PlainFacts.{answered, front, read, begun}
 use Rattle.oe_commands.specs.Generating.{IsGenerateEnd}
 use Rattle.oe_http.specs.Causes.{Rose}
-use Rattle.oe_commands.specs.Runs.{IsSessionEnd, IsUntouched, RunCauses, SessionRun}
+use Rattle.airfields.specs.declared.airfield.Airfield.{Airfield}
+use Rattle.desk_machine.specs.States.{last_number}
+use Rattle.site_questions.specs.Charts.{Chart, chart}
+use Rattle.site_questions.specs.Ceilings.{CeilingStep}
+use Rattle.site_questions.specs.Ways.{Survey, WayStep, survey}
+use Rattle.site_questions.specs.WaySessions.{WaysAnswered, WaysBegun}
+use Rattle.oe_commands.specs.Runs.{IsSessionEnd, IsUntouched, PlainRun, RunCauses, RunOver, SessionRun, WaysRun}
 
 -- the end of the session that a status tells of
 abbrev pub ending : Status → Ended
@@ -52,6 +60,16 @@ session_run step opened e x y h k l closed b (after, w) = record {
   memory = λ s. w.memory (told_by e statuses.NoMemory l s);
 }
 
+pub ways_run : (opened : Survey) (e : Ended) (x y h k : Option (List ℕ)) → IsOfLines e → (e ≡ endings.Closed → WaysAnswered opened x h k) → WaysBegun opened x h k
+    → ((after : Survey) × WritesWhole WayStep opened after e x y h k) → WaysRun opened (status_of e) x y h k
+ways_run opened e x y h k l closed b (after, w) = record {
+  done = λ s. closed (told_by e statuses.Done l s);
+  begun = b;
+  read_to_end = λ s. w.read_to_end (told_by e statuses.Done l s);
+  whole = λ s. (after, w.whole (fault_or_long e l s));
+  memory = λ s. w.memory (told_by e statuses.NoMemory l s);
+}
+
 -- over a keeper that never fails no line is refused as not kept
 pub steady_run : {K : Type 0} (Tells : K → Kept → Type 0) (IsSteady : K → Type 0) (faults : K → ℕ) (s : Serving K) (status : Status) (x y h k : Option (List ℕ)) → IsSteady s.keeper
     → SessionRun (StepOver Tells IsSteady faults) s status x y h k → SessionRun Plain s.state status x y h k
@@ -62,6 +80,39 @@ steady_run Tells IsSteady faults s status x y h k steady r = record {
   whole = λ e. ((r.whole e).0.state, read Tells IsSteady faults s (r.whole e).0 x y h k steady (r.whole e).1);
   memory = λ e. front Tells IsSteady faults s x h k steady (r.memory e);
 }
+
+-- what each service has read and written once its session has ended so
+module _ {K : Type 0} (Tells : K → Kept → Type 0) (IsSteady : K → Type 0) (faults : K → ℕ) (s : Serving K) (e : Ended) (x y h k : Option (List ℕ)) where
+  abbrev pub HasRun : Service → Status → Type 0
+  HasRun service status = RunOver Tells IsSteady faults service s status x y h k × (IsSteady s.keeper → PlainRun service s.state status x y h k)
+
+  ended_so : (service at : Service) (status : Status) → service ≡ at → status ≡ status_of e → HasRun at (status_of e) → HasRun service status
+  ended_so service at status served is run = subst (λ v. HasRun v status) (sym served) (subst (λ t. HasRun at t) (sym is) run)
+
+  pub desk_run : (service : Service) (status : Status) → service ≡ services.Desk → status ≡ status_of e → IsOfLines e
+      → (e ≡ endings.Closed → (after : Serving K) × Answered (StepOver Tells IsSteady faults) s after x h k) → Begun (StepOver Tells IsSteady faults) s x h k
+      → ((after : Serving K) × WritesWhole (StepOver Tells IsSteady faults) s after e x y h k) → HasRun service status
+  desk_run service status served is l closed b w =
+      let run : SessionRun (StepOver Tells IsSteady faults) s (status_of e) x y h k = session_run (StepOver Tells IsSteady faults) s e x y h k l closed b w in
+      ended_so service services.Desk status served is (run, λ steady. steady_run Tells IsSteady faults s (status_of e) x y h k steady run)
+
+  pub ceiling_run : (service : Service) (status : Status) (airfields : List Airfield) (last : ℕ) → service ≡ services.Ceiling → status ≡ status_of e → airfields ≡ s.state.register → last ≡ last_number s.state → IsOfLines e
+      → (e ≡ endings.Closed → (after : Chart) × Answered CeilingStep (chart airfields last) after x h k) → Begun CeilingStep (chart airfields last) x h k
+      → ((after : Chart) × WritesWhole CeilingStep (chart airfields last) after e x y h k) → HasRun service status
+  ceiling_run service status airfields last served is fields number l closed b w =
+      let run : PlainRun services.Ceiling s.state (status_of e) x y h k =
+      subst (λ n. SessionRun CeilingStep (chart s.state.register n) (status_of e) x y h k) number
+      (subst (λ a. SessionRun CeilingStep (chart a last) (status_of e) x y h k) fields (session_run CeilingStep (chart airfields last) e x y h k l closed b w)) in
+      ended_so service services.Ceiling status served is (run, λ steady. run)
+
+  pub stations_run : (service : Service) (status : Status) (airfields : List Airfield) (last : ℕ) → service ≡ services.Stations → status ≡ status_of e → airfields ≡ s.state.register → last ≡ last_number s.state → IsOfLines e
+      → (e ≡ endings.Closed → WaysAnswered (survey airfields last []) x h k) → WaysBegun (survey airfields last []) x h k
+      → ((after : Survey) × WritesWhole WayStep (survey airfields last []) after e x y h k) → HasRun service status
+  stations_run service status airfields last served is fields number l closed b w =
+      let run : PlainRun services.Stations s.state (status_of e) x y h k =
+      subst (λ n. WaysRun (survey s.state.register n []) (status_of e) x y h k) number
+      (subst (λ a. WaysRun (survey a last []) (status_of e) x y h k) fields (ways_run (survey airfields last []) e x y h k l closed b w)) in
+      ended_so service services.Stations status served is (run, λ steady. run)
 
 pub session_end : (e : Ended) → IsOfLines e → IsSessionEnd (status_of e)
 session_end endings.Closed l = tt

@@ -8,15 +8,21 @@ use Rattle.oe_keeper.specs.declared.change.Table.{Table}
 use Rattle.oe_keeper.specs.declared.change.Table.TheVariants as tables
 use Rattle.line_session.specs.Machine.{Step, Starts}
 use Rattle.line_session.specs.Session.{AnsweredFront, Begun}
-use Rattle.desk_machine.specs.States.{State, empty}
+use Rattle.desk_machine.specs.States.{State, empty, last_number}
 use Rattle.desk_tables.specs.Opening.{Opens, IsFirstBad, count_of, is_in, with_format, with_today, with_wanting}
 use Rattle.oe_keeper.specs.contracts.no_keeper.NoKeeperKeeper.TheImpl as unkept
 use Rattle.oe_keeper.specs.declared.no_keeper.NoKeeper.{NoKeeper}
 use Rattle.line_desk.specs.Desk.{Plain}
 use Rattle.oe_commands.specs.declared.status.Status.{Status}
 use Rattle.oe_commands.specs.declared.status.Status.TheVariants as statuses
-use Rattle.oe_commands.specs.Commands.{IsDesk}
-use Rattle.oe_commands.specs.Runs.{IsUnopened, Served, SessionRun}
+use Rattle.site_questions.specs.Charts.{chart}
+use Rattle.site_questions.specs.Ceilings.{CeilingStep}
+use Rattle.site_questions.specs.Ways.{Survey, WayStep, survey}
+use Rattle.site_questions.specs.WaySessions.{WaysBegun}
+use Rattle.oe_commands.specs.declared.words.Service.{Service}
+use Rattle.oe_commands.specs.declared.words.Service.TheVariants as services
+use Rattle.oe_commands.specs.Commands.{AskFor}
+use Rattle.oe_commands.specs.Runs.{IsUnopened, PlainRun, Served, SessionRun}
 use Rattle.oe_commands.proofs.GenerateFacts.{appends_nothing}
 
 -- ---- no rows have no bad row
@@ -65,28 +71,43 @@ nothing_run step s x h = record {
   memory = λ e. front_nothing step s x h;
 }
 
--- by the law that no rows open as the desk that holds nothing
-module _ (law : (s : State) → Opens maps.empty s → s ≡ empty) (keeper : NoKeeper) (path : Option (List ℕ)) where
-  served : (status : Status) (x y h k : Option (List ℕ)) → Served unkept.ghosts.Tells unkept.ghosts.Finds unkept.ghosts.IsSteady unkept.ghosts.faults keeper path status x y h k → SessionRun Plain empty status x y h k
-  served status x y h k sv =
-      subst (λ (s : State). SessionRun Plain s status x y h k) (law sv.opened.state (subst (λ m. Opens m sv.opened.state) sv.found sv.opens)) (sv.steady tt)
+ways_begun_nothing : (s : Survey) (x h : Option (List ℕ)) → WaysBegun s x h h
+ways_begun_nothing s None h = tt
+ways_begun_nothing s (Some input) h = ([], appends_nothing h, inl (starts_nothing WayStep s (lines input)))
 
-  unopened : (status : Status) (x h : Option (List ℕ)) → IsUnopened unkept.ghosts.Finds unkept.ghosts.IsSteady keeper path status → SessionRun Plain empty status x x h h
+nothing_told : (service : Service) (s : State) (x h : Option (List ℕ)) → PlainRun service s statuses.NoMemory x x h h
+nothing_told services.Desk s x h = nothing_run Plain s x h
+nothing_told services.Ceiling s x h = nothing_run CeilingStep (chart s.register (last_number s)) x h
+nothing_told services.Stations s x h = record {
+  done = λ e. absurd (cc (e));
+  begun = ways_begun_nothing (survey s.register (last_number s) []) x h;
+  read_to_end = λ e. absurd (cc (e));
+  whole = no_whole;
+  memory = λ e. front_nothing WayStep (survey s.register (last_number s) []) x h;
+}
+
+-- by the law that no rows open as the desk that holds nothing
+module _ (law : (s : State) → Opens maps.empty s → s ≡ empty) (service : Service) (keeper : NoKeeper) (path : Option (List ℕ)) where
+  served : (status : Status) (x y h k : Option (List ℕ)) → Served unkept.ghosts.Tells unkept.ghosts.Finds unkept.ghosts.IsSteady unkept.ghosts.faults service keeper path status x y h k → PlainRun service empty status x y h k
+  served status x y h k sv =
+      subst (λ (s : State). PlainRun service s status x y h k) (law sv.opened.state (subst (λ m. Opens m sv.opened.state) sv.found sv.opens)) (sv.steady tt)
+
+  unopened : (status : Status) (x h : Option (List ℕ)) → IsUnopened unkept.ghosts.Finds unkept.ghosts.IsSteady keeper path status → PlainRun service empty status x x h h
   unopened statuses.Done x h u = absurd u
   unopened statuses.Usage x h u = absurd u
   unopened statuses.ReadFault x h u = absurd u
   unopened statuses.WriteFault x h u = absurd u
   unopened statuses.KeeperFault x h u = absurd (u tt)
   unopened (statuses.BadRow table key) x h (rows, found, bad) = absurd (none_bad rows _ (ap maps.len found ∙ maps.len-empty key_cmp (List ℕ)) bad)
-  unopened statuses.NoMemory x h u = nothing_run Plain empty x h
+  unopened statuses.NoMemory x h u = nothing_told service empty x h
   unopened statuses.InputLong x h u = absurd u
 
   pub unkept_run : (status : Status) (x y h k : Option (List ℕ)) {P Q : Type 0}
-      → Served unkept.ghosts.Tells unkept.ghosts.Finds unkept.ghosts.IsSteady unkept.ghosts.faults keeper path status x y h k ⊎ (IsUnopened unkept.ghosts.Finds unkept.ghosts.IsSteady keeper path status × P × Q)
-      → (P → y ≡ x) → (Q → k ≡ h) → SessionRun Plain empty status x y h k
+      → Served unkept.ghosts.Tells unkept.ghosts.Finds unkept.ghosts.IsSteady unkept.ghosts.faults service keeper path status x y h k ⊎ (IsUnopened unkept.ghosts.Finds unkept.ghosts.IsSteady keeper path status × P × Q)
+      → (P → y ≡ x) → (Q → k ≡ h) → PlainRun service empty status x y h k
   unkept_run status x y h k (inl sv) read written = served status x y h k sv
   unkept_run status x y h k (inr (u, p, q)) read written = rw (read p, written q) (unopened status x h u)
 
 pub unkept_no_bad : (words : List (List ℕ)) (keeper : NoKeeper) (t : Table) (k : List ℕ)
-    → ((path : Option (List ℕ)) × IsDesk words path × ((rows : Kept) × unkept.ghosts.Finds keeper path rows × IsFirstBad rows (place t, k))) → ⊥
-unkept_no_bad words keeper t k (path, said, (rows, found, bad)) = none_bad rows (place t, k) (ap maps.len found ∙ maps.len-empty key_cmp (List ℕ)) bad
+    → ((service : Service) × (path : Option (List ℕ)) × AskFor service words path × ((rows : Kept) × unkept.ghosts.Finds keeper path rows × IsFirstBad rows (place t, k))) → ⊥
+unkept_no_bad words keeper t k (service, path, said, (rows, found, bad)) = none_bad rows (place t, k) (ap maps.len found ∙ maps.len-empty key_cmp (List ℕ)) bad

@@ -4,6 +4,8 @@ use Rattle.std.specs.Fmt.{decimal}
 use Rattle.desk_generator.specs.declared.generator.TheConstants.{COUNT_LIMIT}
 use Rattle.oe_commands.specs.declared.words.Command.{Command}
 use Rattle.oe_commands.specs.declared.words.Command.TheVariants as commands
+use Rattle.oe_commands.specs.declared.words.Service.{Service}
+use Rattle.oe_commands.specs.declared.words.Service.TheVariants as services
 use Rattle.oe_commands.specs.declared.words.TheConstants.{SEED_LIMIT}
 use Rattle.oe_commands.specs.declared.status.Status.{Status}
 use Rattle.oe_commands.specs.declared.status.Status.TheVariants as statuses
@@ -13,10 +15,17 @@ pub record IsFile (name : List ℕ) : Type 0 where
   pub some : name ≢ []
   pub plain : (rest : List ℕ) → name ≢ codes "-" ++ rest
 
--- the command `desk`: the word `desk`, and the file of its tables, in one word or two
-abbrev pub IsDesk : List (List ℕ) → Option (List ℕ) → Type 0
-IsDesk words None = words ≡ codes "desk" ∷ []
-IsDesk words (Some file) = IsFile file × ((words ≡ codes "desk" ∷ codes "--db" ∷ file ∷ []) ⊎ (words ≡ codes "desk" ∷ (codes "--db=" ++ file) ∷ []))
+-- the word of a service
+abbrev pub word_of : Service → List ℕ
+word_of services.Desk = codes "desk"
+word_of services.Ceiling = codes "ceiling"
+word_of services.Stations = codes "stations"
+
+-- the words ask for a service: its word, and the file of the tables, in one word or two
+abbrev pub AskFor : Service → List (List ℕ) → Option (List ℕ) → Type 0
+AskFor service words None = words ≡ word_of service ∷ []
+AskFor service words (Some file) =
+    IsFile file × ((words ≡ word_of service ∷ codes "--db" ∷ file ∷ []) ⊎ (words ≡ word_of service ∷ (codes "--db=" ++ file) ∷ []))
 
 -- the command `generate`: the word `generate`, the seed, and the number of cases, each number in its one spelling
 pub record IsGenerate (words : List (List ℕ)) (seed count : ℕ) : Type 0 where
@@ -27,11 +36,11 @@ pub record IsGenerate (words : List (List ℕ)) (seed count : ℕ) : Type 0 wher
 
 -- the words are a command
 abbrev pub IsCommand : List (List ℕ) → Type 0
-IsCommand words = ((path : Option (List ℕ)) × IsDesk words path) ⊎ ((seed count : ℕ) × IsGenerate words seed count)
+IsCommand words = ((service : Service) × (path : Option (List ℕ)) × AskFor service words path) ⊎ ((seed count : ℕ) × IsGenerate words seed count)
 
 -- they are this command
 abbrev pub Says : List (List ℕ) → Command → Type 0
-Says words (commands.Desk file) = IsDesk words (option_copied file)
+Says words (commands.Serve service file) = AskFor service words (option_copied file)
 Says words (commands.Generate seed count) = IsGenerate words seed count
 
 -- the status is `Usage` exactly where the words are no command

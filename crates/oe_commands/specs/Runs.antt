@@ -1,5 +1,5 @@
 -- The status of a run, and the bytes read and written by then.
-use Rattle.std.specs.Prelude.{ℕ, List, ◌≡◌, ◌⊎◌, Option}
+use Rattle.std.specs.Prelude.{ℕ, List, [], ◌≡◌, ◌⊎◌, Option}
 use Rattle.oe_http.specs.Causes.{Rose}
 use Rattle.oe_http.specs.declared.lines.TheConstants.{INPUT_LIMIT}
 use Rattle.oe_keeper.specs.Kept.{Kept, place}
@@ -9,6 +9,13 @@ use Rattle.desk_tables.specs.Opening.{Opens, IsFirstBad}
 use Rattle.filing_desk.specs.Keepers.{IsLater}
 use Rattle.filing_desk.specs.Handed.{Told}
 use Rattle.line_desk.specs.Desk.{Plain, Serving, StepOver}
+use Rattle.desk_machine.specs.States.{State, last_number}
+use Rattle.site_questions.specs.Charts.{chart}
+use Rattle.site_questions.specs.Ceilings.{CeilingStep}
+use Rattle.site_questions.specs.Ways.{Survey, WayStep, survey}
+use Rattle.site_questions.specs.WaySessions.{WaysAnswered, WaysBegun}
+use Rattle.oe_commands.specs.declared.words.Service.{Service}
+use Rattle.oe_commands.specs.declared.words.Service.TheVariants as services
 use Rattle.oe_commands.specs.declared.status.Status.{Status}
 use Rattle.oe_commands.specs.declared.status.Status.TheVariants as statuses
 
@@ -25,6 +32,30 @@ pub record SessionRun {St : Type 0} (step : Step St) (opened : St) (status : Sta
   -- where memory ran out, no part of a reply was written
   pub memory : status ≡ statuses.NoMemory → AnsweredFront step opened input held_old held_new
 
+-- the same of a run over ways, of which the last may end with the input
+pub record WaysRun (opened : Survey) (status : Status) (input left held_old held_new : Option (List ℕ)) : Type 0 where
+  -- at `Done` the output is its old content, the reply to each line of the input, in order, and the text of the way that they leave
+  pub done : status ≡ statuses.Done → WaysAnswered opened input held_old held_new
+  -- under every status it is its old content and a beginning of these texts
+  pub begun : WaysBegun opened input held_old held_new
+  pub read_to_end : status ≡ statuses.Done → ReadToEnd input left
+  pub whole : (status ≡ statuses.ReadFault) ⊎ (status ≡ statuses.InputLong) → (after : Survey) × AnsweredRead WayStep opened after input left held_old held_new
+  pub memory : status ≡ statuses.NoMemory → AnsweredFront WayStep opened input held_old held_new
+
+-- what each service of a desk in this state reads and writes, where no keeper fails: the desk answers each line in the state of those
+-- before; ceilings and ways are told over the airfields that it was opened with, and carry the number of its last accepted change
+abbrev pub PlainRun : Service → State → Status → Option (List ℕ) → Option (List ℕ) → Option (List ℕ) → Option (List ℕ) → Type 0
+PlainRun services.Desk opened = SessionRun Plain opened
+PlainRun services.Ceiling opened = SessionRun CeilingStep (chart opened.register (last_number opened))
+PlainRun services.Stations opened = WaysRun (survey opened.register (last_number opened) [])
+
+-- the same over a keeper, which the desk alone asks once it is opened
+abbrev pub RunOver : {K : Type 0} → (K → Kept → Type 0) → (K → Type 0) → (K → ℕ) → Service
+    → Serving K → Status → Option (List ℕ) → Option (List ℕ) → Option (List ℕ) → Option (List ℕ) → Type 0
+RunOver Tells IsSteady faults services.Desk opened = SessionRun (StepOver Tells IsSteady faults) opened
+RunOver Tells IsSteady faults services.Ceiling opened = PlainRun services.Ceiling opened.state
+RunOver Tells IsSteady faults services.Stations opened = PlainRun services.Stations opened.state
+
 -- the statuses of a run after a session
 abbrev pub IsSessionEnd : Status → Type 0
 IsSessionEnd statuses.Done = Unit {0}
@@ -36,9 +67,9 @@ IsSessionEnd (statuses.BadRow table key) = ⊥
 IsSessionEnd statuses.NoMemory = Unit {0}
 IsSessionEnd statuses.InputLong = Unit {0}
 
--- a desk was opened in the state of the rows that a load of the keeper may find at the path, and answered from there on
+-- a desk was opened in the state of the rows that a load of the keeper may find at the path, and served from there on
 pub record Served {K : Type 0} (Tells : K → Kept → Type 0) (Finds : K → Option (List ℕ) → Kept → Type 0) (IsSteady : K → Type 0) (faults : K → ℕ)
-    (keeper : K) (path : Option (List ℕ)) (status : Status) (input left held_old held_new : Option (List ℕ)) : Type 0 where
+    (service : Service) (keeper : K) (path : Option (List ℕ)) (status : Status) (input left held_old held_new : Option (List ℕ)) : Type 0 where
   pub opened : Serving K
   pub rows : Kept
   pub found : Finds keeper path rows
@@ -46,9 +77,9 @@ pub record Served {K : Type 0} (Tells : K → Kept → Type 0) (Finds : K → Op
   -- its keeper is that one, later, whose rows, where known, are those of the desk
   pub later : IsLater IsSteady faults keeper opened.keeper
   pub told : Told Tells opened.keeper opened.state
-  pub session : SessionRun (StepOver Tells IsSteady faults) opened status input left held_old held_new
+  pub session : RunOver Tells IsSteady faults service opened status input left held_old held_new
   -- over a keeper that never fails no line is refused for a fault of it
-  pub steady : IsSteady keeper → SessionRun Plain opened.state status input left held_old held_new
+  pub steady : IsSteady keeper → PlainRun service opened.state status input left held_old held_new
   pub ended : IsSessionEnd status
 
 -- why no desk was opened: the keeper can fail; or a row is the first bad one of those that a load may find; or memory ran out

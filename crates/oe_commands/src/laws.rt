@@ -3,14 +3,13 @@
 ghost use Rattle.std.specs.Prelude.{◌≡◌, ◌≢◌, List, ℕ, Option};
 ghost use Rattle.oe_keeper.specs.declared.change.Table.{Table};
 ghost use Rattle.desk_machine.specs.States.{empty};
-ghost use Rattle.line_desk.specs.Desk.{Plain};
-ghost use Rattle.oe_commands.specs.Commands.{IsDesk};
-ghost use Rattle.oe_commands.specs.Runs.{SessionRun};
+ghost use Rattle.oe_commands.specs.Commands.{AskFor};
+ghost use Rattle.oe_commands.specs.Runs.{PlainRun};
 ghost use Rattle.oe_commands.specs.declared.status.Status.TheVariants as statuses;
 
 use crate::run::run;
 use crate::status::Status;
-use crate::words::Words;
+use crate::words::{Service, Words};
 use desk_tables::opened_empty;
 use oe_http::{Sink, Source};
 use oe_keeper::NoKeeper;
@@ -23,8 +22,8 @@ pub fn run_unkept<S: Source, O: Sink>(
     input: &mut S,
     output: &mut O,
 ) -> Status
-    ensures desk { (path : Option (List ℕ)) → IsDesk words.now path
-        → SessionRun Plain empty result (S.left input.old) (S.left input.new) (O.held output.old)
+    ensures served { (service : Service) (path : Option (List ℕ)) → AskFor service words.now path
+        → PlainRun service empty result (S.left input.old) (S.left input.new) (O.held output.old)
         (O.held output.new) }
     ensures fault { result ≢ Status.KeeperFault }
     ensures bad_row { (table : Table) (key : List ℕ) → result ≢ statuses.BadRow table key }

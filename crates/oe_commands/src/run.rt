@@ -6,20 +6,21 @@ ghost use Rattle.oe_keeper.specs.declared.change.Table.{Table};
 ghost use Rattle.desk_tables.specs.Opening.{IsFirstBad};
 ghost use Rattle.line_session.specs.Session.{Answered, Begun, HasCauses, IsOfLines, WritesWhole};
 ghost use Rattle.filing_desk.specs.Handed.{Told};
-ghost use Rattle.line_desk.specs.Desk.{Plain, Serving, StepOver, serving};
-ghost use Rattle.oe_commands.specs.Commands.{IsDesk, IsGenerate, TellsUsage};
+ghost use Rattle.line_desk.specs.Desk.{Serving, StepOver, serving};
+ghost use Rattle.oe_commands.specs.Commands.{AskFor, IsGenerate, TellsUsage};
 ghost use Rattle.oe_commands.specs.Generating.{GenerateWrites, IsGenerateEnd};
-ghost use Rattle.oe_commands.specs.Runs.{IsSessionEnd, IsUnopened, IsUntouched, RunCauses, Served, SessionRun};
+ghost use Rattle.oe_commands.specs.Runs.{IsSessionEnd, IsUnopened, IsUntouched, PlainRun, RunCauses, RunOver, Served};
 ghost use Rattle.oe_commands.specs.declared.status.Status.TheVariants as statuses;
 
 use crate::generate::generate;
 use crate::status::{Status, ended_status, refused_status};
-use crate::words::{Command, Words};
+use crate::words::{Command, Service, Words};
 use filing_desk::Clerk;
 use line_desk::LineDesk;
 use line_session::{Ended, records};
 use oe_http::{Sink, Source};
 use oe_keeper::Keeper;
+use site_questions::{ceilings, ways};
 use std::alloc::Global;
 use std::marker::Brand;
 use std::sync::ledger::{Blank, Ledger};
@@ -55,18 +56,18 @@ fn session<K: Keeper + Drop, L: Ledger, S: Source, O: Sink>(
     )
 }
 
-/// Runs the session of a desk over this clerk, and returns the status of the run.
-#[tactic(auto, using(crate::proofs::RunFacts::session_run, crate::proofs::RunFacts::session_end, crate::proofs::RunFacts::run_causes))]
+/// Serves the input from the desk of this clerk, and returns the status of the run.
+#[tactic(auto, using(crate::proofs::RunFacts::session_end, crate::proofs::RunFacts::run_causes))]
 fn serve<K: Keeper + Drop, S: Source, O: Sink>(
     alloc: Global,
     clerk: Clerk<K>,
+    service: Service,
     input: &mut S,
     output: &mut O,
 ) -> Status
-    ensures session { SessionRun (StepOver K.Tells K.IsSteady K.faults) (serving clerk) result
+    ensures session { RunOver K.Tells K.IsSteady K.faults service (serving clerk) result
         (S.left input.old) (S.left input.new) (O.held output.old) (O.held output.new) }
-    ensures steady { K.IsSteady clerk.keeper
-        → SessionRun Plain clerk.state result
+    ensures steady { K.IsSteady clerk.keeper → PlainRun service clerk.state result
         (S.left input.old) (S.left input.new) (O.held output.old) (O.held output.new) }
     ensures told { Told K.Tells clerk.keeper clerk.state }
     ensures end { IsSessionEnd result }
@@ -75,18 +76,29 @@ fn serve<K: Keeper + Drop, S: Source, O: Sink>(
 {
     // what the keeper tells are the rows of the clerk
     clerk.keeper();
-    ended_status(session::<K, Brand, S, O>(alloc, clerk, Blank::new(1), input, output))
+    match service {
+        Service::Desk => {
+            ended_status(session::<K, Brand, S, O>(alloc, clerk, Blank::new(1), input, output))
+        }
+        Service::Ceiling => {
+            ended_status(ceilings(alloc, clerk.sky(), clerk.accepted(), input, output))
+        }
+        Service::Stations => {
+            ended_status(ways(alloc, clerk.sky(), clerk.accepted(), input, output))
+        }
+    }
 }
 
-/// Opens the desk from the tables that its keeper has at a path, and answers each line of the input.
+/// Opens the desk from the tables that its keeper has at a path, and serves the input from it.
 fn serve_kept<K: Keeper + Drop, S: Source, O: Sink>(
     alloc: Global,
     keeper: K,
+    service: Service,
     path: Option<&str>,
     input: &mut S,
     output: &mut O,
 ) -> Status
-    ensures desk { Served K.Tells K.Finds K.IsSteady K.faults keeper
+    ensures served { Served K.Tells K.Finds K.IsSteady K.faults service keeper
         (option_copied path.entry) result
         (S.left input.old) (S.left input.new) (O.held output.old) (O.held output.new)
         ⊎ (IsUnopened K.Finds K.IsSteady keeper (option_copied path.entry) result
@@ -101,13 +113,15 @@ fn serve_kept<K: Keeper + Drop, S: Source, O: Sink>(
         (S.faults input.old) (S.faults input.new) (O.faults output.old) (O.faults output.new) }
 {
     match Clerk::open(alloc, keeper, path) {
-        Ok(clerk) => serve(alloc, clerk, input, output),
+        Ok(clerk) => serve(alloc, clerk, service, input, output),
         Err(refusal) => refused_status(refusal),
     }
 }
 
-/// Runs the program. With the word `desk` a desk answers each line of the input, in order; it is opened from the tables that its keeper
-/// has at the path of `--db`, or at none. With `generate SEED COUNT` a desk is generated, and its counts are written in one line.
+/// Runs the program. With the words `desk`, `ceiling` and `stations` a desk is opened from the tables that its keeper has at the path of
+/// `--db`, or at none. With `desk` it answers each line of the input, in order. With `ceiling` each structure of the input is told its
+/// greatest height without a finding, and with `stations` each way of the input its list, over the airfields that the desk was opened
+/// with. With `generate SEED COUNT` a desk is generated, and its counts are written in one line.
 ///
 /// Where the bytes of the input or the output are not known, as with the system's streams, the clauses on bytes say nothing.
 #[tactic(auto, using(crate::proofs::RunFacts::generate_causes))]
@@ -118,10 +132,10 @@ pub fn run<K: Keeper + Drop, S: Source, O: Sink>(
     input: &mut S,
     output: &mut O,
 ) -> Status
-    // A desk was opened in the state of the rows that its keeper has, and its output is the replies from there on, of which none is that a
-    // change was not kept where the keeper never fails; or none was opened, and both streams are as they were.
-    ensures desk { (path : Option (List ℕ)) → IsDesk words.now path
-        → Served K.Tells K.Finds K.IsSteady K.faults keeper path result
+    // A desk was opened in the state of the rows that its keeper has, and the output is what its service tells from there on, in which no
+    // change is told as not kept where the keeper never fails; or none was opened, and both streams are as they were.
+    ensures served { (service : Service) (path : Option (List ℕ)) → AskFor service words.now path
+        → Served K.Tells K.Finds K.IsSteady K.faults service keeper path result
         (S.left input.old) (S.left input.new) (O.held output.old) (O.held output.new)
         ⊎ (IsUnopened K.Finds K.IsSteady keeper path result
         × (input.new ≡ input.old) × (output.new ≡ output.old)) }
@@ -129,7 +143,7 @@ pub fn run<K: Keeper + Drop, S: Source, O: Sink>(
     ensures fault { K.IsSteady keeper → result ≢ Status.KeeperFault }
     // The row that is named is the first bad one of those that a load may find.
     ensures bad_row { (table : Table) (key : List ℕ) → result ≡ statuses.BadRow table key
-        → (path : Option (List ℕ)) × IsDesk words.now path
+        → (service : Service) × (path : Option (List ℕ)) × AskFor service words.now path
         × ((rows : Kept) × K.Finds keeper path rows × IsFirstBad rows (place table, key)) }
     // The line of a desk that was made by draws, and how that command ends.
     ensures generated { (seed count : ℕ) → IsGenerate words.now seed count
@@ -140,8 +154,8 @@ pub fn run<K: Keeper + Drop, S: Source, O: Sink>(
     // At `Usage`, and where a keeper failed or a row is bad, both streams are unchanged, known or not: nothing was read and
     // nothing written.
     ensures untouched { IsUntouched result → (input.new ≡ input.old) × (output.new ≡ output.old) }
-    // Only a desk reads.
-    ensures unread { ((path : Option (List ℕ)) → IsDesk words.now path → ⊥)
+    // Only a desk that is opened reads.
+    ensures unread { ((service : Service) (path : Option (List ℕ)) → AskFor service words.now path → ⊥)
         → input.new ≡ input.old }
     // A fault is reported only where that stream's count of faults rose.
     ensures causes { RunCauses result (S.left input.old) (S.left input.new)
@@ -149,7 +163,9 @@ pub fn run<K: Keeper + Drop, S: Source, O: Sink>(
 {
     match words.asks_for() {
         None => Status::Usage,
-        Some(Command::Desk { file }) => serve_kept(alloc, keeper, file, input, output),
+        Some(Command::Serve { service, file }) => {
+            serve_kept(alloc, keeper, service, file, input, output)
+        }
         Some(Command::Generate { seed, count }) => generate(alloc, seed, count, output),
     }
 }

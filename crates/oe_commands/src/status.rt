@@ -12,7 +12,7 @@ use std::fmt;
 /// How a run ended.
 #[derive(Debug, Drop)]
 pub enum Status {
-    /// The input was read to its end, and every reply was written; or the generator's line was written.
+    /// The input was read to its end, and every reply was written, that to a last way too; or the generator's line was written.
     Done,
     /// The words are no command.
     Usage,

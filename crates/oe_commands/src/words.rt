@@ -2,7 +2,7 @@
 
 ghost use Rattle.std.specs.Prelude.{◌≡◌, ◌≤◌, ◌<◌, ◌^◌, Some, List, ℕ, [], OnOk, OnErr, ◌∷◌, ◌++◌, ◌≢◌, true, false, codes, map, string_bytes, IfSome, IfNone};
 ghost use Rattle.std.specs.Fmt.{decimal};
-ghost use Rattle.oe_commands.specs.Commands.{IsCommand, IsFile, Says};
+ghost use Rattle.oe_commands.specs.Commands.{IsCommand, IsFile, Says, word_of};
 
 use desk_generator::COUNT_LIMIT;
 use grid_exact::NoMemory;
@@ -13,11 +13,24 @@ use std::marker::Model;
 /// The greatest seed of the generator.
 pub const SEED_LIMIT: u64 = 0x7FFF_FFFF_FFFF_FFFF;
 
+/// What a desk that was opened does with the lines of the input.
+#[derive(Clone, Copy, Debug, PartialEq, Eq)]
+pub enum Service {
+    /// `desk`: it answers each of them, and stores what it accepts.
+    Desk,
+    /// `ceiling`: it replies to each structure with the greatest height that has no finding. It accepts nothing.
+    Ceiling,
+    /// `stations`: it replies to each way, a structure a station, with one list of findings. It accepts nothing.
+    Stations,
+}
+
 /// The command of a run.
 #[derive(Clone, Copy, Debug, PartialEq, Eq)]
 pub enum Command<'a> {
-    /// `desk`: the desk answers the input. With `--db FILE` or `--db=FILE` its tables are stored in that file.
-    Desk {
+    /// `desk`, `ceiling` or `stations`: a desk is opened, and serves the input. With `--db FILE` or `--db=FILE` its tables are those that
+    /// are stored in that file.
+    Serve {
+        service: Service,
         /// The file of the tables, if they are stored. It is not empty and does not begin with a dash.
         file: Option<&'a str>,
     },
@@ -83,22 +96,39 @@ fn command_of(words: &[String]) -> Option<Command<'_>>
     ensures none { IfNone result (IsCommand (map (λ s. string_bytes s) words.now) → ⊥) }
 {
     match words {
-        [word] => desk_command(word.as_str()),
-        [word, option] => placed_command(word.as_str(), option.as_str()),
+        [word] => one_word(word.as_str()),
+        [word, option] => two_words(word.as_str(), option.as_str()),
         [word, second, third] => three_words(word.as_str(), second.as_str(), third.as_str()),
         _ => None,
     }
 }
 
+/// Parses the word of a service.
+fn service_of(word: &str) -> Option<Service>
+    ensures some { IfSome result (λ s. word.now ≡ word_of s) }
+    ensures none { IfNone result ((s : Service) → word.now ≢ word_of s) }
+{
+    if word == "desk" {
+        Some(Service::Desk)
+    } else if word == "ceiling" {
+        Some(Service::Ceiling)
+    } else if word == "stations" {
+        Some(Service::Stations)
+    } else {
+        None
+    }
+}
+
 /// Parses one word as a command.
-fn desk_command(word: &str) -> Option<Command<'_>>
+fn one_word(word: &str) -> Option<Command<'_>>
     ensures some { IfSome result (λ c. Says (word.now ∷ []) c) }
     ensures none { IfNone result (IsCommand (word.now ∷ []) → ⊥) }
 {
-    if word == "desk" {
-        return Some(Command::Desk { file: None });
-    }
-    None
+    let service = service_of(word)?;
+    Some(Command::Serve {
+        service,
+        file: None,
+    })
 }
 
 /// Parses a file name: it is not empty and does not begin with a dash.
@@ -113,15 +143,16 @@ fn file_name(word: &str) -> Option<&str>
 }
 
 /// Parses two words as a command.
-fn placed_command<'a>(word: &str, option: &'a str) -> Option<Command<'a>>
+fn two_words<'a>(word: &str, option: &'a str) -> Option<Command<'a>>
     ensures some { IfSome result (λ c. Says (word.now ∷ option.now ∷ []) c) }
     ensures none { IfNone result (IsCommand (word.now ∷ option.now ∷ []) → ⊥) }
 {
-    if word != "desk" {
-        return None;
-    }
+    let service = service_of(word)?;
     let file = file_name(option.strip_prefix("--db=")?)?;
-    Some(Command::Desk { file: Some(file) })
+    Some(Command::Serve {
+        service,
+        file: Some(file),
+    })
 }
 
 /// Parses three words as a command.
@@ -132,11 +163,15 @@ fn three_words<'a>(word: &str, second: &str, third: &'a str) -> Option<Command<'
     if word == "generate" {
         return generate_command(second, third);
     }
-    if word != "desk" || second != "--db" {
+    if second != "--db" {
         return None;
     }
+    let service = service_of(word)?;
     let file = file_name(third)?;
-    Some(Command::Desk { file: Some(file) })
+    Some(Command::Serve {
+        service,
+        file: Some(file),
+    })
 }
 
 /// Parses the two words of the command `generate`.

@@ -1,5 +1,5 @@
 -- The steps of an apply, as what they make of the files that a crash may leave.
-use Rattle.std.proofs.Common.{◌≡◌, ◌⊎◌, inl, inr, ⊎_elim, ℕ, ◌+◌, ◌<◌, Bool, true, false, List, [], ◌∷◌, ◌++◌, length, get_or, take, drop, refl, sym, ap, subst, ◌∙◌, arith, length-append, length-take}
+use Rattle.std.proofs.Common.{◌≡◌, ◌⊎◌, inl, inr, ⊎_elim, ℕ, ◌+◌, ◌<◌, Bool, true, false, List, [], ◌∷◌, ◌++◌, length, get_or, take, drop, refl, sym, ap, subst, ◌∙◌, arith, append_assoc, length-append, length-take}
 use Rattle.std.specs.Int.{w64, to_be_bytes}
 use Rattle.std.proofs.lemmas.Bool.{cases_eq}
 use Rattle.std.proofs.lemmas.List.{take_at, drop_at, get_or-drop, drop-drop}
@@ -170,6 +170,15 @@ module _ (end : ℕ) (old : List ℕ) (old_leave : List ℕ → Type 0) (here : 
               (λ other. with_rows rows other.1.0 (other.1.1 ∙ ap (λ (l : List ℕ). rows_of (gated end other.1.0 l)) (is c stand.1) ∙ ap rows_of (gated-gated end mid on_disk.long other.1.0 (get_or c end 0)))) stand.2;
         }
 
+    held : (new : List ℕ) → Holds mid end (1 ∷ []) new → Holds old end (1 ∷ block (spelled changes)) new
+    unfolding junk
+    held new holds =
+        let size = ap length is_block.is in
+        let k : end + 1 + length bytes ≡ end + length (1 ∷ block (spelled changes)) = omega arith in
+        holds_gate end mid on_disk.long 1 new holds
+        ∙ (λ i. on_disk.front i ++ 1 ∷ behind i)
+        ∙ sym (append_assoc (take end old) (1 ∷ block (spelled changes)) (drop (end + 1 + length bytes) old)) ∙ ap (λ (n : ℕ). (take end old ++ 1 ∷ block (spelled changes)) ++ drop n old) k
+
     pub open_ok : (new_end : ℕ) (new : List ℕ) (new_leave : List ℕ → Type 0) → new_end ≡ end + length bytes → Holds mid end (1 ∷ []) new → Only new new_leave → IsAppended end changes old new_end new new_leave
     open_ok new_end new new_leave end_is holds only =
         let p = spelled changes in
@@ -202,6 +211,7 @@ module _ (end : ℕ) (old : List ℕ) (old_leave : List ℕ → Type 0) (here : 
                 closed = λ _ x left one. let e : get_or x new_end 0 ≡ get_or new new_end 0 = ap (λ (l : List ℕ). get_or l new_end 0) (only x left) in absurd (omega arith);
                 behind = λ e. absurd cc;
               };
+          file = record { holds = held new holds; end_is = place };
           rows = rows;
           same = closed.rows ∙ rows;
           stands = λ r stand. ⊎_elim (λ e. e ∙ ap rows_of (only stand.0 stand.1) ∙ rows) (λ other. absurd (no_such other.0)) stand.2;

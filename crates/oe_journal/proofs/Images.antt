@@ -46,6 +46,9 @@ module _ (end : ℕ) (d : List ℕ) (within : end < length d) where
   pub holds_gate : (g : ℕ) (c : List ℕ) → Holds d end (g ∷ []) c → c ≡ gated end g d
   holds_gate g c holds = holds ∙ append_assoc (take end d) (g ∷ []) (drop (end + 1) d)
 
+  pub holds_behind : (g : ℕ) (c : List ℕ) → Holds d end (g ∷ []) c → drop (end + 1) c ≡ drop (end + 1) d
+  holds_behind g c holds = ap (λ (l : List ℕ). drop (end + 1) l) (holds_gate g c holds) ∙ gated-behind g
+
 -- ---- the rows of a file whose front is the acknowledged frames
 
 module _ (end : ℕ) (file : List ℕ) (within : end < length file) (frames : extent (closed_at end file) ≡ end) where

@@ -3,9 +3,9 @@ use Rattle.std.specs.Prelude.{◌≡◌, ◌≤◌, ℕ, ◌^◌, Bool, true, fa
 use Rattle.crash_disks.specs.Crash.{Passes}
 use Rattle.oe_keeper.specs.Kept.{Kept}
 use Rattle.oe_keeper.specs.declared.change.RowChange.{RowChange}
-use Rattle.change_frames.specs.Frames.{rows_of}
+use Rattle.change_frames.specs.Frames.{extent, rows_of}
 use Rattle.oe_journal.specs.declared.journal.JournalKeeper.{JournalKeeper}
-use Rattle.oe_journal.specs.Standing.{acknowledged, MayStand, MayStandWith, IsReady}
+use Rattle.oe_journal.specs.Standing.{acknowledged, closed_at, MayStand, MayStandWith, IsReady}
 
 -- it tells that these are its rows: no call failed since it was loaded
 pub record IsTelling {D : Type 0} (IsTold : Type 0) (content : D → List ℕ) (k : JournalKeeper D) (rows : Kept) : Type 0 where
@@ -30,6 +30,10 @@ MayStandIn MayLeave k rows = MayStand k.to_settle k.end (MayLeave k.disk) rows
 abbrev pub MayStandAfter : {D : Type 0} → (D → List ℕ) → (D → List ℕ → Type 0) → JournalKeeper D → List RowChange → Kept → Type 0
 MayStandAfter content MayLeave k changes rows = MayStandWith k.to_settle k.end (MayLeave k.disk) (content k.disk) changes rows
 
+-- no rows may come to stand in it but the acknowledged ones, as after a load
+pub record IsFresh {D : Type 0} (content : D → List ℕ) (MayLeave : D → List ℕ → Type 0) (k : JournalKeeper D) : Type 0 where
+  pub stands : (rows : Kept) → MayStandIn MayLeave k rows → rows ≡ acknowledged_by content k
+
 -- its gate is where the file says, on every file that a crash now may leave
 pub record IsLoadedOver {D : Type 0} (IsTold : Type 0) (content : D → List ℕ) (MayLeave : D → List ℕ → Type 0) (k : JournalKeeper D) : Type 0 where
   pub is_open : k.is_open ≡ true
@@ -37,9 +41,15 @@ pub record IsLoadedOver {D : Type 0} (IsTold : Type 0) (content : D → List ℕ
   pub settled : k.is_told ≡ true → k.to_settle ≡ false
   pub ready : IsTold → IsReady (content k.disk) (MayLeave k.disk) k.end k.to_settle
 
+-- the file is the frames of this one that counted, and a closed gate at its end
+pub record IsCutTo {D : Type 0} (content : D → List ℕ) (file : List ℕ) (k : JournalKeeper D) : Type 0 where
+  pub end_is : k.end ≡ extent file
+  pub is : content k.disk ≡ closed_at k.end file
+
 -- the rows are those that the file stood for, and no other may come to stand
 pub record IsReloaded {D : Type 0} (content : D → List ℕ) (MayLeave : D → List ℕ → Type 0) (old new : JournalKeeper D) : Type 0 where
   pub ready : IsReady (content new.disk) (MayLeave new.disk) new.end new.to_settle
+  pub file : IsCutTo content (content old.disk) new
   pub rows : rows_of (content new.disk) ≡ rows_of (content old.disk)
   pub acknowledges : acknowledged new.end (content new.disk) ≡ rows_of (content old.disk)
   pub stands : (rows : Kept) → MayStand new.to_settle new.end (MayLeave new.disk) rows → rows ≡ rows_of (content old.disk)
@@ -53,6 +63,11 @@ pub record LoadsFrom {D : Type 0} (TellsPast : Type 0) (MayLeave : D → List �
 pub record FindsOver {D : Type 0} (Opens : D → Option (List ℕ) → D → Type 0) (content : D → List ℕ) (k : JournalKeeper D) (place : Option (List ℕ)) (rows : Kept) : Type 0 where
   pub again : k.is_open ≡ true → rows ≡ rows_of (content k.disk)
   pub first : k.is_open ≡ false → (opened : D) × Opens k.disk place opened × (rows ≡ rows_of (content opened))
+
+-- A load of an open journal cuts its file so. One that opens it cuts the file at the place.
+pub record CutsOver {D : Type 0} (Opens : D → Option (List ℕ) → D → Type 0) (content : D → List ℕ) (old : JournalKeeper D) (place : Option (List ℕ)) (new : JournalKeeper D) : Type 0 where
+  pub again : old.is_open ≡ true → IsCutTo content (content old.disk) new
+  pub first : old.is_open ≡ false → (opened : D) × Opens old.disk place opened × IsCutTo content (content opened) new
 
 -- the place was opened, and nothing is told yet
 pub record IsOpened {D : Type 0} (Opens : D → Option (List ℕ) → D → Type 0) (old : JournalKeeper D) (place : Option (List ℕ)) (new : JournalKeeper D) : Type 0 where

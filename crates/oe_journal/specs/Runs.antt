@@ -1,5 +1,7 @@
--- What a run of calls comes to, whichever of them a crash stopped.
-use Rattle.std.specs.Prelude.{◌≡◌, ◌⊎◌, ◌≤◌, ℕ, Bool, true, false, List, [], ◌∷◌, length, take}
+-- The rows that stand after calls of a journal, and those that a crash may leave while the calls are made.
+use Rattle.std.specs.Prelude.{◌≡◌, ◌⊎◌, ℕ, ◌+◌, ◌-◌, ◌^◌, ◌≤◌, min, Bool, true, false, List, [], ◌∷◌, length, take}
+use Rattle.std.specs.List.{sum_by}
+use Rattle.crash_disks.specs.Crash.{Rose}
 use Rattle.oe_keeper.specs.Kept.{Kept, rows_after_changes}
 use Rattle.oe_keeper.specs.declared.change.RowChange.{RowChange}
 use Rattle.oe_journal.specs.declared.journal.JournalKeeper.{JournalKeeper}
@@ -66,11 +68,49 @@ FindsOne stand Failed = Unit {0}
 FindsOne stand NoMemory = Unit {0}
 FindsOne stand Unasked = Unit {0}
 
--- each load of a run does
+-- Every call is handed to the journal, but for changes where the last load did not answer Ok.
+abbrev pub IsAsked : Stand → Call → Answer → Type 0
+IsAsked stand Load (Loaded rows) = Unit {0}
+IsAsked stand Load Applied = ⊥
+IsAsked stand Load Failed = Unit {0}
+IsAsked stand Load NoMemory = Unit {0}
+IsAsked stand Load Unasked = ⊥
+IsAsked stand (Apply list) (Loaded rows) = ⊥
+IsAsked stand (Apply list) Applied = stand.is_loaded ≡ true
+IsAsked stand (Apply list) Failed = stand.is_loaded ≡ true
+IsAsked stand (Apply list) NoMemory = stand.is_loaded ≡ true
+IsAsked stand (Apply list) Unasked = stand.is_loaded ≡ false
+
+-- so it is of each call of a run and its answer, at what stands before the call
+abbrev pub Each : (Stand → Call → Answer → Type 0) → Stand → List Call → List Answer → Type 0
+Each P stand [] answers = Unit {0}
+Each P stand (call ∷ calls) [] = Unit {0}
+Each P stand (call ∷ calls) (answer ∷ answers) = P stand call answer × Each P (after_one stand call answer) calls answers
+
+-- each load of a run finds such rows
 abbrev pub FindEach : Stand → List Call → List Answer → Type 0
-FindEach stand [] answers = Unit {0}
-FindEach stand (call ∷ calls) [] = Unit {0}
-FindEach stand (call ∷ calls) (answer ∷ answers) = FindsOne stand answer × FindEach (after_one stand call answer) calls answers
+FindEach = Each (λ stand call answer. FindsOne stand answer)
+
+-- how many calls failed
+abbrev pub failed_once : Answer → ℕ
+failed_once (Loaded rows) = 0
+failed_once Applied = 0
+failed_once Failed = 1
+failed_once NoMemory = 0
+failed_once Unasked = 0
+
+abbrev pub failures : List Answer → ℕ
+failures = sum_by failed_once
+
+-- a count never falls, and has risen at least as often as a call failed, or stands at the end of its type
+pub record HasCauses (before now failed : ℕ) : Type 0 where
+  pub later : before ≤ now
+  pub rose : min (before + failed) (2 ^ 64 - 1) ≤ now
+
+-- a count never falls, and has risen where the call failed
+pub record HasCauseOf (before now : ℕ) (answer : Answer) : Type 0 where
+  pub later : before ≤ now
+  pub failed : answer ≡ Failed → Rose before now
 
 -- The journal stands so: no other rows may come to stand in it, where it is loaded these are the acknowledged ones, and it tells none where it may not.
 pub record StandsSo {D : Type 0} (IsTold : Type 0) (content : D → List ℕ) (MayLeave : D → List ℕ → Type 0) (k : JournalKeeper D) (stand : Stand) : Type 0 where

@@ -1,5 +1,6 @@
 -- What rows stand in a journal, and what rows a crash may leave.
 use Rattle.std.specs.Prelude.{◌≡◌, ◌≢◌, ◌⊎◌, ℕ, ◌+◌, ◌<◌, ◌^◌, Bool, true, false, List, [], ◌∷◌, ◌++◌, length, slice_index, take, drop}
+use Rattle.crash_disks.specs.Bytes.{Holds}
 use Rattle.oe_keeper.specs.Kept.{Kept, rows_after_changes}
 use Rattle.oe_keeper.specs.declared.change.RowChange.{RowChange}
 use Rattle.change_frames.specs.Spelling.{spelled, block, AreChanges}
@@ -59,9 +60,15 @@ pub record IsUnappended (end : ℕ) (changes : List RowChange) (before : Bool) (
   pub same : take end new ≡ take end old
   pub stands : (rows : Kept) → MayStand after end new_leave rows → MayStandWith before end old_leave old changes rows
 
+-- The frame of these changes, and the closed gate behind it, stand at the old end. The new end is that gate; what lay further on is as it was.
+pub record IsWritten (end : ℕ) (changes : List RowChange) (old : List ℕ) (new_end : ℕ) (new : List ℕ) : Type 0 where
+  pub holds : Holds old end (1 ∷ block (spelled changes)) new
+  pub end_is : new_end ≡ end + (9 + length (spelled changes))
+
 -- the rows with these changes stand, and no other
 pub record IsAppended (end : ℕ) (changes : List RowChange) (old : List ℕ) (new_end : ℕ) (new : List ℕ) (new_leave : List ℕ → Type 0) : Type 0 where
   pub ready : IsReady new new_leave new_end false
+  pub file : IsWritten end changes old new_end new
   pub rows : rows_of new ≡ rows_after_changes (acknowledged end old) changes
   pub same : acknowledged new_end new ≡ rows_after_changes (acknowledged end old) changes
   pub stands : (rows : Kept) → MayStand false new_end new_leave rows → rows ≡ rows_after_changes (acknowledged end old) changes

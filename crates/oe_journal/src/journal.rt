@@ -8,9 +8,9 @@ ghost use Rattle.std.proofs.Common.{◌∙◌, sym};
 ghost use Rattle.oe_keeper.specs.Kept.{Kept, rows_after_changes};
 ghost use Rattle.oe_keeper.specs.Keeping as keeping;
 ghost use Rattle.oe_journal.specs.Results.{IfNoMemory};
-ghost use Rattle.oe_journal.specs.Journal.{IsTelling, TellsNothing, IsLoadedOver, IsReloaded, IsOpened, LoadsFrom};
-ghost use Rattle.oe_journal.specs.Journal.{FindsOver, acknowledged_by, MayStandIn, MayStandAfter};
-ghost use Rattle.oe_journal.specs.Standing.{IsReady, IsUnappended, IsAppended, IsFrame};
+ghost use Rattle.oe_journal.specs.Journal.{IsTelling, TellsNothing, IsLoadedOver, IsFresh, IsReloaded, IsOpened, LoadsFrom};
+ghost use Rattle.oe_journal.specs.Journal.{FindsOver, CutsOver, acknowledged_by, MayStandIn, MayStandAfter};
+ghost use Rattle.oe_journal.specs.Standing.{IsReady, IsUnappended, IsAppended, IsWritten, IsFrame};
 
 use crate::mending::mend;
 use crate::reading::read_rows;
@@ -136,6 +136,8 @@ impl<D: Disk> JournalKeeper<D> {
         ensures first { self.old.is_open ≡ false
             → OnOk result (IsOpened D.Opens self.old (option_copied place.entry) self.new) }
         ensures failed { OnErr result ((self.old.is_open ≡ false) × (self.new.is_open ≡ false)) }
+        ensures unopened { OnErr result
+            (D.FailsToOpen self.old.disk (option_copied place.entry) self.new.disk) }
         ensures cause { keeping.HasCause (D.faults self.old.disk) (D.faults self.new.disk) result }
     {
         if !self.is_open {
@@ -189,6 +191,9 @@ impl<D: Disk> Keeper for JournalKeeper<D> {
             → IfOk result (λ rows. acknowledged_by D.content self.new ≡ rows) }
         ensures stands { D.IsTold
             → IfOk result (λ rows. (r : Kept) → MayStandIn D.MayLeave self.new r → r ≡ rows) }
+        ensures file { D.IsTold → OnOk result
+            (CutsOver D.Opens D.content self.old (option_copied place.entry) self.new) }
+        ensures fresh { D.IsTold → OnOk result (IsFresh D.content D.MayLeave self.new) }
         ensures crash { D.IsTold → self.old.is_open ≡ true
             → LoadsFrom D.TellsPast D.MayLeave D.moment D.LeftSince self.old.disk self.old.to_settle
             self.old.end self.new }
@@ -196,6 +201,8 @@ impl<D: Disk> Keeper for JournalKeeper<D> {
             → (opened : D) × D.Opens self.old.disk (option_copied place.entry) opened
             × LoadsFrom D.TellsPast D.MayLeave D.moment D.LeftSince opened false self.old.end
             self.new }
+        ensures unopened { self.old.is_open ≡ false → self.new.is_open ≡ false
+            → D.FailsToOpen self.old.disk (option_copied place.entry) self.new.disk }
     {
         self.open(place)?;
         self.reload(alloc)
@@ -212,6 +219,9 @@ impl<D: Disk> Keeper for JournalKeeper<D> {
         requires { ∥ IsLoadedOver D.IsTold D.content D.MayLeave self.old ∥₁ }
         ensures all { OnOk result
             (keeping.HasAll (IsTelling D.IsTold D.content) self.old self.new changes.now) }
+        ensures tells { D.IsTold
+            → OnOk result ((rows : Kept) → IsTelling D.IsTold D.content self.old rows
+            → IsTelling D.IsTold D.content self.new (rows_after_changes rows changes.now)) }
         ensures none { OnErr result (keeping.Stays (IsTelling D.IsTold D.content) self.old self.new) }
         ensures silent { keeping.StaysSilent (IsTelling D.IsTold D.content) self.old self.new }
         ensures loaded { ∥ IsLoadedOver D.IsTold D.content D.MayLeave self.new ∥₁ }
@@ -224,6 +234,10 @@ impl<D: Disk> Keeper for JournalKeeper<D> {
             (acknowledged_by D.content self.old) changes.now) }
         ensures unacknowledged { D.IsTold
             → OnErr result (acknowledged_by D.content self.new ≡ acknowledged_by D.content self.old) }
+        ensures file { D.IsTold
+            → OnOk result
+            (IsWritten self.old.end changes.now (D.content self.old.disk) self.new.end
+            (D.content self.new.disk)) }
         ensures stands { D.IsTold
             → OnOk result ((rows : Kept) → MayStandIn D.MayLeave self.new rows
             → rows ≡ rows_after_changes (acknowledged_by D.content self.old) changes.now) }

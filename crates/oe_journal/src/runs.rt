@@ -1,12 +1,14 @@
 //! Calls of a journal, made one after another.
 
-ghost use Rattle.std.specs.Prelude.{◌≡◌, ◌⊎◌, true, List, IfOk, length};
+ghost use Rattle.std.specs.Prelude.{◌≡◌, ◌⊎◌, true, List, Vec, IfOk, length};
 ghost use Rattle.crash_disks.specs.Crash.{LeavesDuring};
 ghost use Rattle.change_frames.specs.Frames.{rows_of};
-ghost use Rattle.oe_keeper.specs.Kept.{Kept};
-ghost use Rattle.oe_journal.specs.Journal.{IsLoadedOver, acknowledged_by, MayStandIn};
-ghost use Rattle.oe_journal.specs.Runs.{Stand, just_loaded, after_load, after_apply, after_one, after_all};
-ghost use Rattle.oe_journal.specs.Runs.{IsOneOf, StandsAfterSome, FindsOne, FindEach, StandsSo};
+ghost use Rattle.std.specs.declared.alloc.Global.{Global as OfMemory};
+ghost use Rattle.oe_keeper.specs.declared.change.RowChange.{RowChange as Change};
+ghost use Rattle.oe_journal.specs.declared.runs.Call.TheVariants as calls_of;
+ghost use Rattle.oe_journal.specs.Journal.{IsLoadedOver, IsFresh, acknowledged_by};
+ghost use Rattle.oe_journal.specs.Runs.{Stand, just_loaded, after_load, after_apply, after_one, after_all, failures};
+ghost use Rattle.oe_journal.specs.Runs.{IsOneOf, StandsAfterSome, FindsOne, FindEach, IsAsked, Each, HasCauses, HasCauseOf, StandsSo};
 
 use crate::journal::JournalKeeper;
 use crash_disks::Disk;
@@ -51,6 +53,8 @@ fn load_again<D: Disk>(alloc: Global, keeper: &mut JournalKeeper<D>, is_loaded: 
         → StandsSo D.IsTold D.content D.MayLeave keeper.new (after_load stand result) }
     ensures found { D.IsTold → (stand : Stand)
         → StandsSo D.IsTold D.content D.MayLeave keeper.old stand → FindsOne stand result }
+    ensures asked { (stand : Stand) → IsAsked stand calls_of.Load result }
+    ensures cause { HasCauseOf (D.faults keeper.old.disk) (D.faults keeper.new.disk) result }
     ensures crash { D.IsTold → D.TellsPast → (stand : Stand)
         → StandsSo D.IsTold D.content D.MayLeave keeper.old stand
         → LeavesDuring D.moment D.LeftSince keeper.old.disk keeper.new.disk
@@ -75,6 +79,9 @@ fn apply_one<D: Disk>(alloc: Global, keeper: &mut JournalKeeper<D>, list: &[RowC
         → StandsSo D.IsTold D.content D.MayLeave keeper.old stand
         → StandsSo D.IsTold D.content D.MayLeave keeper.new (after_apply stand list.now result) }
     ensures found { (stand : Stand) → FindsOne stand result }
+    ensures asked { (stand : Stand) (all : Vec Change OfMemory) → stand.is_loaded ≡ true
+        → IsAsked stand (calls_of.Apply all) result }
+    ensures cause { HasCauseOf (D.faults keeper.old.disk) (D.faults keeper.new.disk) result }
     ensures crash { D.IsTold → D.TellsPast → (stand : Stand) → stand.is_loaded ≡ true
         → StandsSo D.IsTold D.content D.MayLeave keeper.old stand
         → LeavesDuring D.moment D.LeftSince keeper.old.disk keeper.new.disk
@@ -107,6 +114,9 @@ fn call_one<D: Disk>(
         → StandsSo D.IsTold D.content D.MayLeave keeper.new (after_one stand call.now result) }
     ensures found { D.IsTold → (stand : Stand)
         → StandsSo D.IsTold D.content D.MayLeave keeper.old stand → FindsOne stand result }
+    ensures asked { (stand : Stand) → stand.is_loaded ≡ is_loaded.old
+        → IsAsked stand call.now result }
+    ensures cause { HasCauseOf (D.faults keeper.old.disk) (D.faults keeper.new.disk) result }
     ensures crash { D.IsTold → D.TellsPast → (stand : Stand) → stand.is_loaded ≡ is_loaded.old
         → StandsSo D.IsTold D.content D.MayLeave keeper.old stand
         → LeavesDuring D.moment D.LeftSince keeper.old.disk keeper.new.disk
@@ -128,7 +138,8 @@ fn call_one<D: Disk>(
 /// the journal after a load that did not answer Ok, until one does. At whatever moment a crash comes, within
 /// a call too, it leaves the rows of the last load that answered Ok with the lists that were acknowledged
 /// since, in order and none in part, and then at most one list more, whole: that of an apply after the last
-/// acknowledged one that called the disk and was not acknowledged. Each load finds such rows.
+/// acknowledged one that called the disk and was not acknowledged. Each load finds such rows. The disk's
+/// count of faults rises with each call that failed.
 ///
 /// # Errors
 ///
@@ -139,14 +150,17 @@ pub fn run_all<D: Disk>(
     calls: &[Call],
 ) -> Result<Vec<Answer>, NoMemory>
     requires loaded { ∥ IsLoadedOver D.IsTold D.content D.MayLeave keeper.old ∥₁ }
-    requires fresh { D.IsTold → (rows : Kept) → MayStandIn D.MayLeave keeper.old rows
-        → rows ≡ acknowledged_by D.content keeper.old }
+    requires fresh { D.IsTold → IsFresh D.content D.MayLeave keeper.old }
     ensures all { IfOk result (λ answers. length answers.items ≡ length calls.now) }
     ensures stands { D.IsTold
         → IfOk result (λ answers. StandsSo D.IsTold D.content D.MayLeave keeper.new
         (after_all (just_loaded (acknowledged_by D.content keeper.old)) calls.now answers.items)) }
     ensures found { D.IsTold → IfOk result (λ answers.
         FindEach (just_loaded (acknowledged_by D.content keeper.old)) calls.now answers.items) }
+    ensures asked { IfOk result (λ answers.
+        Each IsAsked (just_loaded (acknowledged_by D.content keeper.old)) calls.now answers.items) }
+    ensures cause { IfOk result (λ answers.
+        HasCauses (D.faults keeper.old.disk) (D.faults keeper.new.disk) (failures answers.items)) }
     ensures crash { D.IsTold → D.TellsPast → IfOk result (λ answers.
         LeavesDuring D.moment D.LeftSince keeper.old.disk keeper.new.disk
         (λ c. StandsAfterSome (just_loaded (acknowledged_by D.content keeper.old))

@@ -16,6 +16,8 @@ pub(crate) fn settle<D: Disk>(disk: &mut D, end: u64, to_settle: &mut bool) -> R
         → StaysReady end to_settle.old (D.content disk.old) (D.MayLeave disk.old) to_settle.new
         (D.content disk.new) (D.MayLeave disk.new) }
     ensures settled { OnOk result (to_settle.new ≡ false) }
+    ensures behind { D.IsTold
+        → OnOk result (drop (end + 1) (D.content disk.new) ≡ drop (end + 1) (D.content disk.old)) }
     ensures time { D.IsTold → D.TellsPast
         → LeavesDuring D.moment D.LeftSince disk.old disk.new
         (λ c. MayStand to_settle.old end (D.MayLeave disk.old) (rows_of c)) }

@@ -1,9 +1,9 @@
 -- Rows in order: a row that is put or removed where a search finds its place.
-use Rattle.std.proofs.Common.{◌≡◌, ℕ, suc, zero, ◌-◌, ◌<◌, ◌≤◌, T, Bool, true, false, cond, not, ◌&&◌, List, [], ◌∷◌, map, length, set, get_or, Option, Some, None, Ok, Err, refl, sym, ap, subst, ◌∙◌, arith}
+use Rattle.std.proofs.Common.{◌≡◌, ℕ, suc, zero, ◌-◌, ◌≤◌, T, Bool, true, false, cond, not, ◌&&◌, List, [], ◌∷◌, map, length, get_or, Option, Some, None, Err, refl, sym, ap, subst, ◌∙◌, arith}
 use Rattle.std.specs.declared.cmp.Ordering.{Ordering}
 use Rattle.std.specs.declared.cmp.Ordering.TheVariants.{Less, Equal, Greater}
 use Rattle.std.specs.Ordering.{is_lt, is_eq, ordering_index, eq_by_cmp}
-use Rattle.std.specs.List.{All, insert, remove}
+use Rattle.std.specs.List.{All}
 use Rattle.std.specs.Prelude.{slice_get, option_copied}
 use Rattle.std.proofs.Common.{Bor}
 use Rattle.std.specs.Option.{option_map}
@@ -16,8 +16,6 @@ use Rattle.std.specs.FinMap.Entries.{where_key, below_all, is_sorted-put, is_sor
 use Rattle.std.proofs.lemmas.List.Elements.{All-nil, All-cons}
 use Rattle.ordered_list.specs.Ordered.{Rises, put_by, removed_by}
 use Rattle.ordered_list.specs.Ordered as listed
-use Rattle.ordered_list.proofs.Places.{search_set, search_insert}
-use Rattle.ordered_list.proofs.Removal.{search_removed, search_kept}
 use Rattle.oe_keeper.specs.Kept.{Key, Kept, key_cmp, key_cmp_total, place}
 use Rattle.oe_keeper.specs.Walk.{pair_of, key_of}
 use Rattle.oe_keeper.specs.declared.rows.Entry.{Entry}
@@ -105,28 +103,6 @@ removed_becomes old new k r e =
           ∙ turned (eq_by_cmp key_cmp k q) _ _ ∙ ap (λ b. cond b None (find key_cmp q (map pair_of old))) ((eq_by_cmp_equiv key_cmp_total).symm k q)
           ∙ ap (cond (eq_by_cmp key_cmp q k) None) (sym (get-from_sorted key_cmp (map pair_of old) q r)) ∙ sym (get-remove key_cmp_total _ k q));
     }
-
--- what is done at the place that a search answers
-pub set_becomes : (x : Entry) (xs zs new : List Entry) (i : ℕ) (k : Key) (v : List ℕ) → IsRising xs → zs ≡ xs → pair_of x ≡ (k, v) → i < length zs → IsBinarySearchResult (λ e. key_cmp (key_of e) k) zs (Ok i)
-    → new ≡ set xs i x → Becomes new (maps.insert (seen xs) k v)
-set_becomes x xs zs new i k v r z p l h e =
-    put_becomes x xs new k v r p (e ∙ search_set key_cmp key_cmp_total key_of x xs i (rises xs r) (subst (λ l. i < length l) z l)
-    (subst (λ q. IsBinarySearchResult (λ e. key_cmp (key_of e) q) xs (Ok i)) (sym (ap (λ (q : Key × List ℕ). q.0) p)) (subst (λ l. IsBinarySearchResult (λ e. key_cmp (key_of e) k) l (Ok i)) z h)))
-
-pub insert_becomes : (x : Entry) (xs zs new : List Entry) (i : ℕ) (k : Key) (v : List ℕ) → IsRising xs → zs ≡ xs → pair_of x ≡ (k, v) → i ≤ length zs → IsBinarySearchResult (λ e. key_cmp (key_of e) k) zs (Err i)
-    → new ≡ insert xs i x → Becomes new (maps.insert (seen xs) k v)
-insert_becomes x xs zs new i k v r z p l h e =
-    put_becomes x xs new k v r p (e ∙ search_insert key_cmp key_cmp_total key_of x xs i (rises xs r) (subst (λ l. i ≤ length l) z l)
-    (subst (λ q. IsBinarySearchResult (λ e. key_cmp (key_of e) q) xs (Err i)) (sym (ap (λ (q : Key × List ℕ). q.0) p)) (subst (λ l. IsBinarySearchResult (λ e. key_cmp (key_of e) k) l (Err i)) z h)))
-
-pub remove_becomes : (xs zs new : List Entry) (i : ℕ) (d : Entry) (k : Key) → IsRising xs → zs ≡ xs → i < length zs → IsBinarySearchResult (λ e. key_cmp (key_of e) k) zs (Ok i)
-    → new ≡ remove xs i → Becomes new (maps.remove (seen xs) k)
-remove_becomes xs zs new i d k r z l h e =
-    removed_becomes xs new k r (e ∙ search_removed key_cmp key_cmp_total key_of k xs i d (rises xs r) (subst (λ l. i < length l) z l) (subst (λ l. IsBinarySearchResult (λ e. key_cmp (key_of e) k) l (Ok i)) z h))
-
-pub kept_becomes : (xs zs : List Entry) (i : ℕ) (k : Key) → IsRising xs → zs ≡ xs → IsBinarySearchResult (λ e. key_cmp (key_of e) k) zs (Err i) → Becomes xs (maps.remove (seen xs) k)
-kept_becomes xs zs i k r z h =
-    removed_becomes xs xs k r (sym (search_kept key_cmp key_cmp_total key_of k xs i (rises xs r) (subst (λ l. IsBinarySearchResult (λ e. key_cmp (key_of e) k) l (Err i)) z h)))
 
 -- a key above the last is above all
 zero_less : (o : Ordering) → ordering_index o ≤ ordering_index Less → o ≡ Less

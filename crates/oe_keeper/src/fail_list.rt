@@ -45,7 +45,7 @@ impl FailList {
     }
 
     /// Whether call `n` is in the list.
-    pub(crate) fn has(&self, n: u64) -> bool
+    pub fn has(&self, n: u64) -> bool
         ensures { result ≡ list_any (λ m. nat_eq m n) self.now }
     {
         self.numbers.iter().any(|m| *m == n)

@@ -35,7 +35,7 @@ impl Entry {
 }
 
 /// Compares the row's table and key with these, the table first, then the bytes of the key.
-fn compare(entry: &Entry, table: Table, key: &str) -> Ordering
+pub(crate) fn compare(entry: &Entry, table: Table, key: &str) -> Ordering
     ensures { result ≡ key_cmp (key_of entry.now) (place table, key.now) }
 {
     match entry.table.place().cmp(&table.place()) {

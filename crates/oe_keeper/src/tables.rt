@@ -6,7 +6,8 @@ ghost use Rattle.std.specs.FinMap as maps;
 ghost use Rattle.oe_keeper.specs.Kept.{rows_after_change, place};
 
 use crate::change::{RowChange, Table};
-use crate::rows::{Entry, copies, place_of, row_at};
+use crate::pages::{Page, copies_of, nth_row, put_row, remove_row};
+use crate::rows::Entry;
 use grid_exact::NoMemory;
 use std::alloc::Global;
 use std::marker::Model;
@@ -15,22 +16,27 @@ use std::marker::Model;
 /// and key.
 #[derive(Debug, Drop)]
 pub struct Tables {
-    rows: Vec<Entry>,
+    pages: Vec<Page>,
+    /// The number of rows in all pages.
+    count: usize,
 }
 
 impl Model for Tables {
-    ghost use Rattle.std.specs.Prelude.{map, T};
+    ghost use Rattle.std.specs.Prelude.{◌≡◌, length, map, T};
+    ghost use Rattle.std.specs.List.{All};
     ghost use Rattle.std.specs.FinMap as maps;
     ghost use Rattle.oe_keeper.specs.Kept.{Kept, kept_code, key_cmp};
     ghost use Rattle.oe_keeper.specs.Walk.{pair_of};
+    ghost use Rattle.oe_keeper.specs.Paging.{IsFilled, rows_of};
 
     ghost Value = { Kept };
 
     ghost coded = { kept_code };
 
-    ghost view = { λ a. maps.from_sorted (map pair_of a.rows.items) };
+    ghost view = { λ a. maps.from_sorted (map pair_of (rows_of a.pages.items)) };
 
-    ghost invariant = { λ a. T (maps.is_sorted key_cmp (map pair_of a.rows.items)) };
+    ghost invariant = { λ a. T (maps.is_sorted key_cmp (map pair_of (rows_of a.pages.items)))
+        × All IsFilled a.pages.items × (a.count ≡ length (rows_of a.pages.items)) };
 }
 
 impl Tables {
@@ -39,7 +45,8 @@ impl Tables {
         ensures { result ≡ maps.empty }
     {
         Tables {
-            rows: Vec::new(alloc),
+            pages: Vec::new(alloc),
+            count: 0,
         }
     }
 
@@ -47,7 +54,7 @@ impl Tables {
     pub fn len(&self) -> usize
         ensures { result ≡ maps.len self.now }
     {
-        self.rows.as_slice().len()
+        self.count
     }
 
     /// The table, the key and the row at index `i` in order of table and key, counted from 0.
@@ -55,7 +62,7 @@ impl Tables {
         ensures { option_map (λ r. ((place r.0, r.1.now), r.2.now)) result
             ≡ slice_get (maps.entries self.now) i }
     {
-        match row_at(self.rows.as_slice(), i) {
+        match nth_row(self.pages.as_slice(), i) {
             Some(entry) => Some((entry.table, entry.key.as_str(), entry.row.as_str())),
             None => None,
         }
@@ -65,8 +72,11 @@ impl Tables {
     pub(crate) fn copy(&self, alloc: Global) -> Result<Tables, NoMemory>
         ensures { IfOk result (λ t. t ≡ self.now) }
     {
-        let rows = copies(alloc, self.rows.as_slice())?;
-        Ok(Tables { rows })
+        let pages = copies_of(alloc, self.pages.as_slice())?;
+        Ok(Tables {
+            pages,
+            count: self.count,
+        })
     }
 
     /// Stores the row under the key, and replaces a row that is already there.
@@ -75,29 +85,25 @@ impl Tables {
         ensures err { OnErr result (self.new ≡ self.old) }
     {
         let entry = Entry::new(alloc, table, key, row)?;
-        match place_of(self.rows.as_slice(), table, key) {
-            Ok(i) => {
-                self.rows[i] = entry;
-                Ok(())
-            }
-            Err(i) => {
-                self.rows.insert(i, entry)?;
-                Ok(())
-            }
+        let Some(more) = self.count.checked_add(1) else {
+            return Err(NoMemory);
+        };
+        if put_row(alloc, &mut self.pages, entry)? {
+            self.count = more;
         }
+        Ok(())
     }
 
     /// Deletes the row under the key, if there is one.
     fn remove(&mut self, table: Table, key: &str)
         ensures { self.new ≡ maps.remove self.old (place table, key.now) }
     {
-        if let Ok(i) = place_of(self.rows.as_slice(), table, key) {
-            self.rows.remove(i);
+        if remove_row(&mut self.pages, table, key) {
+            self.count -= 1;
         }
     }
 
-    /// Makes one change. A row whose key is above all others is appended; any other moves the rows
-    /// after it.
+    /// Makes one change. A row that does not come in order moves a part of the rows alone.
     ///
     /// # Errors
     ///

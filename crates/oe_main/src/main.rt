@@ -4,12 +4,11 @@
 #![tactic(auto)]
 
 use crash_disks::FileDisk;
-use named_keeper::ByName;
 use oe_commands::run::run;
 use oe_commands::{Status, Words};
 use oe_http::{ReadSource, WriteSink};
 use oe_journal::JournalKeeper;
-use oe_keeper::PlacedKeeper;
+use oe_keeper::{ByName, PlacedKeeper};
 use oe_sqlite::SqliteKeeper;
 use std::env;
 use std::io::ErrorKind;

@@ -1,5 +1,6 @@
 -- What an act that has a record comes to on a desk that rows can tell.
-use Rattle.std.proofs.Common.{◌+◌, ◌≡◌, refl, sym, ap, ◌∙◌, subst, arith, ℕ, List, All, length, slice_get, Option, Some, None, IfSome, Result, Ok}
+use Rattle.std.proofs.Common.{◌+◌, ◌≡◌, ◌≤◌, refl, sym, ap, ◌∙◌, subst, arith, ℕ, Bool, true, false, nat_le, ◌&&◌, cond, List, All, length, slice_get, Option, Some, None, IfSome, Result, Ok}
+use Rattle.std.proofs.lemmas.Grind.{common_steps}
 use Rattle.std.specs.Option.{option_map}
 use Rattle.std.proofs.lemmas.Option.{same_Some, none-some}
 use Rattle.jiff_core.specs.declared.civil.date.Date.{Date}
@@ -23,10 +24,10 @@ use Rattle.row_cases.specs.Entries.{IsList}
 use Rattle.row_cases.specs.Filings.{IsPlainCase}
 use Rattle.reachable_desks.specs.Names.{IsNamed}
 use Rattle.desk_machine.specs.States.{State, case_at, last_number}
-use Rattle.desk_machine.specs.Evaluations.{basis_of, own_list, site_of}
+use Rattle.desk_machine.specs.Evaluations.{Given, same_site, basis_of, evaluation_of, own_list, site_of}
 use Rattle.desk_machine.specs.Machine.{ruling_of_act, on_day, on_kept, on_list, file_rules, day_rules}
 use Rattle.desk_machine.proofs.Going.{came, ok_same, on_case_shown, on_day_shown}
-use Rattle.reachable_desks.specs.Desks.{IsDesk, IsCaseOf}
+use Rattle.reachable_desks.specs.Desks.{IsDesk, IsCaseOf, IsTold}
 use Rattle.reachable_desks.proofs.AmendmentNames.{names_put}
 use Rattle.reachable_desks.proofs.PlainEffects.{IsPlainEffect, life_plain}
 use Rattle.reachable_desks.proofs.CaseActs.{petition_plain, disposal_plain, extension_plain, license_plain, abandonment_plain, asked}
@@ -47,11 +48,35 @@ plain_at s number c h at = (case_found (IsCaseOf (length s.entries)) s.cases num
 ruled_some : (broken : List Refusal) (o : Option Effect) (e : Effect) → ruling broken o ≡ Ok e → o ≡ Some e
 ruled_some broken o e is = (came (slice_get broken 0) o e is).some
 
-list_shown : (s : State) (o : Option KeptCase) (c : KeptCase) (act : KeptList → Result Effect Refusal) (e : Effect) (P : Type 0) → o ≡ Some c
-    → (act (own_list s c.submission.filing) ≡ Ok e → P)
-    → on_list (option_map (own_list s) (option_map site_of o)) act ≡ Ok e → P
-list_shown s None c act e P at f is = absurd (none-some c at)
-list_shown s (Some d) c act e P at f is = f (ap act (ap (λ (x : KeptCase). own_list s x.submission.filing) (sym (same_Some d c at))) ∙ is)
+list_shown : (s : State) (p : ℕ) (given : Option Given) (o : Option KeptCase) (c : KeptCase) (act : KeptList → Result Effect Refusal) (e : Effect) (P : Type 0) → o ≡ Some c
+    → (act (evaluation_of s p given c.submission.filing) ≡ Ok e → P)
+    → on_list (option_map (evaluation_of s p given) (option_map site_of o)) act ≡ Ok e → P
+list_shown s p given None c act e P at f is = absurd (none-some c at)
+list_shown s p given (Some d) c act e P at f is = f (ap act (ap (λ (x : KeptCase). evaluation_of s p given x.submission.filing) (sym (same_Some d c at))) ∙ is)
+
+-- a list that rows can tell, of a version that is not above the last entry
+record IsPlainList (entries : ℕ) (kept : KeptList) : Type 0 where
+  last : kept.last ≤ entries
+  list : IsList kept.list
+
+taken_plain : (entries p : ℕ) (g : Given) (own : KeptList) (same fits : Bool) → nat_le g.last p ≡ fits → p ≤ entries → IsList g.list → IsPlainList entries own
+    → IsPlainList entries (cond (same && fits) (record { last = g.last; list = g.list }) own)
+taken_plain entries p g own false fits is few told plain = plain
+taken_plain entries p g own true false is few told plain = plain
+taken_plain entries p g own true true is few told plain = record { last = below; list = told }
+  where
+    below : g.last ≤ entries
+    below = grind (arith, common_steps, is, few)
+
+own_plain : (s : State) (site : Site) → FindingsAreTold → IsDesk s → IsValidSite site → IsPlainList (length s.entries) (own_list s site)
+own_plain s site told h valid = record { last = omega arith; list = told s.register site h.register h.named valid }
+
+-- so is the one that a structure is judged on, whether it was given or is the desk's own
+evaluated_plain : (s : State) (p : ℕ) (given : Option Given) (site : Site) → FindingsAreTold → IsDesk s → IsValidSite site → p ≤ last_number s → IsTold given
+    → IsPlainList (length s.entries) (evaluation_of s p given site)
+evaluated_plain s p None site told h valid few fits = own_plain s site told h valid
+evaluated_plain s p (Some g) site told h valid few fits =
+    taken_plain (length s.entries) p g (own_list s site) (same_site g.filing site) (nat_le g.last p) refl few fits (own_plain s site told h valid)
 
 -- an act on a case, on a day within the limit
 on_case_plain : (s : State) (a : Act) (number : ℕ) (act : Date → KeptCase → Result Effect Refusal) (e : Effect) → IsDesk s
@@ -61,49 +86,49 @@ on_case_plain s a number act e h f is =
     on_case_shown s number act e (IsPlainEffect s a e)
     (λ today c day at k. f today c (day_limited s.day today h.day day) at (plain_at s number c h at) k) is
 
-pub acted_plain : (s : State) (caller key : List ℕ) (a : Act) (e : Effect) → FindingsAreTold → IsDesk s
+pub acted_plain : (s : State) (p : ℕ) (given : Option Given) (caller key : List ℕ) (a : Act) (e : Effect) → FindingsAreTold → IsDesk s → p ≤ last_number s → IsTold given
     → IsChangeRecord (record { caller = caller; key = key; act = a })
-    → ruling_of_act s (basis_of s (last_number s) None a) a ≡ Ok e → IsPlainEffect s a e
-acted_plain s caller key (acts.Amend a) e told h q is =
+    → ruling_of_act s (basis_of s p given a) a ≡ Ok e → IsPlainEffect s a e
+acted_plain s p given caller key (acts.Amend a) e told h few fits q is =
     subst (IsPlainEffect s (acts.Amend a)) (ok_same _ e is) (record { led = refl; list = omega arith; step = names_put caller key a q.shape })
-acted_plain s caller key (acts.Day d) e told h q is =
+acted_plain s p given caller key (acts.Day d) e told h few fits q is =
     subst (IsPlainEffect s (acts.Day d)) (same_Some _ e (ruled_some (day_rules s.day d) _ e is)) (record { led = refl; list = omega arith; step = q.valid })
-acted_plain s caller key (acts.Closed d) e told h q is =
+acted_plain s p given caller key (acts.Closed d) e told h few fits q is =
     subst (IsPlainEffect s (acts.Closed d)) (ok_same _ e is) (record { led = refl; list = omega arith; step = q.valid })
-acted_plain s caller key (acts.File n) e told h q is =
+acted_plain s p given caller key (acts.File n) e told h few fits q is =
     on_day_shown s.day _ e (IsPlainEffect s (acts.File n) e)
     (λ today day k.
     let shown = came (slice_get (file_rules s.cases) 0) (filing_effect (length s.cases + 1) today n) e k in
     file_plain s today n e day (day_limited s.day today h.day day) q.valid shown.none shown.some) is
-acted_plain s caller key (acts.Form number) e told h q is =
+acted_plain s p given caller key (acts.Form number) e told h few fits q is =
     on_case_plain s (acts.Form number) number _ e h
     (λ today c day at plain k. form_plain s number today c e day plain (same_Some (form_came number today c) e (ruled_some (form_rules c) _ e k))) is
-acted_plain s caller key (acts.Determine number finding) e told h q is =
+acted_plain s p given caller key (acts.Determine number finding) e told h few fits q is =
     on_case_plain s (acts.Determine number finding) number _ e h
-    (λ today c day at plain k. list_shown s (case_at s.cases number) c _ e (IsPlainEffect s (acts.Determine number finding) e) at
+    (λ today c day at plain k. list_shown s p given (case_at s.cases number) c _ e (IsPlainEffect s (acts.Determine number finding) e) at
     (λ m.
-    let site = c.submission.filing in
-    let kept = own_list s site in
-    determination_plain s number finding today c kept e day (omega arith) h.counted (told s.register site h.register h.named plain.submission.filing)
+    let kept = evaluation_of s p given c.submission.filing in
+    let k = evaluated_plain s p given c.submission.filing told h plain.submission.filing few fits in
+    determination_plain s number finding today c kept e day k.last h.counted k.list
     (ruled_some (determination_rules finding kept today c) (determination_effect number finding s.closed kept today c) e m)) k) is
-acted_plain s caller key (acts.Petition number party) e told h q is =
+acted_plain s p given caller key (acts.Petition number party) e told h few fits q is =
     on_case_plain s (acts.Petition number party) number _ e h
     (λ today c day at plain k. life_plain s (acts.Petition number party) number c e at
     (petition_plain number party c e plain (ruled_some (petition_rules today c) (petition_effect number c) e k))) is
-acted_plain s caller key (acts.Dispose number affirm) e told h q is =
+acted_plain s p given caller key (acts.Dispose number affirm) e told h few fits q is =
     on_case_plain s (acts.Dispose number affirm) number _ e h
     (λ today c day at plain k. life_plain s (acts.Dispose number affirm) number c e at
     (disposal_plain number affirm today c e day plain (ruled_some (disposal_rules today c) (disposal_effect number affirm today c) e k))) is
-acted_plain s caller key (acts.Extend number months started filing warranted) e told h q is =
+acted_plain s p given caller key (acts.Extend number months started filing warranted) e told h few fits q is =
     on_case_plain s (acts.Extend number months started filing warranted) number _ e h
     (λ today c day at plain k. life_plain s (acts.Extend number months started filing warranted) number c e at
     (extension_plain number months started filing warranted c e q.valid.1 q.valid.2 plain
     (ruled_some (extension_rules (asked months started filing warranted) today c) (extension_effect number (asked months started filing warranted) c) e k))) is
-acted_plain s caller key (acts.Fcc number completion) e told h q is =
+acted_plain s p given caller key (acts.Fcc number completion) e told h few fits q is =
     on_case_plain s (acts.Fcc number completion) number _ e h
     (λ today c day at plain k. life_plain s (acts.Fcc number completion) number c e at
     (license_plain number completion today c e q.valid.1 day plain (ruled_some (fcc_rules today c) (license_effect number completion today c) e k))) is
-acted_plain s caller key (acts.Abandon number) e told h q is =
+acted_plain s p given caller key (acts.Abandon number) e told h few fits q is =
     on_case_plain s (acts.Abandon number) number _ e h
     (λ today c day at plain k. life_plain s (acts.Abandon number) number c e at
     (abandonment_plain number c e plain (same_Some (abandonment_effect number c) e (ruled_some (abandon_rules today c) (Some (abandonment_effect number c)) e k)))) is

@@ -1,14 +1,16 @@
 -- The desks that rows can spell: all desks that can be reached from the empty desk are such.
-use Rattle.std.specs.Prelude.{◌≡◌, ◌≤◌, ◌<◌, ◌+◌, ◌^◌, ℕ, List, [], All, length, Some, None, IfSome, slice_get}
+use Rattle.std.specs.Prelude.{◌≡◌, ◌≤◌, ◌<◌, ◌+◌, ◌^◌, ℕ, List, [], All, length, Option, Some, None, IfSome, slice_get}
 use Rattle.airport_register.specs.Registers.{IsRegister}
 use Rattle.determination_dates.specs.Days.{IsLimited}
 use Rattle.determination_dates.specs.Closed.{AreClosedDays}
 use Rattle.case_records.specs.declared.case.KeptCase.{KeptCase}
 use Rattle.case_records.specs.declared.case.KeptList.{KeptList}
 use Rattle.wire_requests.specs.Limits.{IsChangeRecord}
+use Rattle.row_cases.specs.Entries.{IsList}
 use Rattle.row_cases.specs.Filings.{IsPlainCase}
 use Rattle.row_receipts.specs.Kinds.{CanLeadTo}
 use Rattle.reachable_desks.specs.Names.{IsNamed}
+use Rattle.desk_machine.specs.Evaluations.{Given}
 use Rattle.desk_machine.specs.Machine.{version_of}
 use Rattle.desk_machine.specs.States.{State, entry_of}
 use Rattle.desk_machine.specs.declared.entry.Entry.{Entry}
@@ -41,3 +43,7 @@ pub record IsDesk (s : State) : Type 0 where
   pub entries : (i : ℕ) → IfSome (slice_get s.entries i) (IsEntryOf (length s.entries) i)
   pub own : All (IsOwn s.entries) s.entries
   pub counted : length s.entries < 2 ^ 64
+
+-- a list that is given, if one is, fits in a row
+abbrev pub IsTold : Option Given → Type 0
+IsTold given = IfSome given (λ (g : Given). IsList g.list)

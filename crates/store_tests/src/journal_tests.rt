@@ -1,12 +1,11 @@
-//! Journals over disks in memory that fail, stop and crash, and over a file.
+//! Journals over disks in memory that fail, stop and crash, and over a file. What a stop at each call leaves of a desk is shown by sessions.
 
 use crate::rows::{has_rows, put};
 use change_frames::{frame_of, rows_in};
-use crash_disks::{Disk, FailList, Failed, FileDisk, MemoryDisk, cut_synced, write_synced};
+use crash_disks::{Disk, Failed, FileDisk, MemoryDisk, cut_synced, write_synced};
 use grid_exact::NoMemory;
-use named_keeper::ByName;
-use oe_journal::JournalKeeper;
-use oe_keeper::{KeepErr, Keeper, RowChange, Table};
+use oe_journal::{Answer, Call, JournalKeeper, run_all};
+use oe_keeper::{ByName, FailList, KeepErr, Keeper, MemoryKeeper, RowChange, Table, Tables};
 use oe_sqlite::SqliteKeeper;
 use std::alloc::Global;
 use std::test::Fail;
@@ -22,10 +21,14 @@ const FRAME: [u8; 35] = [
 /// A load of an empty disk has five calls: open, sync, size, write, sync. An apply has four: write, sync, write, sync.
 const FIRST_OF_APPLY: u64 = 6;
 
+/// The pick of a crash that leaves each write whole.
+const EACH_WRITE: u64 = 0x5555_5555_5555_5555;
+
 fn format(alloc: Global) -> Result<RowChange, NoMemory> {
     put(alloc, Table::Desk, "format", "3")
 }
 
+/// A journal over an empty disk.
 fn journal(
     alloc: Global,
     fails: &[u64],
@@ -70,10 +73,19 @@ fn a_frame_there_and_back(rt: HostRuntime) -> Result<(), Fail> {
 }
 
 #[test]
-fn what_was_acknowledged_stands(rt: HostRuntime) -> Result<(), Fail> {
+fn an_empty_disk(rt: HostRuntime) -> Result<(), Fail> {
     let alloc = rt.alloc();
     let mut keeper = journal(alloc, &[], None)?;
     assert!(rt; has_rows(&keeper.load(alloc, None)?, &[]));
+    assert_eq!(rt; keeper.into_disk().bytes(), [0].as_slice());
+    Ok(())
+}
+
+#[test]
+fn what_was_acknowledged_stands(rt: HostRuntime) -> Result<(), Fail> {
+    let alloc = rt.alloc();
+    let mut keeper = journal(alloc, &[], None)?;
+    keeper.load(alloc, None)?;
     assert!(rt; keeper.apply(alloc, &[format(alloc)?]).is_ok());
     let disk = keeper.into_disk();
     assert_eq!(rt; disk.bytes(), FRAME.as_slice());
@@ -83,62 +95,105 @@ fn what_was_acknowledged_stands(rt: HostRuntime) -> Result<(), Fail> {
     Ok(())
 }
 
-#[test]
-fn a_gate_that_may_be_open_is_settled(rt: HostRuntime) -> Result<(), Fail> {
-    let alloc = rt.alloc();
+/// A call that makes one change.
+fn one(alloc: Global, change: RowChange) -> Result<Call, NoMemory> {
+    let mut list = Vec::new(alloc);
+    list.push(change)?;
+    Ok(Call::Apply(list))
+}
+
+/// The answers of a loaded journal whose disk fails in the last call of the first change.
+fn answers_to(alloc: Global, calls: &[Call]) -> Result<Vec<Answer>, Fail> {
     let mut keeper = journal(alloc, &[FIRST_OF_APPLY + 3], None)?;
-    assert!(rt; has_rows(&keeper.load(alloc, None)?, &[]));
-    assert_eq!(rt;
-        keeper.apply(alloc, &[format(alloc)?]),
-        Err(KeepErr::Failed)
-    );
-    let now = [put(alloc, Table::Desk, "now", "2026-01-15")?];
-    assert!(rt; keeper.apply(alloc, &now).is_ok());
+    keeper.load(alloc, None)?;
+    Ok(run_all(alloc, &mut keeper, calls)?)
+}
+
+#[test]
+fn a_change_that_was_not_acknowledged_stands_or_not(rt: HostRuntime) -> Result<(), Fail> {
+    let alloc = rt.alloc();
+    let answers = answers_to(alloc, &[one(alloc, format(alloc)?)?, Call::Load])?;
     assert!(rt;
-        has_rows(
-            &keeper.load(alloc, None)?,
-            &[(Table::Desk, "now", "2026-01-15")]
-        )
+        match answers.as_slice() {
+            [Answer::Failed, Answer::Loaded(rows)] => rows.len() == 0 || has_rows(rows, &FORMAT),
+            _ => false,
+        }
     );
     Ok(())
 }
 
-/// The disk after a load and an apply that were stopped at this call.
-fn stopped(alloc: Global, stop: u64) -> Result<MemoryDisk, NoMemory> {
-    let mut keeper = journal(alloc, &[], Some(stop))?;
-    let change = [format(alloc)?];
-    if keeper.load(alloc, None).is_ok() {
-        let _ = keeper.apply(alloc, &change);
-    }
-    Ok(keeper.into_disk())
+#[test]
+fn a_gate_that_may_be_open_is_settled(rt: HostRuntime) -> Result<(), Fail> {
+    let alloc = rt.alloc();
+    let now = put(alloc, Table::Desk, "now", "2026-01-15")?;
+    let calls = [one(alloc, format(alloc)?)?, one(alloc, now)?, Call::Load];
+    let answers = answers_to(alloc, &calls)?;
+    assert!(rt;
+        match answers.as_slice() {
+            [Answer::Failed, Answer::Applied, Answer::Loaded(rows)] => {
+                has_rows(rows, &[(Table::Desk, "now", "2026-01-15")])
+            }
+            _ => false,
+        }
+    );
+    Ok(())
 }
 
-/// How many rows a load of the disk finds, if it finds no other than that of the format.
-fn rows_found(alloc: Global, disk: MemoryDisk) -> Option<usize> {
-    let mut keeper = JournalKeeper::new(disk);
-    match keeper.load(alloc, None) {
-        Ok(tables) if has_rows(&tables, &FORMAT) => Some(1),
-        Ok(tables) if tables.len() == 0 => Some(0),
-        _ => None,
+/// A journal over what a crash leaves where the disk stopped at this call of the first change.
+fn after_a_stop(alloc: Global, stop: u64, pick: u64) -> Result<JournalKeeper<MemoryDisk>, Fail> {
+    let mut keeper = journal(alloc, &[], Some(stop))?;
+    keeper.load(alloc, None)?;
+    if keeper.apply(alloc, &[format(alloc)?]).is_ok() {
+        return Err(Fail::new("it was not stopped"));
     }
+    Ok(JournalKeeper::new(keeper.into_disk().crashed(alloc, pick)?))
 }
 
 #[test]
-fn each_call_stopped(rt: HostRuntime) -> Result<(), Fail> {
+fn before_the_gate_is_written_the_file_is_empty(rt: HostRuntime) -> Result<(), Fail> {
     let alloc = rt.alloc();
-    for stop in 1..FIRST_OF_APPLY + 5 {
-        for pick in 0..64 {
-            let crashed = stopped(alloc, stop)?.crashed(alloc, pick)?;
-            let found = rows_found(alloc, crashed);
-            if stop < FIRST_OF_APPLY + 2 {
-                assert_eq!(rt; found, Some(0));
-            } else if stop < FIRST_OF_APPLY + 4 {
-                assert!(rt; found.is_some());
-            } else {
-                assert_eq!(rt; found, Some(1));
-            }
-        }
+    let mut keeper = after_a_stop(alloc, FIRST_OF_APPLY + 2, EACH_WRITE)?;
+    assert!(rt; has_rows(&keeper.load(alloc, None)?, &[]));
+    assert_eq!(rt; keeper.into_disk().bytes(), [0].as_slice());
+    Ok(())
+}
+
+#[test]
+fn before_the_gate_is_synced_it_is_open_or_not(rt: HostRuntime) -> Result<(), Fail> {
+    let alloc = rt.alloc();
+    let mut shut = after_a_stop(alloc, FIRST_OF_APPLY + 3, 0)?;
+    assert!(rt; has_rows(&shut.load(alloc, None)?, &[]));
+    let mut open = after_a_stop(alloc, FIRST_OF_APPLY + 3, EACH_WRITE)?;
+    assert!(rt; has_rows(&open.load(alloc, None)?, &FORMAT));
+    Ok(())
+}
+
+/// How many rows are found at the later place, after a load at the first place and one that failed. One of two
+/// keepers has a row, and the other, for places that end in `.oej`, has none.
+fn rows_after_an_error(
+    alloc: Global,
+    place: Option<&str>,
+    later: Option<&str>,
+) -> Result<usize, Fail> {
+    let mut rows = Tables::empty(alloc);
+    rows.change(alloc, &format(alloc)?)?;
+    let mut second = FailList::new(alloc);
+    second.push(2)?;
+    let first = MemoryKeeper::new(alloc, rows, second);
+    let mut keeper = ByName::new(first, journal(alloc, &[FIRST_OF_APPLY], None)?);
+    keeper.load(alloc, place)?;
+    if keeper.load(alloc, later).is_ok() {
+        return Err(Fail::new("the second load did not fail"));
     }
+    Ok(keeper.load(alloc, later)?.len())
+}
+
+#[test]
+fn a_choice_stays_after_an_error(rt: HostRuntime) -> Result<(), Fail> {
+    let alloc = rt.alloc();
+    let place = Some("office.oej");
+    assert_eq!(rt; rows_after_an_error(alloc, None, place)?, 1);
+    assert_eq!(rt; rows_after_an_error(alloc, place, None)?, 0);
     Ok(())
 }
 

@@ -183,3 +183,18 @@ pub fn append_list(text: &mut String, list: &[Finding]) -> Result<(), NoMemory>
     }
     page.flush(text)
 }
+
+/// Appends a comma and an entry of a list.
+///
+/// # Errors
+///
+/// `NoMemory` where memory was refused; the text may then have a part of both.
+pub fn append_entry(text: &mut String, finding: &Finding) -> Result<(), NoMemory>
+    ensures ok { OnOk result (string_bytes text.new
+        ≡ string_bytes text.old ++ (codes "," ++ spec.entry_text finding.now)) }
+    ensures part { OnErr result (Extends (string_bytes text.old) (string_bytes text.new)) }
+{
+    let mut page = Page::new();
+    put_entry(&mut page, finding);
+    page.flush(text)
+}

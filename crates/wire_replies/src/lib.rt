@@ -21,7 +21,7 @@ mod rows;
 mod states;
 
 pub use case_records::{CaseList, CaseView, Outcome, Refusal};
-pub use entries::append_list;
+pub use entries::{append_entry, append_list};
 pub use fields::{append_next_number, append_next_word, append_number};
 pub use outcomes::append_outcome;
 pub use replies::{append_airfield, append_found, append_reply, write_reply};

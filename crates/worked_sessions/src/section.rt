@@ -2,20 +2,30 @@
 
 ghost use Rattle.std.specs.Prelude.{◌≡◌, ◌<◌};
 
-use crate::broken::{Broken, closed};
+use crate::broken::Broken;
+use crate::desks::{kept, unkept};
 use crate::links::answer_links;
-use crate::rows::{take_rows, write_unopened};
+use crate::rows::take_rows;
 use crate::signs::bytes_of;
+use crate::stops::{answer_stops, journal};
 use crate::title::Wanted;
+use crash_disks::MemoryDisk;
 use filing_desk::Clerk;
 use http_routes::Routes;
 use http_session::Routed;
 use line_desk::LineDesk;
-use oe_http::{ReadSource, Sink, write_whole};
-use oe_keeper::{FailList, Keeper, MemoryKeeper, Tables};
+use oe_http::{Sink, write_whole};
+use oe_journal::JournalKeeper;
+use oe_keeper::{ByName, FailList, Keeper, MemoryKeeper, Tables};
 use std::alloc::Global;
 use std::marker::Brand;
 use std::sync::ledger::{Blank, Ledger};
+
+/// The place of a journal.
+const PLACE: &str = "x.oej";
+
+/// A keeper of two, of which the first fails where it is loaded.
+type TwoKeepers = ByName<MemoryKeeper, JournalKeeper<MemoryDisk>>;
 
 /// What stays from one section to the next.
 #[derive(Drop)]
@@ -23,26 +33,10 @@ pub(crate) struct Sections {
     alloc: Global,
     /// The rows that the last keeper had.
     rows: Tables,
+    /// The keeper that the last section with a journal left.
+    journal: Option<TwoKeepers>,
     /// The lines of the section before.
     lines: Vec<u8>,
-}
-
-/// The replies of a desk over this clerk, whose steps are counted in the ledger that `blank` opens, to some lines; and the clerk after them.
-fn answer_lines<K: Keeper + Drop, L: Ledger, O: Sink>(
-    alloc: Global,
-    clerk: Clerk<K>,
-    blank: Blank,
-    lines: &[u8],
-    output: &mut O,
-) -> Result<Clerk<K>, Broken>
-    requires name { blank.name ≡ L.name }
-    requires parts { blank.parts ≡ L.parts }
-    requires some { 0 < L.parts }
-{
-    let mut desk = LineDesk::<K, L>::over(alloc, clerk, blank);
-    let ended = line_session::records(alloc, &mut desk, &mut ReadSource::new(lines), output);
-    closed(ended)?;
-    Ok(desk.into_clerk())
 }
 
 /// What such a desk writes to some links.
@@ -65,29 +59,12 @@ fn answer_http<K: Keeper + Drop, L: Ledger, O: Sink>(
     answer_links(alloc, &mut desk, lines, most, output)
 }
 
-/// A section of a desk of which nothing is kept.
-fn unkept<O: Sink>(alloc: Global, lines: &[u8], output: &mut O) -> Result<(), Broken> {
-    answer_lines::<_, Brand, O>(alloc, Clerk::unkept(alloc), Blank::new(1), lines, output)?;
-    Ok(())
-}
-
-/// A section of a desk over these rows, whose keeper fails at the listed calls. Answers the rows after it, and none where no desk was opened.
-fn kept<O: Sink>(
-    alloc: Global,
-    rows: Tables,
-    fails: FailList,
-    lines: &[u8],
-    output: &mut O,
-) -> Result<Tables, Broken> {
-    let clerk = match Clerk::open(alloc, MemoryKeeper::new(alloc, rows, fails), None) {
-        Ok(clerk) => clerk,
-        Err(refusal) => {
-            write_unopened(alloc, &refusal, output)?;
-            return Ok(Tables::empty(alloc));
-        }
-    };
-    let clerk = answer_lines::<_, Brand, O>(alloc, clerk, Blank::new(1), lines, output)?;
-    Ok(clerk.into_keeper().load(alloc, None)?)
+/// Two keepers that were not loaded yet.
+fn two_keepers(alloc: Global) -> Result<TwoKeepers, Broken> {
+    let mut fails = FailList::new(alloc);
+    fails.push(1)?;
+    let first = MemoryKeeper::new(alloc, Tables::empty(alloc), fails);
+    Ok(ByName::new(first, journal(alloc, None)))
 }
 
 /// A section of links.
@@ -114,6 +91,7 @@ impl Sections {
         Sections {
             alloc,
             rows: Tables::empty(alloc),
+            journal: None,
             lines: Vec::new(alloc),
         }
     }
@@ -136,7 +114,28 @@ impl Sections {
             Tables::empty(self.alloc)
         };
         let lines = take_rows(self.alloc, lines, &mut rows)?;
-        self.rows = kept(self.alloc, rows, wanted.fails, lines.as_slice(), output)?;
+        let keeper = MemoryKeeper::new(self.alloc, rows, wanted.fails);
+        self.rows = match kept(self.alloc, keeper, None, lines.as_slice(), output)? {
+            Some(mut keeper) => keeper.load(self.alloc, None)?,
+            None => Tables::empty(self.alloc),
+        };
+        Ok(())
+    }
+
+    /// Writes the replies of a section with a journal.
+    fn keep_journal<O: Sink>(
+        &mut self,
+        goes_on: bool,
+        lines: &[u8],
+        output: &mut O,
+    ) -> Result<(), Broken> {
+        if !goes_on {
+            self.journal = Some(two_keepers(self.alloc)?);
+        }
+        let Some(keeper) = std::mem::replace(&mut self.journal, None) else {
+            return Err(Broken);
+        };
+        self.journal = kept(self.alloc, keeper, Some(PLACE), lines, output)?;
         Ok(())
     }
 
@@ -149,6 +148,12 @@ impl Sections {
     ) -> Result<(), Broken> {
         if wanted.is_http {
             return linked(self.alloc, lines, wanted.is_bytewise, output);
+        }
+        if let Some(pick) = wanted.stops {
+            return answer_stops(self.alloc, lines, pick, output);
+        }
+        if wanted.is_journal {
+            return self.keep_journal(wanted.goes_on, lines, output);
         }
         if wanted.keeps {
             return self.keep(wanted, lines, output);

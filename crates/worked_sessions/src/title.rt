@@ -9,8 +9,12 @@ use std::alloc::Global;
 pub(crate) struct Wanted {
     /// A keeper in memory.
     pub keeps: bool,
+    /// A journal.
+    pub is_journal: bool,
     /// The rows of the section before.
     pub goes_on: bool,
+    /// A journal whose disk stops at each of its calls in turn, and the pick of what a crash then leaves.
+    pub stops: Option<u64>,
     /// Links of HTTP.
     pub is_http: bool,
     /// One byte in one read.
@@ -27,7 +31,9 @@ impl Wanted {
     fn none(alloc: Global) -> Wanted {
         Wanted {
             keeps: false,
+            is_journal: false,
             goes_on: false,
+            stops: None,
             is_http: false,
             is_bytewise: false,
             has_signs: false,
@@ -44,11 +50,14 @@ impl Wanted {
                 self.keeps = true;
                 self.goes_on = true;
             }
+            "journal" => self.is_journal = true,
+            "stops" => self.stops = Some(0),
             "http" => self.is_http = true,
             "bytewise" => self.is_bytewise = true,
             "signs" => self.has_signs = true,
             "again" => self.goes_over = true,
             number => match number.parse::<u64>() {
+                Ok(pick) if self.stops.is_some() => self.stops = Some(pick),
                 Ok(call) => self.fails.push(call)?,
                 Err(_) => return Err(Broken),
             },

@@ -5,8 +5,8 @@ use Rattle.oe_commands.specs.declared.status.Status.{Status}
 use Rattle.oe_commands.proofs.OpenFacts.{bad_row, unopened}
 use Rattle.oe_commands.proofs.run.serve_kept.Goals as goal
 
-pub returns-in-Ok-clause-desk : goal.returns-in-Ok-clause-desk
-returns-in-Ok-clause-desk g c = inl (record {
+pub returns-in-Ok-clause-served : goal.returns-in-Ok-clause-served
+returns-in-Ok-clause-served g c = inl (record {
   opened = serving c.in-Ok.clerk;
   rows = c.in-Ok.ensures.opened.kept;
   found = c.in-Ok.ensures.opened.loaded.found;
@@ -18,8 +18,8 @@ returns-in-Ok-clause-desk g c = inl (record {
   ended = c.serve.ensures.end;
 })
 
-pub returns-in-Err-clause-desk : goal.returns-in-Err-clause-desk
-returns-in-Err-clause-desk g c =
+pub returns-in-Err-clause-served : goal.returns-in-Err-clause-served
+returns-in-Err-clause-served g c =
     inr (
       subst (λ (s : Status). IsUnopened g.K.Keeper.Finds g.K.Keeper.IsSteady c.args.keeper (option_copied c.args.path) s) (sym c.refused_status.ensures)
           (unopened g.K.Keeper.Tells g.K.Keeper.Finds g.K.Keeper.IsSteady g.K.Keeper.faults c.args.keeper (option_copied c.args.path) c.in-Err.refusal c.in-Err.ensures.cause),

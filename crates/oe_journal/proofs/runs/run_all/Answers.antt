@@ -3,8 +3,8 @@ use Rattle.change_frames.specs.Frames.{rows_of}
 use Rattle.oe_journal.specs.Journal.{acknowledged_by}
 use Rattle.oe_journal.proofs.Loaded.{loaded_of}
 use Rattle.oe_journal.proofs.Moments.{passes_as, passes_none, passes_then}
-use Rattle.oe_journal.specs.Runs.{Stand, just_loaded, after_one, after_all, IsOneOf, StandsAfterSome, FindEach, StandsSo}
-use Rattle.oe_journal.proofs.Following.{IsFollowed, call_on, nothing_called, nothing_found, now_is, found_now, some_before, some_now}
+use Rattle.oe_journal.specs.Runs.{Stand, just_loaded, after_one, after_all, IsOneOf, StandsAfterSome, FindsOne, FindEach, Each, IsAsked, failures, StandsSo}
+use Rattle.oe_journal.proofs.Following.{IsFollowed, call_on, nothing_called, each_none, now_is, each_now, one_cause_more, some_before, some_now}
 use Rattle.oe_journal.proofs.runs.run_all.Goals as goal
 
 pub calls-init : goal.calls-init
@@ -20,8 +20,10 @@ calls-init g c =
       loaded = λ _. c.requires.loaded;
       flag = ap (λ (s : Stand). s.is_loaded) is;
       count = ap length none;
-      stands = λ told. subst (StandsSo d.IsTold d.content d.MayLeave k) (sym is) (record { acknowledges = λ _. refl; may_stand = λ rows stand. inl (c.requires.fresh told rows stand); telling = λ _ _. refl });
-      found = λ told. subst (FindEach start calls) (sym none) (nothing_found start calls);
+      stands = λ told. subst (StandsSo d.IsTold d.content d.MayLeave k) (sym is) (record { acknowledges = λ _. refl; may_stand = λ rows stand. inl ((c.requires.fresh told).stands rows stand); telling = λ _ _. refl });
+      asked = subst (Each IsAsked start calls) (sym none) (each_none IsAsked start calls);
+      cause = let n : failures c.new-answers.result.items ≡ 0 = ap failures none in record { later = omega arith; rose = omega arith };
+      found = λ told. subst (FindEach start calls) (sym none) (each_none (λ s _ a. FindsOne s a) start calls);
       crash = λ told past. passes_none (d.moment k.disk) (d.LeftSince k.disk) (λ x. StandsAfterSome start calls c.new-answers.result.items (rows_of x));
     }
 
@@ -41,7 +43,7 @@ calls-preserved g c =
     let pushed : after ≡ before ++ answer ∷ [] = c.in_ok-push.ensures.items in
     let count = inv.count in
     let len = ap length pushed ∙ length-append before (answer ∷ []) in
-    let on : IsFollowed start calls before after call answer = record { pushed = pushed; step = call_on start calls before answer call c.calls.call-index count c.calls-test.true c.call-item.is } in
+    let on : IsFollowed start calls before after call answer = call_on start calls before after answer call c.calls.call-index pushed count c.calls-test.true c.call-item.is in
     let stand : Stand = after_all start calls before in
     let is : after_all start calls after ≡ after_one stand call answer = now_is start calls before after call answer on in
     record {
@@ -50,7 +52,9 @@ calls-preserved g c =
       flag = ap (λ (s : Stand). s.is_loaded) is ∙ c.call_one-answer.ensures.flag stand inv.flag;
       count = omega arith;
       stands = λ told. subst (StandsSo d.IsTold d.content d.MayLeave new) (sym is) (c.call_one-answer.ensures.stands told stand inv.flag (inv.stands told));
-      found = λ told. found_now start calls before after call answer on (inv.found told) (c.call_one-answer.ensures.found told stand (inv.stands told));
+      asked = each_now start calls before after call answer on IsAsked inv.asked (c.call_one-answer.ensures.asked stand inv.flag);
+      cause = one_cause_more (d.faults first.disk) (d.faults k.disk) (d.faults new.disk) before after answer pushed inv.cause c.call_one-answer.ensures.cause;
+      found = λ told. each_now start calls before after call answer on (λ s _ a. FindsOne s a) (inv.found told) (c.call_one-answer.ensures.found told stand (inv.stands told));
       crash = λ told past.
           passes_then (d.moment first.disk) (d.moment k.disk) (d.moment new.disk) (d.LeftSince first.disk) (d.LeftSince k.disk) (d.LeftSince new.disk) (λ x. StandsAfterSome start calls after (rows_of x))
           (passes_as (λ x. StandsAfterSome start calls before (rows_of x)) (λ x. StandsAfterSome start calls after (rows_of x)) (λ x. some_before start calls before after call answer on (rows_of x)) (inv.crash told past))

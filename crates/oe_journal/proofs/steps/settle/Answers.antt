@@ -4,6 +4,7 @@ use Rattle.crash_disks.specs.Crash.{After}
 use Rattle.change_frames.specs.Frames.{rows_of}
 use Rattle.oe_journal.specs.Standing.{MayStand, IsReady, StaysReady}
 use Rattle.oe_journal.proofs.Moments.{passes_as}
+use Rattle.oe_journal.proofs.Images.{holds_behind}
 use Rattle.oe_journal.proofs.Gates.{settle_image, settle_err, settle_ok}
 use Rattle.oe_journal.proofs.steps.settle.Goals as goal
 
@@ -48,3 +49,11 @@ returns-in_ok-write_synced-clause-time g c =
     let ready = subst (λ b. IsReady (d.content old) (d.MayLeave old) c.args.end b) yes (c.requires.ready told) in
     passes_as (After (Torn c.args.end 1) (d.MayLeave old)) (λ x. MayStand c.args.to_settle.now c.args.end (d.MayLeave old) (rows_of x))
     (λ x from. subst (λ b. MayStand b c.args.end (d.MayLeave old) (rows_of x)) (sym yes) (settle_image c.args.end (d.content old) (d.MayLeave old) (g.met.D.Disk.content_left old told) ready x from)) (c.write_synced.ensures.time told past)
+
+pub returns-in_ok-write_synced-clause-behind : goal.returns-in_ok-write_synced-clause-behind
+returns-in_ok-write_synced-clause-behind g c =
+    λ told.
+    let d = g.D.Disk in
+    let old = c.args.disk.now in
+    let long = (c.requires.ready told).long (d.content old) (g.met.D.Disk.content_left old told) in
+    holds_behind c.args.end (d.content old) long 0 (d.content c.write_synced.new.disk) (c.in_ok-write_synced.ensures.written told)

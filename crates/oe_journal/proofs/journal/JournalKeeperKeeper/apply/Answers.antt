@@ -18,20 +18,26 @@ append-requires-clause-bound g c = (loaded_of g.D.Disk.IsTold g.D.Disk.content g
 pub append-requires-clause-some : goal.append-requires-clause-some
 append-requires-clause-some g c = let l = ap length (c.as_slice.ensures.value ∙ c.in_ok-frame.ensures.bytes) in omega arith
 
-pub returns-in-Ok-clause-all : goal.returns-in-Ok-clause-all
-returns-in-Ok-clause-all g c =
-    λ before now was telling.
+pub returns-in-Ok-clause-tells : goal.returns-in-Ok-clause-tells
+returns-in-Ok-clause-tells g c =
+    λ told rows was.
     let d = g.D.Disk in
     let k = c.args.self.now in
     let loaded = loaded_of d.IsTold d.content d.MayLeave k c.requires in
     let is_frame : IsFrame c.as_slice.result.now c.args.changes.now = record { is = c.as_slice.ensures.value ∙ c.in_ok-frame.ensures.bytes; bound = let b = c.in_ok-frame.ensures.bound in omega arith; fits = c.in_ok-frame.ensures.fits } in
-    let new = c.append.new.self in
-    let told = was.disk_tells in
     let done = c.in-Ok.ensures.appended told c.args.changes.now is_frame in
     let ready = subst (λ b. IsReady (d.content k.disk) (d.MayLeave k.disk) k.end b) (loaded.settled was.is_told) (loaded.ready told) in
     let here = g.met.D.Disk.content_left k.disk told in
     let acknowledged_is = was.rows_are ∙ acknowledged_now k.end (d.content k.disk) (d.MayLeave k.disk) here ready (d.content k.disk) here in
-    telling.rows_are ∙ done.rows ∙ ap (λ (r : Kept). rows_after_changes r c.args.changes.now) (sym acknowledged_is)
+    record {
+      disk_tells = told;
+      is_open = c.append.ensures.open ∙ was.is_open;
+      is_told = c.append.ensures.told ∙ was.is_told;
+      rows_are = ap (λ (r : Kept). rows_after_changes r c.args.changes.now) acknowledged_is ∙ sym done.rows;
+    }
+
+pub returns-in-Ok-clause-all : goal.returns-in-Ok-clause-all
+returns-in-Ok-clause-all g c = λ before now was telling. telling.rows_are ∙ sym (returns-in-Ok-clause-tells g c was.disk_tells before was).rows_are
 
 pub returns-in-Ok-clause-silent : goal.returns-in-Ok-clause-silent
 returns-in-Ok-clause-silent g c =
@@ -62,6 +68,12 @@ returns-in-Ok-clause-stands g c =
     let is_frame : IsFrame c.as_slice.result.now c.args.changes.now = record { is = c.as_slice.ensures.value ∙ c.in_ok-frame.ensures.bytes; bound = let b = c.in_ok-frame.ensures.bound in omega arith; fits = c.in_ok-frame.ensures.fits } in
     let new = c.append.new.self in
     (c.in-Ok.ensures.appended told c.args.changes.now is_frame).stands rows (subst (λ b. MayStand b new.end (d.MayLeave new.disk) rows) c.in-Ok.ensures.settled stand)
+
+pub returns-in-Ok-clause-file : goal.returns-in-Ok-clause-file
+returns-in-Ok-clause-file g c =
+    λ told.
+    let is_frame : IsFrame c.as_slice.result.now c.args.changes.now = record { is = c.as_slice.ensures.value ∙ c.in_ok-frame.ensures.bytes; bound = let b = c.in_ok-frame.ensures.bound in omega arith; fits = c.in_ok-frame.ensures.fits } in
+    (c.in-Ok.ensures.appended told c.args.changes.now is_frame).file
 
 pub returns-in-Ok-clause-may_stand : goal.returns-in-Ok-clause-may_stand
 returns-in-Ok-clause-may_stand g c =

@@ -2,8 +2,10 @@ use Rattle.std.proofs.Common.{◌≡◌, inl, inr, true, false, refl, sym, ap, s
 use Rattle.std.proofs.lemmas.Bool.{cases_Bool}
 use Rattle.crash_disks.specs.Crash.{Passes}
 use Rattle.change_frames.specs.Frames.{rows_of}
+use Rattle.oe_journal.specs.Journal.{IsCutTo}
 use Rattle.oe_journal.specs.Standing.{MayStand}
 use Rattle.oe_journal.proofs.Loaded.{on_err_map, if_ok_both, if_no_memory, if_failed, not_both}
+use Rattle.oe_journal.proofs.Moments.{on_ok}
 use Rattle.oe_journal.proofs.journal.JournalKeeperKeeper.load.Goals as goal
 
 pub returns-clause-silent : goal.returns-clause-silent
@@ -36,6 +38,21 @@ returns-clause-kept g c =
 
 pub returns-clause-stands : goal.returns-clause-stands
 returns-clause-stands g c = λ told. if_ok_both c.reload.result (λ rows mended is r stand. mended.stands r stand ∙ sym is) (c.reload.ensures.mended told) (c.reload.ensures.rows told)
+
+pub returns-clause-file : goal.returns-clause-file
+returns-clause-file g c =
+    λ told.
+    let d = g.D.Disk in
+    let new = c.reload.new.self in
+    on_ok c.reload.result
+    (λ mended. record {
+      again = λ is_open. subst (λ j. IsCutTo d.content (d.content j.disk) new) (c.in_ok-open.ensures.again is_open) mended.file;
+      first = λ shut. (c.open.new.self.disk, (c.in_ok-open.ensures.first shut).opens, mended.file);
+    })
+    (c.reload.ensures.mended told)
+
+pub returns-clause-fresh : goal.returns-clause-fresh
+returns-clause-fresh g c = λ told. on_ok c.reload.result (λ mended. record { stands = λ r stand. mended.stands r stand ∙ sym mended.acknowledges }) (c.reload.ensures.mended told)
 
 pub returns-clause-crash : goal.returns-clause-crash
 returns-clause-crash g c =

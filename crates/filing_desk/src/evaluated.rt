@@ -1,0 +1,82 @@
+//! Lists of findings that were evaluated before the decision that uses them.
+
+ghost use Rattle.std.specs.Prelude.{◌≡◌, ◌&&◌, nat_le, Some, IfOk, option_copied};
+ghost use Rattle.desk_machine.specs.Evaluations.{same_site};
+ghost use Rattle.reachable_desks.specs.Desks.{IsTold};
+
+use airfields::Filing;
+use case_records::KeptList;
+use finding_lists::Findings;
+use grid_exact::NoMemory;
+use std::alloc::Global;
+use std::marker::Model;
+
+/// The list of findings of a structure that was evaluated before, over an older version of the register, with the number of that version:
+/// that of the last entry whose changes it has. The list fits in a row.
+#[derive(Drop)]
+pub struct Evaluated {
+    filing: Filing,
+    number: u64,
+    list: Findings,
+}
+
+impl Model for Evaluated {
+    ghost use Rattle.std.specs.Prelude.{Some};
+    ghost use Rattle.desk_machine.specs.Evaluations.{Given};
+    ghost use Rattle.reachable_desks.specs.Desks.{IsTold};
+
+    ghost Value = { Given };
+
+    ghost view = { λ e. record { filing = e.filing; last = e.number; list = e.list } };
+
+    ghost invariant = { λ e. IsTold
+        (Some (record { filing = e.filing; last = e.number; list = e.list })) };
+}
+
+impl Evaluated {
+    /// This list of this structure, evaluated over the version of this number.
+    pub fn new(filing: Filing, number: u64, list: Findings) -> Evaluated
+        requires { IsTold (Some (record { filing = filing; last = number; list = list })) }
+        ensures { result ≡ record { filing = filing; last = number; list = list } }
+    {
+        Evaluated {
+            filing,
+            number,
+            list,
+        }
+    }
+
+    /// Whether a determination of this structure is made on it where `p` is the number of the last published entry.
+    pub(crate) fn fits(&self, filing: &Filing, p: u64) -> bool
+        ensures { result ≡ (same_site self.now.filing filing.now && nat_le self.now.last p) }
+    {
+        self.filing == *filing && self.number <= p
+    }
+
+    /// A copy of the list, with its number.
+    pub(crate) fn kept(&self, alloc: Global) -> Result<KeptList, NoMemory>
+        ensures { IfOk result (λ kept. kept ≡ record { last = self.now.last; list = self.now.list }) }
+    {
+        Ok(KeptList {
+            last: self.number,
+            list: self.list.copy(alloc)?,
+        })
+    }
+
+    /// Shows to a proof that the list fits in a row.
+    fn told(&self)
+        ensures { IsTold (Some self.now) }
+    {
+        let _ = &self.list;
+    }
+}
+
+/// Shows to a proof that a given list, if there is one, fits in a row.
+pub(crate) fn given_told(given: Option<&Evaluated>)
+    ensures { IsTold (option_copied given.entry) }
+{
+    match given {
+        Some(list) => list.told(),
+        None => {}
+    }
+}

@@ -1,0 +1,3 @@
+pub mod AnswerFacts
+pub mod ClosingFacts
+pub mod WayFacts

@@ -1,0 +1,11 @@
+use Rattle.std.proofs.Common.{subst}
+use Rattle.site_questions.specs.Charts.{Chart}
+use Rattle.site_questions.specs.Ceilings.{CeilingTold}
+use Rattle.site_questions.proofs.AnswerFacts.{on_ok}
+use Rattle.site_questions.proofs.ceiling_desk.CeilingDeskAnswering.answer.Goals as goal
+
+pub returns-clause-reply : goal.returns-clause-reply
+returns-clause-reply g c =
+    on_ok c.append_answer.result
+    (λ answer. (answer.reply, record { told = subst (λ (s : Chart). CeilingTold s c.args.line.now answer.reply) c.self.view_is answer.told; same = c.self.view_is }, answer.appended))
+    c.append_answer.ensures.ok

@@ -1,0 +1,4 @@
+pub mod Charts
+pub mod Ceilings
+pub mod Ways
+pub mod WaySessions
