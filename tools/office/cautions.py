@@ -5,7 +5,7 @@ from office import forms
 from office.desk import Pair
 from office.records import TENTHS, show
 from office.register import AIRFIELD_FORMS, NOT_DESCRIBED, Airfield, Register, point
-from office.replies import NONE, Accepted, Found, Verdict
+from office.replies import NONE, Accepted, Ceiling, Found, Verdict
 
 FAR_AWAY = 200_000  # feet; no surface of an airport reaches as far
 FEET_FOR_TENTHS = range(100, 1000)  # tallest structures of a file that may have been written in feet
@@ -14,12 +14,13 @@ EXEMPT = "SDR"
 
 
 def changes_of(pair: Pair) -> int | None:
-    """Over how many changes a structure was judged, or nothing where none was."""
-    return pair.reply.changes if isinstance(pair.reply, Found | Verdict) else None
+    """Over how many changes a structure or a place was judged, or nothing where none was."""
+    return pair.reply.changes if isinstance(pair.reply, Found | Verdict | Ceiling) else None
 
 
 def has_structure(pair: Pair) -> bool:
-    return changes_of(pair) is not None or isinstance(pair.reply, Accepted) and pair.record.form == "file"
+    """Whether a record has a structure with a height of its own; a place that `oe ceiling` is asked about has none."""
+    return isinstance(pair.reply, Found | Verdict) or isinstance(pair.reply, Accepted) and pair.record.form == "file"
 
 
 def of_register(pair: Pair, register: Register) -> list[str]:
@@ -35,7 +36,7 @@ def of_register(pair: Pair, register: Register) -> list[str]:
             out.append(f"it is said to be on {on}, and no airfield {on} is registered, so 77.9(d) is not met by it: is the ID misspelt?")
         elif on != NONE and register.airfields[on].category == NOT_DESCRIBED:
             out.append(f"it is on {on}, which is private: 77.9(d) does not ask a notice there")
-    elif on != NONE and isinstance(pair.reply, Found) and not is_exempt(pair) and not is_met_on(pair.reply, on):
+    elif on != NONE and isinstance(pair.reply, Found | Ceiling) and not is_exempt(pair) and not is_met_on(pair.reply, on):
         out.append(f"it is said to be on {on}, and 77.9(d) is not met: is {on} registered, not misspelt, and not private?")
     return out
 
@@ -50,7 +51,7 @@ def of_place(pair: Pair, register: Register) -> list[str]:
     return [f"the nearest airfield, {nearest.id}, is {show(distance(nearest), 0)} ft away: are both on one grid, in tenths of a foot?"]
 
 
-def is_met_on(reply: Found, on: str) -> bool:
+def is_met_on(reply: Found | Ceiling, on: str) -> bool:
     return any(entry.rule.name == "9d" and entry.airfield == on for entry in reply.entries)
 
 
@@ -70,14 +71,22 @@ def of_structure(pair: Pair) -> list[str]:
     if height > TALLER_THAN_GROUND and 0 < ground * TENTHS < height:
         out.append(f"it is {show(height / TENTHS)} ft tall on ground of {show(ground / TENTHS)} ft: "
                    "are ground and height exchanged, or is the height one above sea level?")
-    if any(letter in values["FLAGS"] for letter in EXEMPT):
-        out.append("flag S, D or R takes every notice rule away (77.9(e)): does it hold?")
     return out
+
+
+def of_flags(pair: Pair) -> list[str]:
+    is_taken = any(letter in pair.record.values["FLAGS"] for letter in EXEMPT)
+    return ["flag S, D or R takes every notice rule away (77.9(e)): does it hold?"] if is_taken else []
 
 
 def cautions(pair: Pair, register: Register) -> list[str]:
     """The cautions about one record, with what is known of the register before it."""
-    return of_register(pair, register) + of_structure(pair) if has_structure(pair) else []
+    out = of_register(pair, register)
+    if has_structure(pair):
+        out += of_structure(pair)
+    if has_structure(pair) or isinstance(pair.reply, Ceiling):
+        out += of_flags(pair)
+    return out
 
 
 def of_file(pairs: list[Pair]) -> list[str]:

@@ -13,7 +13,9 @@ from office.faults import Fault
 from office.records import BEFORE, Record, read_bytes, record, records
 from office.replies import Accepted, Refusal, Reply
 
-BUILT = Path(__file__).resolve().parent.parent.parent / "crates" / "oe_main" / "out" / "oe_main"
+TOP = Path(__file__).resolve().parent.parent.parent
+BUILT = TOP / "crates" / "oe_main" / "out" / "oe_main"  # in the repository, where `oe` is a script that may build it first
+RELEASED = TOP / "oe"  # in a release that was unpacked
 STORED_CALLER = "_office_file_"  # of records that are made from the rows of an office's file
 AIRFIELD_TABLE, RUNWAY_TABLE, CASE_TABLE = 0, 1, 3
 SITE_IN_CASE = slice(5, 13)  # X to ON in the row of a case (docs/TABLES.md)
@@ -32,11 +34,12 @@ class Pair:
 
 
 def program(chosen: str | None) -> str:
-    """The desk to ask: the one that was named, that of OE, `oe` on the path, or this repository's where it is built already."""
+    """The desk to ask: the one that was named, that of OE, `oe` on the path, or the one beside the tools: this repository's where it is built already."""
     named = chosen or os.environ.get("OE")
     found = shutil.which(named or "oe")
-    if found is None and not named and os.access(BUILT, os.X_OK):
-        found = str(BUILT)
+    beside = BUILT if (TOP / "crates").exists() else RELEASED
+    if found is None and not named and beside.is_file() and os.access(beside, os.X_OK):
+        found = str(beside)
     if found is None:
         raise Fault(f"{named or 'oe'}: no such program; name the desk with --oe PROGRAM, or give its replies as a second file")
     return found

@@ -132,6 +132,7 @@ FORMS: dict[str, tuple[Field, ...]] = {
     "abandon": OF_CASE,
     "case": (Field("CASE", CASE),),
     "review": (),
+    "sync": (),
     "report": (Field("NAME", words("review", "expiry", "airfields")),),
 }
 
@@ -160,6 +161,11 @@ def first_bad_field(fields_of: list[str]) -> int | None:
         if number > len(fields_of) or not field.value.fits(fields_of[number - 1], values):
             return number
     return len(form) + 2 if len(fields_of) > len(form) + 1 else None
+
+
+def size(form: str) -> str:
+    count = len(FORMS[form]) + 1
+    return f"{form} has {count} field{'' if count == 1 else 's'}"
 
 
 def is_sheet_date(text: str) -> bool:

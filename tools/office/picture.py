@@ -217,11 +217,16 @@ class Svg:
         self.take(best.box)
         self.words(best.at, text, Style(style.size, style.fill, best.anchor, style.bold, style.italic, True))
 
-    def end(self) -> str:
-        head = (f'<svg xmlns="http://www.w3.org/2000/svg" viewBox="0 0 {self.width} {self.height}" width="{self.width}" height="{self.height}" '
-                f'font-family="{FONT}" role="img">')
-        ground = f'<title>{escape(self.title)}</title><rect width="{self.width}" height="{self.height}" fill="{PAPER}"/>'
-        return "\n".join([head, ground, *self.out, "</svg>"]) + "\n"
+
+def stacked(sheets: Sequence[Svg]) -> str:
+    """Sheets as the text of one SVG, each below the one before it."""
+    width, height, top = sheets[0].width, sum(sheet.height for sheet in sheets), 0
+    out = [f'<svg xmlns="http://www.w3.org/2000/svg" viewBox="0 0 {width} {height}" width="{width}" height="{height}" font-family="{FONT}" role="img">',
+           f'<title>{escape(sheets[0].title)}</title><rect width="{width}" height="{height}" fill="{PAPER}"/>', *sheets[0].out]
+    for above, sheet in zip(sheets, sheets[1:]):
+        top += above.height
+        out += [f'<g transform="translate(0 {top})">', f'<path d="M0,0H{width}" stroke="{RULE}"/>', *sheet.out, "</g>"]
+    return "\n".join([*out, "</svg>"]) + "\n"
 
 
 def boxes_along(at: Pixel, turn: float, length: float) -> list[Box]:

@@ -3,11 +3,12 @@ import math
 from collections.abc import Sequence
 from dataclasses import dataclass
 
-from office import picture, reaches, sheet
+from office import lists, picture, reaches, sheet
 from office.faults import Fault
 from office.picture import CIRCLE_LINE, INK, LOOKS, MARKS, NOTICE_LINE, PAPER, SOFT, Pixel, Style, Svg, figure
 from office.register import Airfield, Airport, Point
-from office.sheet import HIGH, MAP, WIDE, Frame, Listing
+from office.lists import WIDE, Listing
+from office.sheet import HIGH, MAP, Frame
 from office.structures import Finding, Structure
 from office.surfaces import CONE_REACH, AirportSurfaces, Approach, HeliportSurfaces, Look, RunwaySurfaces, Surfaces, surfaces_of
 
@@ -318,8 +319,8 @@ def lines_of_legend(options: Options) -> list[tuple[str, str, str]]:
     return out + ([(CIRCLE_LINE, CIRCLE_DASH, "height near an airport, 77.17(a)(2)")] if options.circles else [])
 
 
-def draw(airfields: Sequence[Airfield], structures: list[Structure], refused: int, options: Options) -> str:
-    """The plan as the text of an SVG. `refused` structures have no reply."""
+def draw(airfields: Sequence[Airfield], structures: list[Structure], refused: int, options: Options) -> list[Svg]:
+    """The plan, and the sheets that its table of structures needs. `refused` structures have no reply."""
     drawn = [Drawn(airfield, surfaces_of(airfield)) for airfield in airfields]
     frame = frame_of(drawn, structures, options)
     title = options.title or heading(airfields)
@@ -330,12 +331,12 @@ def draw(airfields: Sequence[Airfield], structures: list[Structure], refused: in
     svg.put(f'<clipPath id="map"><rect {map_box}/></clipPath>')
     svg.box(MAP, picture.GROUND)
     svg.put('<g clip-path="url(#map)">')
-    shown = [(number, one) for number, one in enumerate(structures, 1) if frame.has(one.at)]
+    rows = list(enumerate(structures, 1))
+    shown = [(number, one) for number, one in rows if frame.has(one.at)]
     draw_map(svg, frame, drawn, shown, options)
     svg.put("</g>")
     sheet.draw_grid(svg, frame)
     looks = {look for one in drawn for look in one.looks}
-    sheet.draw_panel(svg, [look for look in LEGEND if look in looks], lines_of_legend(options),
-                     Listing(structures, [one for _, one in shown], refused, len(airfields), options.last_change))
-    svg.words((WIDE - 20, HIGH - 14), f"oe-draw, from {options.source}. {sheet.DISCLAIMER}", Style(11.5, SOFT, "end"))
-    return svg.end()
+    listing = Listing(rows, {number for number, _ in shown}, refused, len(airfields), options.last_change)
+    rest = sheet.draw_panel(svg, [look for look in LEGEND if look in looks], lines_of_legend(options), listing)
+    return lists.sheets(svg, rest, listing, "The table of structures, continued", options.source)

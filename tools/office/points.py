@@ -108,8 +108,11 @@ class Writer:
         flat = math.dist((first.place.x, first.place.y), (second.place.x, second.place.y)) / TENTHS
         round_way = self.grid.ellipsoid_feet(first.lat, first.lon, second.lat, second.lon)
         note = f"{row.get('id')} {row.get('name')}: {show(flat)} ft on the grid, {show(round_way)} ft on the ellipsoid"
-        if row.get("published_ft"):
-            published = tenths(row.get("published_ft"), f"{row.where}, published_ft") / TENTHS
+        given = {one.row.get("published_ft") for one in (first, second)} - {""}
+        if len(given) > 1:
+            raise Fault(f"{row.where}: the two ends of {row.get('id')} {row.get('name')} differ in published_ft: {' and '.join(sorted(given))}; which is it?")
+        if given:
+            published = tenths(given.pop(), f"{row.where}, published_ft") / TENTHS
             note += f"; published {show(published, 0)} ft, {flat - published:+.1f} ft"
             note += " CAUTION: look at the coordinates" if abs(flat - published) > FAR_FROM_PUBLISHED else ""
         self.notes.append(note)

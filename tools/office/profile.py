@@ -1,59 +1,32 @@
-"""The profile of oe-draw: a runway's centerline and its extensions from the side, the surfaces over it, and the structures near it."""
+"""The profile of oe-draw: a runway or a heliport from the side, the surfaces over it, and the structures near it."""
 import math
 from collections.abc import Sequence
 from dataclasses import dataclass
 
-from office import picture, reaches, sheet
+from office import lists, picture
 from office.faults import Fault
-from office.picture import INK, LOOKS, MARKS, NOTICE_LINE, SOFT, Pixel, Style, Svg, figure
-from office.register import CIVIL, Airfield, Airport
-from office.sheet import MILE
+from office.lists import Listing, Numbered
+from office.picture import INK, MARKS, SOFT, Pixel, Style, Svg, figure
+from office.register import CIVIL, Airfield, Heliport
+from office.sheet import MILE, MILE_BARS
+from office.sides import HeliportSide, Near, RunwaySide, Side, Trace
 from office.structures import Finding, Structure
-from office.surfaces import CONE_REACH, AirportSurfaces, Look, RunwaySurfaces
+from office.surfaces import has_surfaces
 
 WIDE, HIGH = 1200, 700
 LEFT, TOP, RIGHT, BOTTOM = 76, 196, 1176, 560
 EARTH = "#7a5a3a"
-LEAST_SHOWN, MOST_SHOWN = 14_800, 17_000  # feet of an approach, where not the whole is asked for
-SAMPLES = 800
 NAME_ROWS = 4
-
-Height = tuple[float, float]  # feet along the centerline from end 1, feet above mean sea level
 
 
 @dataclass(frozen=True)
 class Options:
+    """`within` is how far beside the line structures are shown, or nothing for what is usual there."""
     title: str | None
     source: str
-    within: float
+    within: float | None = None
     whole: bool = False
     notice: bool = False
-
-
-@dataclass(frozen=True)
-class Trace:
-    """A surface as a line over the centerline."""
-    words: str
-    colour: str
-    line: list[Height]
-    width: float = 2.2
-    dash: str = ""
-
-
-@dataclass(frozen=True)
-class Near:
-    """A structure by the centerline: its number in the file, how far along it stands, and how far to the left."""
-    number: int
-    along: float
-    left: float
-    structure: Structure
-    is_under: bool
-
-    @property
-    def side(self) -> str:
-        if abs(self.left) < 1:
-            return "on the line"
-        return f"{figure(abs(self.left), 0)} ft {'left' if self.left > 0 else 'right'}"
 
 
 class Scale:
@@ -67,81 +40,7 @@ class Scale:
         return LEFT + (along - self.west) * self.across, BOTTOM - (height - self.low) * self.up
 
 
-class Side:
-    """What is seen from the side of one runway."""
-    def __init__(self, airport: Airport, name: str, options: Options):
-        self.airport, self.surfaces = airport, AirportSurfaces(airport)
-        self.runway = next(one for one in self.surfaces.runways if one.runway.name == name)
-        shown = [approach.length if options.whole else max(min(approach.length, MOST_SHOWN), LEAST_SHOWN) for approach in self.runway.approaches]
-        self.past, self.length = self.runway.past, self.runway.line.length
-        self.west, self.east = -self.past - shown[0], self.length + self.past + shown[1]
-        self.notice = options.notice
-
-    def out_from(self, number: int, along: float) -> float:
-        """Feet along the centerline of a place beyond the primary surface, at an end."""
-        return -self.past - along if number == 1 else self.length + self.past + along
-
-    def traces(self) -> list[Trace]:
-        (first, second), past, length = self.runway.runway.ends, self.past, self.length
-        ground = [(-past, first.elevation), (0, first.elevation), (length, second.elevation), (length + past, second.elevation)]
-        out = [Trace("", LOOKS[Look.PRIMARY].line, ground, 5), *self.approach_traces(), *self.level_traces()]
-        return out + (self.notice_traces() if self.notice else [])
-
-    def approach_traces(self) -> list[Trace]:
-        out = []
-        for approach in self.runway.approaches:
-            room = self.out_from(1, self.west) if approach.number == 1 else self.east - self.length - self.past
-            for part, (start, end, slope) in enumerate(approach.parts):
-                end = min(end, room)
-                if start < end:
-                    line = [(self.out_from(approach.number, along), approach.height(along)) for along in (start, end)]
-                    out.append(Trace(f"approach {approach.name} {slope}:1", LOOKS[Look.APPROACH].line, line, dash="9 4" if part else ""))
-        return out
-
-    def level_traces(self) -> list[Trace]:
-        """The horizontal and conical surfaces where they stand over the line."""
-        places = [self.west + (self.east - self.west) * i / SAMPLES for i in range(SAMPLES + 1)]
-        beyond = [(along, self.surfaces.beyond(self.runway.line.at(along))) for along in places]
-        level = self.surfaces.level
-        flat = [along for along, out in beyond if out == 0]
-        lines = [Trace(f"horizontal {figure(level)} ft", LOOKS[Look.HORIZONTAL].line, [(flat[0], level), (flat[-1], level)])]
-        for some in ([pair for pair in beyond if pair[0] <= flat[0]], [pair for pair in beyond if pair[0] >= flat[-1]]):
-            rise = [(along, level + out / 20) for along, out in some if out <= CONE_REACH]
-            if len(rise) > 1:
-                lines.append(Trace("conical 20:1", LOOKS[Look.CONICAL].line, rise))
-        return lines
-
-    def notice_traces(self) -> list[Trace]:
-        """The notice slope from the ends of this runway alone."""
-        reach = reaches.notice_reach(self.airport)
-        if reach is None:
-            return []
-        out = []
-        for number, end in enumerate(self.runway.runway.ends, 1):
-            start = 0 if number == 1 else self.length
-            far = max(start - reach.bands[0].reach, self.west) if number == 1 else min(start + reach.bands[0].reach, self.east)
-            line = [(start, end.elevation), (far, end.elevation + abs(far - start) / reach.slope)]
-            out.append(Trace(f"notice {reach.slope}:1", NOTICE_LINE, line, 1.6, "10 5"))
-        return out
-
-    def half_width(self, along: float) -> float:
-        """How far beside the centerline the primary or approach surface reaches."""
-        first, second = self.runway.approaches
-        approach, out = (first, -self.past - along) if along < self.length / 2 else (second, along - self.length - self.past)
-        if out <= 0:
-            return self.runway.width / 2
-        return approach.half(out) if out <= approach.length else 0
-
-    def near(self, structures: Sequence[Structure], within: float) -> list[Near]:
-        out = []
-        for number, one in enumerate(structures, 1):
-            along, left = self.runway.line.place(one.at)
-            if self.west <= along <= self.east and abs(left) <= within:
-                out.append(Near(number, along, left, one, abs(left) <= self.half_width(along)))
-        return sorted(out, key=lambda near: near.along)
-
-
-def draw_axes(svg: Svg, at: Scale, runway: RunwaySurfaces) -> None:
+def draw_axes(svg: Svg, at: Scale, side: Side) -> None:
     step = picture.round_step(at.high - at.low, 6)
     for i in range(math.floor(at.low / step) + 1, math.floor(at.high / step) + 1):
         y = at(0, i * step)[1]
@@ -153,21 +52,22 @@ def draw_axes(svg: Svg, at: Scale, runway: RunwaySurfaces) -> None:
         x = at(i * step, 0)[0]
         svg.line((x, BOTTOM), (x, BOTTOM + 6))
         svg.words((x, BOTTOM + 20), figure(i * step, 0), Style(11.5, SOFT, "middle"))
-    svg.words((RIGHT, BOTTOM + 38), f"feet along the centerline, from the end of {runway.approaches[0].name}", Style(12, SOFT, "end"))
-    mile = MILE * at.across
+    svg.words((RIGHT, BOTTOM + 38), side.origin, Style(12, SOFT, "end"))
+    miles = max(bar for bar in MILE_BARS if bar * MILE < (at.east - at.west) / 5)
+    mile = miles * MILE * at.across
     svg.line((LEFT, BOTTOM + 36), (LEFT + mile, BOTTOM + 36), INK, 2)
     for x in (LEFT, LEFT + mile):
         svg.line((x, BOTTOM + 31), (x, BOTTOM + 41), INK, 1.4)
-    svg.words((LEFT + mile + 8, BOTTOM + 40), "1 NM", Style(12, bold=True))
+    svg.words((LEFT + mile + 8, BOTTOM + 40), f"{miles:g} NM", Style(12, bold=True))
     svg.box((LEFT, TOP, RIGHT, BOTTOM), stroke=INK, width=1.2)
 
 
-def draw_runway(svg: Svg, at: Scale, side: Side) -> None:
-    first, second = (end.elevation for end in side.runway.runway.ends)
-    places = at(0, first), at(side.length, second)
-    svg.line(*places, "#10161c", 3)
-    for approach, (x, y) in zip(side.runway.approaches, places):
-        svg.words((x, y + 18), approach.name, Style(13, anchor="middle", bold=True, halo=True))
+def draw_ground(svg: Svg, at: Scale, side: Side) -> None:
+    (a, low), (b, high) = side.ground
+    svg.line(at(a, low), at(b, high), "#10161c", 3)
+    for label in side.labels:
+        x, y = at(label.along, low if label.along <= (a + b) / 2 else high)
+        svg.words((x, y + 18), label.words, Style(13, anchor="middle", bold=True, halo=True))
         svg.take((x - 12, y + 4, x + 12, y + 24))
 
 
@@ -195,10 +95,10 @@ def name_trace(svg: Svg, at: Scale, trace: Trace) -> None:
         svg.take(box)
 
 
-def draw_names(svg: Svg, at: Scale, near: Sequence[Near]) -> None:
-    """Names in rows above the picture, each with a thin line down to its mast, which passes behind other names."""
+def draw_names(svg: Svg, at: Scale, near: Sequence[Near]) -> list[Numbered]:
+    """Names in rows above the picture, each with a thin line down to its mast, which passes behind other names. What has no room is given back."""
     rows: list[list[tuple[float, float]]] = [[] for _ in range(NAME_ROWS)]
-    words = []
+    words, rest = [], []
     for one in near:
         x, y = at(one.along, one.structure.top)
         text = f"{one.number} {picture.cut(one.structure.name or f'line {one.structure.line}', 12, 140)}"
@@ -207,6 +107,7 @@ def draw_names(svg: Svg, at: Scale, near: Sequence[Near]) -> None:
         row = next((i for i, taken in enumerate(rows) if all(left > b or left + wide < a for a, b in taken)), None)
         if row is None:  # its number alone, by its top
             svg.label((x, y), str(one.number), Style(12.5, MARKS[one.structure.finding].text, bold=True), 10, (LEFT, TOP, RIGHT, BOTTOM))
+            rest.append((one.number, one.structure))
             continue
         rows[row].append((left, left + wide))
         top = TOP - 30 - row * 29
@@ -215,6 +116,7 @@ def draw_names(svg: Svg, at: Scale, near: Sequence[Near]) -> None:
     for (x, top), text, one in words:
         svg.words((x, top + 2), text, Style(12.5, MARKS[one.structure.finding].text, "middle", bold=True, halo=True))
         svg.words((x, top + 15), one.side, Style(11, SOFT, "middle", halo=True))
+    return sorted(rest, key=lambda row: row[0])
 
 
 def draw_mast(svg: Svg, at: Scale, one: Near) -> None:
@@ -247,35 +149,27 @@ def draw_key(svg: Svg, near: Sequence[Near]) -> None:
 
 
 def side_of(airfields: dict[str, Airfield], chosen: str, options: Options) -> Side:
-    """The side that ID:RUNWAY names."""
+    """The side that ID:RUNWAY names, or the ID of a heliport."""
     name, _, runway = chosen.partition(":")
-    airport = airfields[name]
-    if not isinstance(airport, Airport):
-        raise Fault(f"{name} is a heliport: a profile is one of a runway")
-    if runway not in airport.runways:
-        raise Fault(f"{name} has no runway {runway or '(none was named: write ID:RUNWAY)'}; it has: {', '.join(airport.runways) or 'none'}")
-    if airport.category not in CIVIL:
-        raise Fault(f'{name} is "{airport.category}": the surfaces of 77.19 do not stand over it')
-    return Side(airport, runway, options)
+    airfield = airfields[name]
+    if isinstance(airfield, Heliport):
+        if runway:
+            raise Fault(f"{name} is a heliport and has no runway: write --profile {name}")
+        if not has_surfaces(airfield):
+            raise Fault(f'{name} is "{airfield.category}": the surfaces of 77.23 do not stand over it')
+        return HeliportSide(airfield, options.notice)
+    if runway not in airfield.runways:
+        raise Fault(f"{name} has no runway {runway or '(none was named: write ID:RUNWAY)'}; it has: {', '.join(airfield.runways) or 'none'}")
+    if airfield.category not in CIVIL:
+        raise Fault(f'{name} is "{airfield.category}": the surfaces of 77.19 do not stand over it')
+    return RunwaySide(airfield, runway, options.whole, options.notice)
 
 
-def draw(airfields: dict[str, Airfield], chosen: str, structures: Sequence[Structure], options: Options) -> str:
-    """The profile as the text of an SVG."""
-    side = side_of(airfields, chosen, options)
-    near, traces = side.near(structures, options.within), side.traces()
-    heights = [height for trace in traces for _, height in trace.line]
-    heights += [height for one in near for height in (one.structure.ground, one.structure.top)]
-    at = Scale(side.west, side.east, min(heights), max(heights))
-    title = options.title or f"{side.airport.id} runway {side.runway.runway.name} from the side"
-    svg = Svg(WIDE, HIGH, title)
-    svg.words((LEFT, 38), title, Style(22, bold=True))
-    svg.words((LEFT, 60), f"Along the extended centerline, {side.runway.approaches[0].name} at the left. Heights are drawn {at.up / at.across:.0f} "
-              f"times as steep as they are. Structures at most {figure(options.within, 0)} ft beside it.", Style(13, SOFT))
-    svg.box((LEFT, TOP, RIGHT, BOTTOM), picture.GROUND)
-    draw_axes(svg, at, side.runway)
+def draw_lines(svg: Svg, at: Scale, side: Side, near: Sequence[Near], traces: Sequence[Trace]) -> None:
+    """The surfaces with their names, clear of the structures."""
     for trace in traces:
         svg.polyline([at(*place) for place in trace.line], trace.colour, trace.width, trace.dash)
-    draw_runway(svg, at, side)
+    draw_ground(svg, at, side)
     for one in near:
         place = at(one.along, one.structure.top)
         svg.take_about(place, 8, 8)
@@ -284,9 +178,27 @@ def draw(airfields: dict[str, Airfield], chosen: str, structures: Sequence[Struc
         svg.take_along(at(*trace.line[0]), at(*trace.line[-1]), 2)
     for trace in traces:
         name_trace(svg, at, trace)
-    draw_names(svg, at, near)
-    for one in near:
+
+
+def draw(airfields: dict[str, Airfield], chosen: str, structures: Sequence[Structure], options: Options) -> list[Svg]:
+    """The profile, and the sheets that list the structures whose names have no room in it."""
+    side = side_of(airfields, chosen, options)
+    within = side.beside if options.within is None else options.within
+    near, traces = side.near(structures, within), side.traces()
+    heights = [height for trace in traces for _, height in trace.line]
+    heights += [height for one in near for height in (one.structure.ground, one.structure.top)]
+    at = Scale(side.west, side.east, min(heights), max(heights))
+    svg = Svg(WIDE, HIGH, options.title or side.title)
+    svg.words((LEFT, 38), svg.title, Style(22, bold=True))
+    svg.words((LEFT, 60), f"{side.lead} Heights are drawn {at.up / at.across:.0f} times as steep as they are. "
+              f"Shown: {len(near)} of {len(structures)} structure{'' if len(structures) == 1 else 's'}, at most {figure(within, 0)} ft beside it.", Style(13, SOFT))
+    svg.box((LEFT, TOP, RIGHT, BOTTOM), picture.GROUND)
+    draw_axes(svg, at, side)
+    draw_lines(svg, at, side, near, traces)
+    rest = draw_names(svg, at, near)
+    order = list(Finding)
+    for one in sorted(near, key=lambda one: -order.index(one.structure.finding)):  # the gravest finding above the others
         draw_mast(svg, at, one)
     draw_key(svg, near)
-    svg.words((RIGHT, HIGH - 14), f"oe-draw, from {options.source}. {sheet.DISCLAIMER}", Style(11.5, SOFT, "end"))
-    return svg.end()
+    listing = Listing(rest, {number for number, _ in rest}, 0, len(airfields), 0)
+    return lists.sheets(svg, rest, listing, "Structures that stand in the profile by their number alone", options.source)

@@ -117,12 +117,18 @@ class Review:
 
 
 @dataclass(frozen=True)
+class Sync:
+    """The number of the last accepted change, 0 where there is none."""
+    changes: int
+
+
+@dataclass(frozen=True)
 class Report:
     name: str
     lines: tuple[str, ...]
 
 
-Reply = Found | Ceiling | Verdict | Accepted | Refusal | CaseState | AirfieldRow | Review | Report
+Reply = Found | Ceiling | Verdict | Accepted | Refusal | CaseState | AirfieldRow | Review | Sync | Report
 
 
 def read_entries(texts: list[str]) -> tuple[Entry, ...]:
@@ -147,6 +153,8 @@ def parse(first: str, rest: Iterator[str]) -> Reply:
             return AirfieldRow(tuple(values))
         case ["review", _, *cases]:
             return Review(tuple(cases))
+        case ["sync", changes]:
+            return Sync(int(changes))
         case ["report", name, count]:
             return Report(name, tuple(next(rest) for _ in range(int(count))))
     raise ValueError(first)
@@ -171,5 +179,5 @@ def answers(form: str, reply: Reply) -> bool:
         case Accepted():
             return reply.form == {"file": "case"}.get(form, form)
         case _:
-            kinds = {"screen": (Found, Ceiling), "verdict": Verdict, "case": CaseState, "airfield": AirfieldRow, "review": Review, "report": Report}
+            kinds = {"screen": (Found, Ceiling), "verdict": Verdict, "case": CaseState, "airfield": AirfieldRow, "review": Review, "sync": Sync, "report": Report}
             return isinstance(reply, kinds.get(form, ()))

@@ -1,21 +1,19 @@
 """The sheet of a plan without its airfields: the frame with its grid, the scale bars, and the panel beside the map."""
 import math
 from collections.abc import Sequence
-from dataclasses import dataclass
 
-from office import picture
+from office import lists, picture
+from office.lists import WIDE, Listing, Numbered
 from office.picture import INK, MARKS, PAPER, RULE, SOFT, Box, Pixel, Style, Svg, figure
 from office.register import Point
-from office.structures import Finding, Structure
+from office.structures import Finding
 from office.surfaces import Look
 
-WIDE, HIGH = 1200, 940
+HIGH = 940
 MAP: Box = (64, 76, 860, 872)
 MILE = 6_076.1  # a nautical mile in feet
 LEAST_SIDE, MARGIN = 4_000, 1.06  # feet of the smallest map, and the room around what is drawn
-ROW = 39  # pixels of a structure in the list
 MILE_BARS = (.1, .2, .5, 1, 2, 5, 10, 20, 50)
-DISCLAIMER = "A picture in floating point; the findings are the desk's. No determination of the FAA."
 
 
 class Frame:
@@ -101,60 +99,6 @@ def draw_north(svg: Svg) -> None:
     svg.take((x - 30, y - 10, x + 30, y + 50))
 
 
-def summary(one: Structure, airfields: int) -> str:
-    """What was found, in one short line: the rule that goes farthest, and how many others."""
-    if not one.entries:
-        return {Finding.NONE: "no rule met", Finding.NOTICE: "notice", Finding.OBSTRUCTION: "obstruction"}.get(one.finding, "not judged yet")
-    standards = [entry for entry in one.entries if entry.rule.is_standard]
-    most = max(standards or one.entries, key=lambda entry: entry.excess)
-    names = ([] if airfields == 1 and most.key != "-" else [most.airfield]) + [most.key]
-    where = " ".join(name for name in names if name != "-")
-    more = f", {len(one.entries) - 1} more" if len(one.entries) > 1 else ""
-    excess = f" +{figure(most.excess / 10)} ft" if most.excess else " by less than 0.1 ft"
-    return f"{most.rule.short} {where}".rstrip() + ("" if most.rule.name == "9d" else excess) + more
-
-
-@dataclass(frozen=True)
-class Listing:
-    """What the panel lists: the structures of the file, which of them are on the map, and how many were refused."""
-    structures: list[Structure]
-    shown: list[Structure]
-    refused: int
-    airfields: int
-    last_change: int
-
-    def is_old(self, one: Structure) -> bool:
-        """Whether a structure was judged before the airfields changed the last time."""
-        return one.changes is not None and one.changes < self.last_change
-
-    def notes(self, listed: int) -> list[str]:
-        """What the list leaves out, in lines."""
-        counts = [(len(self.structures) - listed, "more (see oe-say)"), (len(self.structures) - len(self.shown), "outside"), (self.refused, "refused")]
-        left_out = " · ".join(f"{count} {words}" for count, words in counts if count)
-        return ([left_out] if left_out else []) + (["* asked before the airfields changed"] if any(map(self.is_old, self.structures)) else [])
-
-
-def choose(structures: list[Structure], room: int) -> list[tuple[int, Structure]]:
-    """Those that the list has room for, with their numbers: where not all fit, those of the gravest findings."""
-    numbered = list(enumerate(structures, 1))
-    if len(numbered) > room:
-        order = list(MARKS)
-        numbered.sort(key=lambda pair: (order.index(pair[1].finding), -pair[1].excess))
-        numbered = numbered[:room - 1]
-    return sorted(numbered, key=lambda pair: pair[0])
-
-
-def draw_row(svg: Svg, at: Pixel, number: int, one: Structure, listing: Listing) -> None:
-    x, y = at
-    svg.line((x, y - 30), (WIDE - 20, y - 30), RULE, .7)
-    svg.symbol((x + 28, y - 17), one.finding, 5.5)
-    svg.words((x + 18, y - 12.5), str(number), Style(13, bold=True, anchor="end"))
-    svg.words((WIDE - 20, y - 12.5), f"{figure(one.height)} · {figure(one.top)}", Style(12.5, anchor="end"))
-    svg.words((x + 40, y - 12.5), picture.cut(one.name or f"line {one.line}", 12.5, 150), Style(12.5))
-    words = summary(one, listing.airfields) + ("" if one in listing.shown else " (outside the picture)")
-    svg.words((x + 40, y + 2.5), picture.cut(words, 11.5, 250) + (" *" if listing.is_old(one) else ""), Style(11.5, MARKS[one.finding].text))
-
-
 def draw_legend(svg: Svg, at: Pixel, looks: Sequence[Look], lines: Sequence[tuple[str, str, str]], findings: Sequence[Finding]) -> Pixel:
     """What the colours mean: surfaces, lines (colour, dashes, words), and findings. The place below is given back."""
     x, y = at
@@ -176,15 +120,8 @@ def draw_legend(svg: Svg, at: Pixel, looks: Sequence[Look], lines: Sequence[tupl
     return x, y + 34
 
 
-def draw_panel(svg: Svg, looks: Sequence[Look], lines: Sequence[tuple[str, str, str]], listing: Listing) -> None:
-    found = {one.finding for one in listing.structures}
+def draw_panel(svg: Svg, looks: Sequence[Look], lines: Sequence[tuple[str, str, str]], listing: Listing) -> list[Numbered]:
+    """The legend and the table beside the map. The structures without room in the table are given back."""
+    found = {one.finding for _, one in listing.rows}
     findings = [finding for finding in MARKS if finding is not Finding.UNKNOWN or finding in found]
-    x, y = draw_legend(svg, (MAP[2] + 26, MAP[1] + 12), looks, lines, findings)
-    svg.words((x, y), "No.", Style(11.5, SOFT))
-    svg.words((x + 36, y), "structure and finding", Style(11.5, SOFT))
-    svg.words((WIDE - 20, y), "height · top, ft", Style(11.5, SOFT, "end"))
-    chosen = choose(listing.structures, int((HIGH - 62 - y) / ROW))
-    for place, (number, one) in enumerate(chosen, 1):
-        draw_row(svg, (x, y + ROW * place), number, one, listing)
-    for line, note in enumerate(listing.notes(len(chosen))):
-        svg.words((x, HIGH - 48 + 15 * line), note, Style(11.5, MARKS[Finding.OBSTRUCTION].text))
+    return lists.draw_beside(svg, draw_legend(svg, (WIDE - lists.EDGE - lists.PANEL, MAP[1] + 12), looks, lines, findings), listing)

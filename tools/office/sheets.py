@@ -81,7 +81,7 @@ def fault_of(row: Row) -> str | None:
         return about_form(row.cells[0])
     form = forms.FORMS[row.cells[0]]
     if number > len(form) + 1:
-        return f"field {number}: {row.cells[0]} has {len(form) + 1} fields, and the row has {len(row.cells)}"
+        return f"field {number}: {forms.size(row.cells[0])}, and the row has {len(row.cells)}"
     field = form[number - 2]
     cell = row.cells[number - 1] if number <= len(row.cells) else ""
     why = forms.cause(cell, field) if cell else "it is wanting"

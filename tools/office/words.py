@@ -4,7 +4,7 @@ from collections.abc import Iterable
 from office import forms
 from office.desk import Pair
 from office.records import TENTHS, Record, feet, show
-from office.replies import (NONE, Accepted, AirfieldRow, CaseState, Ceiling, Entry, Found, Refusal, Report, Review, Verdict, read_entries)
+from office.replies import (NONE, Accepted, AirfieldRow, CaseState, Ceiling, Entry, Found, Refusal, Report, Review, Sync, Verdict, read_entries)
 from office.structures import ENTRIES_OF_DETERMINATION
 
 MALFORMED = 13
@@ -175,7 +175,7 @@ def say_malformed(record: Record, number: int) -> list[str]:
         return [f'{head} at field 1: there is no form "{record.form[:LONGEST_QUOTED]}"']
     form = forms.FORMS[record.form]
     if number > len(form) + 1:
-        return [f"{head} at field {number}: {record.form} has {len(form) + 1} fields (a spreadsheet pads lines with commas; oe-clean takes them off)"]
+        return [f"{head} at field {number}: {forms.size(record.form)} (a spreadsheet pads lines with commas; oe-clean takes them off)"]
     field = form[number - 2]
     if number > len(record.fields):
         return [f"{head} at field {number}, {field.name}: it is wanting; wanted is {field.wanted}"]
@@ -207,6 +207,10 @@ def say_row(values: tuple[str, ...]) -> list[str]:
             f"{show(feet(width))} ft wide, {show(feet(elevation))} ft above mean sea level"]
 
 
+def say_last(changes: int) -> str:
+    return f"the last accepted change is entry {changes}" if changes else "no change was accepted yet: was --db forgotten, or another file named?"
+
+
 def yes_or_no(value: bool) -> str:
     return "yes" if value else "no"
 
@@ -230,5 +234,7 @@ def say(pair: Pair) -> list[str]:
             return say_row(values)
         case Review(cases):
             return [f"cases marked for review: {', '.join(cases) or 'none'}"]
+        case Sync(changes):
+            return [say_last(changes)]
         case Report(name, some):
             return [f"report {name}, lines: {len(some)}", *some]

@@ -1,6 +1,7 @@
 """The examples of docs/TOOLS.md, typed as they stand there, and that each tool says what it is."""
 import importlib.util
 import os
+import shutil
 import subprocess
 import unittest
 from dataclasses import dataclass
@@ -10,7 +11,7 @@ from tests.trial import PROGRAM, STORED_DESK, TOOLS, Trial
 
 NAMES = ("oe-say", "oe-from-points", "oe-clean", "oe-draw")
 INDENT, PROMPT = "    ", "    $ "
-PICTURES = ("plan.svg", "profile.svg")
+PICTURES = ("plan.svg", "profile.svg", "heliport.svg")
 
 
 @dataclass
@@ -55,7 +56,9 @@ class Document(Trial):
             self.assertEqual((self.folder / "out" / picture).read_text(), (stored.TOP / "docs" / picture).read_text(), f"look at {picture}, then copy it to docs")
 
     def test_each_tool_says_what_it_is(self) -> None:
-        for name in NAMES:
+        names = sorted(tool.name for tool in TOOLS.glob("oe-*"))
+        self.assertTrue(set(NAMES) < set(names), names)
+        for name in names:
             done = subprocess.run([str(TOOLS / name), "--help"], cwd=self.folder, capture_output=True, text=True)
             self.assertEqual((done.returncode, done.stderr), (0, ""), name)
             self.assertIn("is not proved", " ".join(done.stdout.split()), name)
@@ -66,6 +69,21 @@ class Document(Trial):
         (self.folder / "bin" / "oe-clean").symlink_to(TOOLS / "oe-clean")
         done = subprocess.run(["bin/oe-clean", "-"], input="review,,\n", cwd=self.folder, capture_output=True, text=True)
         self.assertEqual((done.returncode, done.stdout, done.stderr), (0, "review\n", ""))
+
+    def test_an_unpacked_release(self) -> None:
+        """There the desk is the file beside the tools; in the repository that file is a script which may build it first."""
+        release = self.folder / "release"
+        shutil.copytree(TOOLS / "office", release / "tools" / "office")
+        shutil.copy(TOOLS / "oe-say", release / "tools")
+        (release / "oe").write_text('#!/bin/sh\necho found,0,0\n')
+        (release / "oe").chmod(0o755)
+        environment = {"PATH": str(self.folder), "PYTHONDONTWRITEBYTECODE": "1"}
+
+        def say() -> subprocess.CompletedProcess[str]:
+            return subprocess.run([release / "tools" / "oe-say", "-"], input="screen,0,0,0,0,object,0,-,-\n", env=environment, capture_output=True, text=True)
+        self.assertIn("no rule that the desk knows is met", say().stdout)
+        (release / "crates").mkdir()
+        self.assertIn("no such program", say().stderr)
 
     def test_a_reader_that_has_enough(self) -> None:
         session = stored.sessions()["structures at airports and heliports of all kinds"]

@@ -3,10 +3,12 @@ import re
 import subprocess
 import unittest
 import xml.etree.ElementTree as Xml
+from pathlib import Path
 
 from office import picture, plan
 from office.register import Airport, Runway, RunwayEnd
-from office.sheet import HIGH, WIDE
+from office.lists import WIDE
+from office.sheet import HIGH
 from office.structures import Finding, Structure
 from tests import stored
 from tests.trial import PROGRAM, Trial
@@ -30,8 +32,11 @@ def structure(number: int, x: float, y: float, finding: Finding = Finding.NONE, 
 
 
 class Whole(unittest.TestCase):
+    def check_sheets(self, sheets: list[picture.Svg]) -> list[str]:
+        return self.check(picture.stacked(sheets), (sheets[0].width, sheets[0].height))
+
     def check(self, text: str, size: tuple[int, int] = (WIDE, HIGH)) -> list[str]:
-        """That a text is an SVG whose words are on its sheet; the words are given back."""
+        """That a text is an SVG whose words are on its sheet, by the places in each; the words are given back."""
         root = Xml.fromstring(text)
         self.assertEqual(root.tag, SVG + "svg")
         self.assertNotRegex(text, r"\b(nan|inf)\b")
@@ -45,33 +50,84 @@ class Whole(unittest.TestCase):
         return words
 
 
+    def listed(self, text: str) -> list[int]:
+        """The numbers of the rows of all tables, in order."""
+        return [int(one.text) for one in Xml.fromstring(text).iter(SVG + "text")
+                if (one.get("text-anchor"), one.get("font-weight"), one.get("font-size")) == ("end", "bold", "13")]
+
+
 class Plans(Whole):
     def test_one_airport(self) -> None:
-        words = self.check(plan.draw([airport(runway("09/27"))], [structure(1, 500, 500, Finding.OBSTRUCTION, 'A <b> & "c"')], 2, OPTIONS))
+        words = self.check_sheets(plan.draw([airport(runway("09/27"))], [structure(1, 500, 500, Finding.OBSTRUCTION, 'A <b> & "c"')], 2, OPTIONS))
         self.assertTrue({"AAA", "09", "27", "horizontal 250.0 ft", "conical 20:1 to 450.0 ft", "2 refused"} <= set(words), words)
         self.assertTrue(any('A <b> & "c"' in word for word in words))
 
+    def test_east_is_right_and_north_is_up(self) -> None:
+        """Structures, the figures of the east axis and those of the north axis, which are turned, lie as on a map of one scale."""
+        at = {"East": (15_000, 0), "North": (0, 15_000), "West": (-15_000, 0), "South": (0, -15_000)}
+        frame = plan.frame_of([plan.Drawn(airport(runway("09/27")), None)], [structure(1, *place) for place in at.values()], OPTIONS)
+        (east, middle), (_, north), (west, _), (_, south) = frame.all(list(at.values()))
+        self.assertGreater(east - west, 200)
+        self.assertAlmostEqual(south - north, east - west)
+        self.assertAlmostEqual(middle, (north + south) / 2)
+        some = [structure(n, *place, name=name) for n, (name, place) in enumerate(at.items(), 1)]
+        drawn = Xml.fromstring(picture.stacked(plan.draw([airport(runway("09/27"))], some, 0, OPTIONS)))
+        labels = {(one.text, "transform" in one.attrib): (float(one.get("x")), float(one.get("y"))) for one in drawn.iter(SVG + "text")}
+        far = {name: labels[f"{n} {name}", False] for n, name in enumerate(at, 1)}
+        self.assertLess(far["West"][0] + 200, far["East"][0])
+        self.assertLess(far["North"][1] + 200, far["South"][1])
+        low, high = picture.figure(-10_000, 0), picture.figure(10_000, 0)
+        self.assertLess(labels[low, False][0] + 200, labels[high, False][0])
+        self.assertLess(labels[high, True][1] + 200, labels[low, True][1])
+
     def test_nothing_over_it(self) -> None:
         for one in (airport(), airport(runway("09/27"), category="private"), airport(runway("09/27"), category="dod")):
-            words = self.check(plan.draw([one], [], 0, OPTIONS))
+            words = self.check_sheets(plan.draw([one], [], 0, OPTIONS))
             self.assertIn("AAA", words)
             self.assertNotIn("horizontal", words)
 
     def test_no_airfield(self) -> None:
-        words = self.check(plan.draw([], [structure(1, 0, 0)], 0, OPTIONS))
+        words = self.check_sheets(plan.draw([], [structure(1, 0, 0)], 0, OPTIONS))
         self.assertIn("Structures (no airfield is registered)", words)
 
     def test_sixteen_runways_and_many_structures(self) -> None:
         many = [structure(n, (n * 977) % 30000 - 15000, (n * 7919) % 30000 - 15000, list(Finding)[n % 4], f"Structure number {n}") for n in range(120)]
-        words = self.check(plan.draw([airport(*(runway(f"R{n}", n * 500) for n in range(16)))], many, 0, plan.Options("t" * 60, "x", whole=True, notice=True, circles=True)))
-        self.assertTrue(any("more (see oe-say)" in word for word in words))
+        words = self.check_sheets(plan.draw([airport(*(runway(f"R{n}", n * 500) for n in range(16)))], many, 0, plan.Options("t" * 60, "x", whole=True, notice=True, circles=True)))
+        self.assertIn("sheet 3 of 3", words)
+
+    def test_no_structure_is_left_out(self) -> None:
+        """As many as fit stand beside the map, and further sheets have the others, in order, each once."""
+        field = airport(runway("09/27"))
+        for count, sheets in ((1, 1), (13, 1), (14, 2), (69, 2), (70, 3), (200, 5)):
+            drawn = plan.draw([field], [structure(n, n * 50, n * 70) for n in range(1, count + 1)], 2, OPTIONS)
+            self.assertEqual(len(drawn), sheets, count)
+            text = picture.stacked(drawn)
+            self.assertEqual(self.listed(text), list(range(1, count + 1)))
+            self.assertEqual(int(Xml.fromstring(text).get("height")), sheets * HIGH)
+            words = self.check(text)
+            self.assertEqual(words.count(f"sheet {sheets} of {sheets}"), int(sheets > 1))
+            self.assertEqual(any("on the next sheet" in word for word in words), sheets > 1)
+
+    def test_what_is_outside_of_the_map_is_listed(self) -> None:
+        far = [structure(n, 9_000_000, n) for n in range(20)]
+        text = picture.stacked(plan.draw([airport(runway("09/27"))], far, 0, OPTIONS))
+        self.assertEqual(self.listed(text), list(range(1, 21)))
+        self.assertEqual(sum("(outside the picture)" in word for word in self.check(text)), 20)
+
+    def test_airfields_that_changed(self) -> None:
+        """A structure that was asked before is marked, on the sheet where it stands."""
+        some = [structure(n, n * 50, 0) for n in range(30)]
+        some[25].changes = 3
+        drawn = plan.draw([airport(runway("09/27"))], some, 0, plan.Options(None, "a test", last_change=4))
+        self.assertEqual(["* asked before" in "".join(sheet.out) for sheet in drawn], [True, True])
+        self.assertIn("no rule met *", self.check_sheets(drawn))
 
     def test_structures_at_one_point(self) -> None:
-        words = self.check(plan.draw([airport(runway("09/27"))], [structure(n, 9000, 9000) for n in range(8)], 0, OPTIONS))
+        words = self.check_sheets(plan.draw([airport(runway("09/27"))], [structure(n, 9000, 9000) for n in range(8)], 0, OPTIONS))
         self.assertIn("1, 2, 3, 4, 5 and 3 more", words)
 
     def test_reaches(self) -> None:
-        words = self.check(plan.draw([airport(runway("09/27"))], [], 0, plan.Options(None, "x", notice=True, circles=True)))
+        words = self.check_sheets(plan.draw([airport(runway("09/27"))], [], 0, plan.Options(None, "x", notice=True, circles=True)))
         self.assertTrue({"AAA: notice slope 100:1 ends here", "AAA: 3 NM, 200 ft", "AAA: 5.99 NM, 499 ft"} <= set(words), words)
 
     def test_all_stored_sessions(self) -> None:
@@ -83,7 +139,7 @@ class Plans(Whole):
             airfields = register_after(session.pairs()).airfields
             found, refused = structures(session.pairs(), {})
             try:
-                self.check(plan.draw([airfields[name] for name in sorted(airfields)], found, refused, OPTIONS))
+                self.check_sheets(plan.draw([airfields[name] for name in sorted(airfields)], found, refused, OPTIONS))
                 drawn += 1
             except Fault as fault:
                 self.assertEqual((airfields, found), ({}, []), fault)
@@ -103,6 +159,37 @@ class Tool(Trial, Whole):
         self.good("oe-draw", *self.files, "-o", "picture.svg", "--only", "AAA", "--circles", "--title", "A <title>")
         self.assertIn("A <title>", self.check((self.folder / "picture.svg").read_text()))
 
+    def test_heliports(self) -> None:
+        pad = self.write("pad", "heliport,a,1,HHH,public,0,0,1000,0,500,0\nscreen,1000,3000,0,1000,object,0,-,-\nscreen,1000,6000,0,1000,object,0,-,-\n")
+        replies = self.write("pad.out", "ok,1,published,heliport\nfound,1,0\nfound,1,0\n")
+        self.check(self.good("oe-draw", pad, replies, "--notice").out)
+        words = self.check(self.good("oe-draw", pad, replies, "--profile", "HHH").out, (1200, 700))
+        edge = "transitional 2:1, its edge 250 ft from the axis"
+        self.assertTrue({"HHH heliport from the side", "H", "approach 1 8:1", "approach 2 8:1", edge, "1 line 2", "300 ft left"} <= set(words), words)
+        self.assertTrue(any("Shown: 1 of 2 structures, at most 500 ft beside it." in word for word in words), words)
+        words = self.check(self.good("oe-draw", pad, replies, "--profile", "HHH", "--within", "600", "--notice").out, (1200, 700))
+        self.assertTrue({"notice 25:1", "2 line 3", "600 ft left"} <= set(words), words)
+
+    def test_sheets(self) -> None:
+        many = self.write("many", "".join(f"screen,{n},0,0,100,object,0,-,-\n" for n in range(99)))
+        replies = self.write("many.out", "found,0,0\n" * 99)
+        ended = self.good("oe-draw", many, replies)
+        self.assertEqual(ended.err, "oe-draw: 3 sheets, one below the other; --sheet N writes one alone\n")
+        parts = [self.listed(self.good("oe-draw", many, replies, "--sheet", str(number)).out) for number in (1, 2, 3)]
+        self.assertEqual(sum(parts, []), self.listed(ended.out))
+        self.assertEqual(sum(parts, []), list(range(1, 100)))
+
+    def test_a_profile_without_room_for_all_names(self) -> None:
+        records, told = (path.read_text() for path in map(Path, self.files))
+        here = self.write("in2", records + "".join(f"screen,{n * 10},0,1000,100,object,0,-,-\n" for n in range(60)))
+        replies = self.write("out2", told + "found,2,0\n" * 60)
+        text = self.good("oe-draw", here, replies, "--profile", "AAA:09/27").out
+        words = self.check(text, (1200, 700))
+        last = len(records.splitlines()) - 2 + 60
+        named = {int(word.split()[0]) for word in words if re.fullmatch(r"[0-9]+ line [0-9]+", word)}
+        self.assertEqual(sorted(named | set(self.listed(text)))[-60:], list(range(last - 59, last + 1)))
+        self.assertFalse(named & set(self.listed(text)))
+
     def test_findings_are_the_desks(self) -> None:
         """Symbols follow the replies: where these are others, so is the picture."""
         before = self.good("oe-draw", *self.files).out
@@ -121,8 +208,10 @@ class Tool(Trial, Whole):
         self.fault("--cases wants --over", "oe-draw", *self.files, "--cases")
         self.fault("nothing to draw", "oe-draw", self.write("none", "review\n"), self.write("none.out", "review,0\n"))
         pad = self.write("pad", "heliport,a,1,HHH,public,0,0,1000,0,500,0\n"), self.write("pad.out", "ok,1,published,heliport\n")
-        self.check(self.good("oe-draw", *pad, "--notice").out)
-        self.fault("HHH is a heliport", "oe-draw", *pad, "--profile", "HHH:1")
+        self.fault("HHH is a heliport and has no runway", "oe-draw", *pad, "--profile", "HHH:1")
+        self.fault("there is no sheet 2: the picture has 1 sheet", "oe-draw", *pad, "--sheet", "2")
+        bare = self.write("bare", "heliport,a,1,HHH,private,0,0,1000,0,500,0\n"), pad[1]
+        self.fault("the surfaces of 77.23 do not stand over it", "oe-draw", *bare, "--profile", "HHH")
         private = self.write("private", stored.sessions()["surfaces of a runway"].content.replace(b"public", b"private"))
         self.fault("do not stand over it", "oe-draw", private, self.files[1], "--profile", "AAA:09/27")
 
@@ -169,10 +258,15 @@ abandon,a,7,2
         self.good("oe-say", "-", "--over", self.office, given=b"review\n", desk=PROGRAM)
 
     def test_an_office_without_its_log(self) -> None:
-        """office.db copied without office.db-wal is an empty database."""
-        copy = self.write("copy.db", (self.folder / "office.db").read_bytes())
-        if (self.folder / "office.db-wal").exists():
-            self.fault("copy.db-wal left behind", "oe-say", "-", "--over", copy, given=b"review\n", desk=PROGRAM)
+        """office.db copied without office.db-wal, while a desk has both, is an empty database."""
+        with subprocess.Popen([PROGRAM, "desk", "--db", self.folder / "new.db"], stdin=subprocess.PIPE, stdout=subprocess.PIPE) as open_desk:
+            open_desk.stdin.write(self.RECORDS.encode())
+            open_desk.stdin.flush()
+            for _ in self.RECORDS.splitlines():
+                self.assertTrue(open_desk.stdout.readline())
+            copy = self.write("copy.db", (self.folder / "new.db").read_bytes())
+            open_desk.stdin.close()
+        self.fault("copy.db-wal left behind", "oe-say", "-", "--over", copy, given=b"review\n", desk=PROGRAM)
 
     def test_what_memory_cannot_know(self) -> None:
         out = self.good("oe-say", "-", "--over", self.office, given=b"case,1\n", desk=PROGRAM).out

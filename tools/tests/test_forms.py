@@ -53,9 +53,21 @@ class Replies(unittest.TestCase):
                 self.assertTrue(all(words.say(pair)), pair)
                 kinds.add(type(pair.reply))
                 rules |= {entry.rule.name for entry in pair.reply.entries} if isinstance(pair.reply, Found) else set()
-        # the stored sessions are those of `oe desk`, which has no ceilings
-        self.assertEqual(kinds, set(replies.Reply.__args__) - {replies.Ceiling})
+        # the stored sessions are those of `oe desk`, which has no ceilings; test_say has them, and the last entry
+        self.assertEqual(kinds | {replies.Ceiling, replies.Sync}, set(replies.Reply.__args__))
         self.assertEqual(rules, set(replies.RULES))
+
+    def test_each_rule_is_said_by_its_paragraph(self) -> None:
+        """The name of a rule is its paragraph: 17a2 is 77.17(a)(2). Those of heliports have theirs in docs/SURFACES.md; a traverse way is 77.9(c)."""
+        text = (stored.TOP / "docs" / "SURFACES.md").read_text()
+        for name, rule in replies.RULES.items():
+            raised, number, parts = re.fullmatch(r"(9c-)?([0-9]*)(\w+)", name).groups()
+            if number == "23":
+                (paragraph,) = set(re.findall(rf"^\| `{name}`[^|]*\| (77\.23\([abc]\))", text, re.M))
+            else:
+                paragraph = (f"77.{number}" if number else "") + "".join(f"({part})" for part in parts)
+            self.assertEqual(rule.paragraph, f"77.9(c), {paragraph}" if raised else paragraph, name)
+            self.assertEqual(rule.is_standard, number in ("17", "19", "23"), name)
 
     def test_every_refusal_of_the_document_has_words(self) -> None:
         text = (stored.TOP / "docs" / "RECORDS.md").read_text()
@@ -73,7 +85,7 @@ class Replies(unittest.TestCase):
         for name, form in forms.FORMS.items():
             names = [field.name for field in form]
             self.assertEqual(len(names), len(set(names)), name)
-            self.assertEqual("CALLER" in names, name not in ("screen", "verdict", "airfield", "case", "review", "report"), name)
+            self.assertEqual("CALLER" in names, name not in ("screen", "verdict", "airfield", "case", "review", "sync", "report"), name)
 
     def test_fields_are_found_by_name(self) -> None:
         self.assertEqual(record(1, "fcc,a,b,7,granted,2026-01-31").values["DATE"], "2026-01-31")

@@ -71,17 +71,24 @@ class Points(Trial):
         """The ends are 0.02 degrees apart: the way on the grid is that on the ellipsoid, and a wrong published length is seen."""
         import pyproj
         feet = pyproj.Geod(ellps="GRS80").inv(-73.51, 40.75, -73.49, 40.75)[2] / (1200 / 3937)
-        for published, warned in ((feet, False), (feet + 41, True)):
-            rows = ENDS.replace(",NA,,,,\n", f",NA,,,,{published:.0f}\n")
+        for kind, published, warned in (("NA", feet, False), ("NA", feet + 41, True), ("P", feet, False), ("P", feet + 41, True)):
+            rows = ENDS.replace(f",{kind},,,,\n", f",{kind},,,,{published:.0f}\n")
             ended = self.good("oe-from-points", self.write("points.csv", HEAD + rows), *AT)
             *_, x1, y1, _, _, x2, y2, _, _ = ended.out.strip().split(",")
             self.assertAlmostEqual(math.dist((int(x1), int(y1)), (int(x2), int(y2))) / 10, feet, delta=1)
+            self.assertIn(f"; published {published:,.0f} ft", ended.err)
             self.assertEqual("look at the coordinates" in ended.err, warned, ended.err)
 
     def test_a_pad(self) -> None:
         pad = "pad,PAD1,,40.7425,-73.9722,10,public,,,,,60,,\n"
         (record,) = self.records(pad + pad.replace("73.9722", "73.9719"))
         self.assertRegex(record, r"^heliport,points,p1,PAD1,public,-?[0-9]+,[0-9]+,-?[0-9]+,[0-9]+,600,100$")
+
+    def test_a_way_with_its_traffic(self) -> None:
+        """The traffic's height is in feet too, with a decimal, and 0 where its column is empty or not there."""
+        rows = HEAD.replace("flags", "flags,mobile_ft") + "".join(f"structure,,,40.76,-73.52,30,,,,private,2,,,{mobile},\n" for mobile in ("12.5", ""))
+        out = self.good("oe-from-points", self.write("ways.csv", rows), *AT).out.splitlines()
+        self.assertEqual([record.split(",")[3:7] for record in out], [["300", "20", "private", "125"], ["300", "20", "private", "0"]])
 
     def test_a_kept_grid(self) -> None:
         self.records(AIRPORT, *AT, "--grid", "office.grid")
@@ -106,7 +113,8 @@ class Points(Trial):
                 (AIRPORT.replace("40.75", "404500N"), "line 2 (TST), lat"), (AIRPORT.replace("40.75", ""), '"airport" wants lat'),
                 (AIRPORT.replace("public", "PU"), 'line 2: CATEGORY "PU"; wanted is public'), (AIRPORT.replace("TST", "tst"), 'ID "tst"'),
                 (AIRPORT.replace("airport,", "aiport,"), 'what is "aiport"'), (ENDS.splitlines()[0] + "\n", "line 2: TST 09/27 has one end"),
-                (ENDS.replace("hard,NA", "soft,NA"), 'differ in surface: "hard" and "soft"'), (ENDS.replace("NA", "PIR"), 'KIND2 "PIR"'),
+                (ENDS.replace("hard,NA", "soft,NA"), 'differ in surface: "hard" and "soft"'),
+                (ENDS.replace("P,,,,", "P,,,,5000").replace("NA,,,,", "NA,,,,5001"), "differ in published_ft: 5000 and 5001"), (ENDS.replace("NA", "PIR"), 'KIND2 "PIR"'),
                 (TOWER.replace("250.5", ""), '"structure" wants height_ft'), (TOWER.replace("250.5", "11000"), 'HEIGHT "110000"'),
                 ("", "there is no point in it")):
             self.refused(words, rows)

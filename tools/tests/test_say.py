@@ -79,6 +79,12 @@ class Say(Trial):
                       "read `screen` records, and this is `review`\n"):
             self.assertIn(words, out)
 
+    def test_the_last_entry(self) -> None:
+        out = self.said("sync\n" + TWO + "sync\nsync,\n", "sync,0\nok,1,published,airport\nok,2,published,runway\nsync,2\nno,13,Malformed,2\n")
+        for words in ("line 1: sync\n    no change was accepted yet: was --db forgotten, or another file named?\n",
+                      "line 4: sync\n    the last accepted change is entry 2\n", "at field 2: sync has 1 field ("):
+            self.assertIn(words, out)
+
     def test_replies_of_another_file(self) -> None:
         records = self.write("in", TWO)
         for replies, words in (("ok,1,published,airport\n", "the replies end before line 2"), ("ok,1,published,airport\n" * 2, "another sort"),
@@ -104,6 +110,15 @@ class Cautions(Trial):
         self.assertIn(EMPTY, self.said("day,a,1,2026-01-15\nscreen,0,0,0,2500,object,0,-,-\n", "ok,1,published,day\nfound,1,1,9a - - 500\n"))
         self.assertIn(EMPTY, self.said("verdict,0,0,0,2500,object,0,-,-\n", "verdict,0,yes,no,1\n"))
         self.assertIn(EMPTY, self.said("airport,a,1,AAA,public,0,0,999999\nscreen,0,0,0,2500,object,0,-,-\n", "no,9,ElevationRange\nfound,0,0\n"))
+
+    def test_places_of_ceilings(self) -> None:
+        """The height 0 of a place is no mistake; an empty desk, a misspelt airfield and a flag are."""
+        site = "screen,0,0,1000,0,object,0,"
+        self.assertIn(EMPTY, self.said(f"{site}-,-\n", "ceiling,0,2000,1,9a - - 1\n"))
+        self.assertNotIn("CAUTION", self.said(f"{site}-,-\n", "ceiling,2,1020,1,9b1 AAA 09/27 1\n"))
+        self.assertNotIn("CAUTION", self.said(f"{site}-,AAA\n", "ceiling,2,-,1,9d AAA - 0\n"))
+        self.assertIn("is AAB registered", self.said(f"{site}-,AAB\n", "ceiling,2,1020,1,9b1 AAA 09/27 1\n"))
+        self.assertIn("flag S, D or R", self.said(f"{site}S,-\n", "ceiling,2,1500,1,19a AAA - 0\n"))
 
     def test_airfields_of_a_file_before(self) -> None:
         """Where the desk has changes that this file does not have, nothing is said of an empty one."""

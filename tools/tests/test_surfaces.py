@@ -2,18 +2,22 @@
 import importlib.util
 import math
 import random
+import re
 import unittest
 from collections.abc import Iterable
+from dataclasses import dataclass
 
 from office import desk, reaches
+from office.picture import LOOKS
 from office.records import records
-from office.profile import Options, Side
-from office.register import Airfield, Airport, Register, register_after
+from office.register import Airfield, Airport, Heliport, Point, Register, register_after
 from office.replies import Found
-from office.surfaces import APPROACH_SIZE, CONE_REACH, PRIMARY_WIDTH, AirportSurfaces, ApproachSize, contains
+from office.sides import HeliportSide, RunwaySide, Side, Trace
+from office.surfaces import APPROACH_SIZE, CONE_REACH, PRIMARY_WIDTH, AirportSurfaces, ApproachSize, Look, contains, surfaces_of
 from tests import drawn, stored
 from tests.trial import PROGRAM
 
+PARTS = (.02, .31, .5, .77, .98)  # of a straight line
 TALL = 100_000  # tenths of a foot; over all surfaces of these airfields
 AIRFIELDS = """airport,a,1,BIG,public,0,0,206
 runway,a,2,BIG,04/22,other,hard,-31847,-29187,206,P,5463,29566,121,P
@@ -23,7 +27,40 @@ runway,a,5,SMALL,09/27,utility,soft,-5012000,1000,1000,V,-4988000,-2000,1012,NL
 runway,a,6,SMALL,18,other,soft,-5000000,60000,1000,NL,-4999000,100000,900,V
 heliport,a,7,PAD,public,5000000,0,5000800,600,1000,50
 heliport,a,8,BASE,dod,5000000,5000000,5001000,5000000,5000,50
+heliport,a,9,CAMP,military,-5000000,-5000000,-5000200,-4999700,400,-120
 """
+
+
+def airfields() -> dict[str, Airfield]:
+    told = [f"ok,{number},published,{line.partition(',')[0]}" for number, line in enumerate(AIRFIELDS.splitlines(), 1)]
+    return register_after(desk.pair_up(records(AIRFIELDS.encode()), told, "airfields")).airfields
+
+
+def sides_of(airfield: Airfield, has_notice: bool) -> list[Side]:
+    if isinstance(airfield, Airport):
+        return [RunwaySide(airfield, name, True, has_notice) for name in airfield.runways]
+    return [HeliportSide(airfield, has_notice)]
+
+
+@dataclass(frozen=True)
+class Sample:
+    """A point below a line of a profile, with the rule that the line stands for and its height there."""
+    rule: str
+    at: Point
+    height: float
+
+
+def samples(side: Side, trace: Trace) -> list[Sample]:
+    """Points of a trace between its ends. Of a transitional surface, whose edge is drawn, 1 ft within it at both sides, half a foot lower."""
+    word, is_runway = trace.words.partition(" ")[0], isinstance(side, RunwaySide)
+    rule = {"approach": "19d" if is_runway else "23a", "horizontal": "19a", "conical": "19b", "notice": "9b1" if is_runway else "9b3"}.get(word, "19c" if is_runway else "23p")
+    is_edge = trace.colour == LOOKS[Look.TRANSITIONAL].line
+    places = trace.line[1:-1]  # of a surface that is drawn through many
+    if len(trace.line) <= 4:
+        places = [(a + (b - a) * part, low + (high - low) * part) for (a, low), (b, high) in zip(trace.line, trace.line[1:]) for part in PARTS if a != b]
+    if is_edge:
+        return [Sample("23t", side.line.at(along, left), height - .5) for along, height in places for left in (-249, 249)]
+    return [Sample(rule, side.line.at(along), height) for along, height in places]
 
 
 def asked_about(airfield: Airfield, count: int, spread: float, seed: int) -> list[tuple[int, int]]:
@@ -50,6 +87,13 @@ class Tables(unittest.TestCase):
             for kind in kinds.split():
                 said[use, kind] = ApproachSize(int(outer) / 10, int(length) / 10, int(slope.split()[0]))
         self.assertEqual(said, APPROACH_SIZE)
+
+    def test_circles(self) -> None:
+        text = (stored.TOP / "docs" / "SURFACES.md").read_text()
+        level = re.search(r"`d <= ([0-9,]+)` \(3 nautical miles\)", text)[1]
+        hundredths, mile = re.search(r"`100\*d <= ([0-9]+)\*([0-9,]+)`", text).groups()
+        self.assertAlmostEqual(reaches.LEVEL_CIRCLE * 10, int(level.replace(",", "")))
+        self.assertAlmostEqual(reaches.LAST_CIRCLE * 1000, int(hundredths) * int(mile.replace(",", "")))
 
 
 class Stored(unittest.TestCase):
@@ -111,9 +155,7 @@ class Stored(unittest.TestCase):
 
 class Outlines(unittest.TestCase):
     def airports(self) -> Iterable[AirportSurfaces]:
-        told = [f"ok,{number},published,{line.partition(',')[0]}" for number, line in enumerate(AIRFIELDS.splitlines(), 1)]
-        airfields = register_after(desk.pair_up(records(AIRFIELDS.encode()), told, "airfields")).airfields
-        return [AirportSurfaces(airfield) for airfield in airfields.values() if isinstance(airfield, Airport)]
+        return [AirportSurfaces(airfield) for airfield in airfields().values() if isinstance(airfield, Airport)]
 
     @unittest.skipUnless(importlib.util.find_spec("shapely"), "shapely is missing")
     def test_the_hull_is_shapelys(self) -> None:
@@ -144,17 +186,13 @@ class Outlines(unittest.TestCase):
 
     def test_profiles_are_the_areas(self) -> None:
         """Each line of a profile lies on its surface as the plan has it, between its ends."""
-        for airport in self.airports():
-            for runway in airport.runways:
-                side, areas = Side(airport.airport, runway.runway.name, Options(None, "", 0, whole=True)), airport.areas
+        for airfield in airfields().values():
+            areas = surfaces_of(airfield).areas
+            for side in sides_of(airfield, has_notice=False):
                 for trace in side.traces():
-                    rules = {"approach": ("19d",), "horizontal": ("19a",), "conical": ("19b",)}.get(trace.words.partition(" ")[0], ("19c",))
-                    (a, low), (b, high) = trace.line[0], trace.line[-1]
-                    places = trace.line[1:-1] if len(trace.line) > 4 else [((a + b) / 2, (low + high) / 2)]
-                    for along, height in places:
-                        at = runway.line.at(along)
-                        there = [area.height(at) for area in areas if area.rule in rules and area.covers(at)]
-                        self.assertTrue(any(abs(one - height) < 0.2 for one in there), (trace.words, at, height, there))
+                    for sample in samples(side, trace):
+                        there = [area.height(sample.at) for area in areas if area.rule == sample.rule and area.covers(sample.at)]
+                        self.assertTrue(any(abs(one - sample.height) < 0.2 for one in there), (trace.words, sample, there))
 
     def test_contains(self) -> None:
         square = [(0, 0), (10, 0), (10, 10), (0, 10)]
@@ -165,7 +203,20 @@ class Outlines(unittest.TestCase):
 @unittest.skipUnless(PROGRAM, "no program is named")
 class Asked(unittest.TestCase):
     """Drawn points that the program is asked about."""
-    COUNT, SPREADS = 400, {"BIG": (25_000, 6_000), "SMALL": (16_000, 3_000), "PAD": (4_600, 400), "BASE": (4_600, 400)}
+    def test_profiles(self) -> None:
+        """A very tall structure below a line of a profile exceeds the surface by just what it stands above the line."""
+        kept = airfields()
+        some = [(name, sample) for name, airfield in kept.items() for side in sides_of(airfield, isinstance(airfield, Heliport))
+                for trace in side.traces() for sample in samples(side, trace)]
+        asked = AIRFIELDS + "".join(f"screen,{round(one.at[0] * 10)},{round(one.at[1] * 10)},0,{TALL},object,0,-,-\n" for _, one in some)
+        pairs = [pair for pair in desk.asked(asked.encode(), [], "profiles", PROGRAM) if isinstance(pair.reply, Found)]
+        self.assertEqual(len(pairs), len(some))
+        for (name, one), pair in zip(some, pairs):
+            above = [entry.excess / 10 for entry in pair.reply.entries if (entry.airfield, entry.rule.name) == (name, one.rule)]
+            self.assertTrue(any(abs(TALL / 10 - excess - one.height) < drawn.ROUNDED for excess in above), (name, one, above))
+        self.assertEqual({one.rule for _, one in some}, {"19a", "19b", "19c", "19d", "23p", "23a", "23t", "9b3"})
+
+    COUNT, SPREADS = 400, {"BIG": (42_000, 25_000, 6_000), "SMALL": (16_000, 3_000), "PAD": (4_600, 400), "BASE": (4_600, 400), "CAMP": (4_600, 400)}
 
     def test_drawn_points(self) -> None:
         register = register_after(desk.asked(AIRFIELDS.encode(), [], "airfields", PROGRAM))

@@ -31,7 +31,6 @@ fits_tail first (steps.Cut len) older h = (and_parts _ _ h).1
 fits_tail first (steps.Tore at bytes) older h = h
 fits_tail first (steps.Frayed len) older h = h
 fits_tail first steps.Synced older h = h
-fits_tail first steps.Other older h = h
 
 fits_drop : (first : List ℕ) (n : ℕ) (done : List Step) → fits first done ≡ true → fits first (drop n done) ≡ true
 fits_drop first zero done h = h
@@ -44,7 +43,6 @@ in_place first (steps.Cut len) older read is h = let le : len ≤ length (replay
 in_place first (steps.Tore at bytes) older read is h = tt
 in_place first (steps.Frayed len) older read is h = tt
 in_place first steps.Synced older read is h = tt
-in_place first steps.Other older read is h = tt
 
 -- the calls so far, oldest first, have made these bytes, and these are one image of them
 pub record IsImage (first : List ℕ) (done : List Step) (so_far : ℕ) (left read : List ℕ) : Type 0 where

@@ -51,7 +51,6 @@ replay_left first (steps.Tore at bytes ∷ older) h = (replay first older, repla
 replay_left first (steps.Cut len ∷ older) h = let both = and_parts _ _ h in (replay first older, replay_left first older both.1, cut_done len (replay first older))
 replay_left first (steps.Frayed len ∷ older) h = (replay first older, replay_left first older h, cut_not len (replay first older))
 replay_left first (steps.Synced ∷ older) h = refl
-replay_left first (steps.Other ∷ older) h = replay_left first older h
 
 -- what a read gives is one of the things that a crash may leave
 pub bytes_left : (d : MemoryDisk) → Leaves d.first.items d.steps.items d.bytes.items

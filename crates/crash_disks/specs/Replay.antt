@@ -13,7 +13,6 @@ replay first (steps.Cut len ∷ older) = take len (replay first older)
 replay first (steps.Tore at bytes ∷ older) = replay first older
 replay first (steps.Frayed len ∷ older) = replay first older
 replay first (steps.Synced ∷ older) = replay first older
-replay first (steps.Other ∷ older) = replay first older
 
 -- each write was at a place within the file, each cut to a length within it
 abbrev pub fits : List ℕ → List Step → Bool
@@ -23,7 +22,6 @@ fits first (steps.Cut len ∷ older) = nat_le len (length (replay first older)) 
 fits first (steps.Tore at bytes ∷ older) = fits first older
 fits first (steps.Frayed len ∷ older) = fits first older
 fits first (steps.Synced ∷ older) = fits first older
-fits first (steps.Other ∷ older) = fits first older
 
 -- a write at a place within these bytes, or a cut to a length within them, or another call
 abbrev pub InPlace : Step → List ℕ → Type 0
@@ -32,7 +30,6 @@ InPlace (steps.Cut len) read = len ≤ length read
 InPlace (steps.Tore at bytes) read = Unit {0}
 InPlace (steps.Frayed len) read = Unit {0}
 InPlace steps.Synced read = Unit {0}
-InPlace steps.Other read = Unit {0}
 
 -- what a crash after the calls may leave
 abbrev pub Leaves : List ℕ → List Step → List ℕ → Type 0
@@ -42,7 +39,6 @@ Leaves first (steps.Tore at bytes ∷ older) c = After (Torn at (length bytes.it
 Leaves first (steps.Cut len ∷ older) c = After (Cut len) (Leaves first older) c
 Leaves first (steps.Frayed len ∷ older) c = After (Cut len) (Leaves first older) c
 Leaves first (steps.Synced ∷ older) c = c ≡ replay first older
-Leaves first (steps.Other ∷ older) c = Leaves first older c
 
 -- what a crash after the first t calls or more might have left
 abbrev pub LeftAfter : List ℕ → List Step → ℕ → List ℕ → Type 0

@@ -59,7 +59,6 @@ fn left_after(
         Step::Cut { len } => fray(alloc, left, *len, pick),
         Step::Frayed { len } => fray(alloc, left, *len, pick),
         Step::Synced => Ok(Vec::from_slice(alloc, read)?),
-        Step::Other => Ok(Vec::from_slice(alloc, left)?),
     }
 }
 

@@ -1,6 +1,6 @@
 //! What was done to a disk.
 
-/// A call of a disk.
+/// A call of a disk that may change its bytes, or what a crash may leave of them.
 #[derive(Debug, Drop)]
 pub(crate) enum Step {
     /// The bytes were written at the place.
@@ -13,6 +13,4 @@ pub(crate) enum Step {
     Frayed { len: u64 },
     /// All was put on the disk.
     Synced,
-    /// The bytes were not touched: an open, a size, a read, a sync that failed.
-    Other,
 }

@@ -35,6 +35,10 @@ abbrev pub entry_of : List ℕ → List ℕ → List Entry → Option Entry
 entry_of caller key [] = None
 entry_of caller key (e ∷ es) = cond (pointwise nat_eq e.change.caller caller && pointwise nat_eq e.change.key key) (Some e) (entry_of caller key es)
 
+-- the entry of this number
+abbrev pub entry_at : List Entry → ℕ → Option Entry
+entry_at entries number = cond (number == 0) None (slice_get entries (number - 1))
+
 abbrev pub cases_changed_at : ℕ → (KeptCase → KeptCase) → List KeptCase → Option KeptCase → List KeptCase
 cases_changed_at number f cases None = cases
 cases_changed_at number f cases (Some c) = slice_set cases (number - 1) (f c)

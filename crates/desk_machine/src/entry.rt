@@ -1,6 +1,12 @@
 //! Accepted requests.
 
+ghost use Rattle.std.specs.Prelude.{◌≡◌, IfOk};
+
 use case_records::Outcome;
+use grid_exact::NoMemory;
+use oe_findings::Sky;
+use std::alloc::Global;
+use tree_versions::Version;
 use wire_requests::Change;
 
 /// The greatest number of cases.
@@ -13,4 +19,28 @@ pub struct Entry {
     pub number: u64,
     pub change: Change,
     pub outcome: Outcome,
+}
+
+impl Entry {
+    /// The same entry once more.
+    ///
+    /// # Errors
+    ///
+    /// `NoMemory` where memory was refused.
+    pub fn copy(&self, alloc: Global) -> Result<Entry, NoMemory>
+        ensures { IfOk result (λ e. e ≡ self.now) }
+    {
+        Ok(Entry {
+            number: self.number,
+            change: self.change,
+            outcome: self.outcome.copy(alloc)?,
+        })
+    }
+}
+
+impl Version<Entry> for Sky {
+    ghost use Rattle.std.specs.Prelude.{◌≡◌};
+    ghost use Rattle.desk_machine.specs.Fronts.{register_after_act};
+
+    ghost follows = { λ old e new. new ≡ register_after_act old e.change.act };
 }

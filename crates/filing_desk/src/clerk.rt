@@ -4,7 +4,7 @@ ghost use Rattle.std.specs.Prelude.{◌≡◌, ◌≤◌, List, IfOk, drop, leng
 ghost use Rattle.desk_machine.specs.Reports.{IsExpiryOrder, expiry_rows, review_rows};
 ghost use Rattle.oe_reports.specs.Tables.{expiry_table, review_table};
 ghost use Rattle.oe_reports.specs.declared.rows.ExpiryRow.{ExpiryRow};
-ghost use Rattle.desk_machine.specs.States.{case_at, last_number};
+ghost use Rattle.desk_machine.specs.States.{case_at, entry_at, last_number};
 ghost use Rattle.desk_machine.specs.Evaluations.{site_of};
 ghost use Rattle.desk_machine.specs.Machine.{decide};
 ghost use Rattle.desk_machine.specs.Marks.{case_view, marks};
@@ -18,6 +18,7 @@ use crate::evaluated::{Evaluated, given_told};
 use crate::office::Office;
 use airfields::Filing;
 use case_records::{CaseList, CaseView};
+use desk_machine::Entry;
 use grid_exact::{NoMemory, Text};
 use oe_findings::Sky;
 use oe_keeper::Keeper;
@@ -173,6 +174,23 @@ impl<K: Keeper> Clerk<K> {
         ensures { result ≡ last_number self.now.state }
     {
         self.office.accepted()
+    }
+
+    /// The entry of this number; `None` exactly where there is none.
+    pub fn entry(&self, number: u64) -> Option<&Entry>
+        ensures { option_copied result ≡ entry_at self.now.state.entries number }
+    {
+        if number == 0 {
+            return None;
+        }
+        self.office.desk.receipts.at(number as usize - 1)
+    }
+
+    /// Shows to a proof that rows can spell the desk.
+    pub fn is_storable(&self)
+        ensures { IsDesk self.now.state }
+    {
+        let _ = &self.base;
     }
 
     /// The number of the last entry at the opening. The later entries were accepted since, and the state is the replay of their requests

@@ -1,6 +1,6 @@
 //! The accepted requests.
 
-ghost use Rattle.std.specs.Prelude.{◌≡◌, ◌<◌, ◌+◌, ◌∷◌, ◌++◌, [], Some, None, IfOk, IfErr, OnOk, OnErr, option_copied, length, take};
+ghost use Rattle.std.specs.Prelude.{◌≡◌, ◌<◌, ◌+◌, ◌∷◌, ◌++◌, [], Some, None, IfOk, IfErr, OnOk, OnErr, option_copied, length, slice_get, take};
 ghost use Rattle.std.specs.BTreeMap.{Updates, IsUnchanged};
 ghost use Rattle.determination_dates.specs.Days.{IsLimited};
 ghost use Rattle.determination_dates.specs.Closed.{with_day};
@@ -123,6 +123,13 @@ impl Receipts {
         ensures { result ≡ length self.now }
     {
         self.entries.len()
+    }
+
+    /// The entry at this index.
+    pub fn at(&self, place: usize) -> Option<&Entry>
+        ensures { option_copied result ≡ slice_get self.now place }
+    {
+        self.entries.get(place)
     }
 
     /// The entry of this caller's key.

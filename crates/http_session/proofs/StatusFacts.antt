@@ -51,3 +51,4 @@ reply_has (replies.Verdict last verdict) = refl
 reply_has (replies.Case view) = refl
 reply_has (replies.Airfield row) = refl
 reply_has (replies.Review cases) = refl
+reply_has (replies.Synced last) = refl

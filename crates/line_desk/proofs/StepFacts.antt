@@ -7,7 +7,8 @@ use Rattle.wire_requests.specs.declared.request.Request.{Request}
 use Rattle.case_records.specs.declared.refusal.Refusal.TheVariants as refusals
 use Rattle.wire_replies.specs.declared.reply.Reply.TheVariants as replies
 use Rattle.filing_desk.specs.Keepers.{IsLater}
-use Rattle.line_desk.specs.Desk.{Answers, Serving, Blank, Told, Refused, Wanting, Step, Served, Tells, Decided, NoRoom, NotKept, no_memory, not_kept}
+use Rattle.desk_queries.specs.Queries.{no_memory}
+use Rattle.line_desk.specs.Desk.{Answers, Serving, Blank, Told, Refused, Wanting, Step, Served, Tells, Decided, NoRoom, NotKept, not_kept}
 
 pub some_bytes : (b : Bool) (line : List ℕ) → b ≡ (length line == 0) → b ≡ false → 0 < length line
 some_bytes b [] e f = absurd (cc (e, f))

@@ -1,28 +1,15 @@
 -- The desk's answers, line by line.
-use Rattle.std.specs.Prelude.{ℕ, ◌≡◌, ◌≢◌, List, [], ◌++◌, Option, Some, None, true}
-use Rattle.airport_register.specs.Amendments.{airfield_at}
-use Rattle.airfields.specs.declared.airfield.Airfield.{Airfield}
-use Rattle.oe_findings.specs.List.{findings_of}
-use Rattle.finding_lists.specs.Verdicts.{verdict_of}
+use Rattle.std.specs.Prelude.{ℕ, ◌≡◌, ◌≢◌, List, [], ◌++◌, true}
 use Rattle.oe_keeper.specs.Kept.{Kept}
 use Rattle.wire_requests.specs.Changes.{Asked}
 use Rattle.wire_requests.specs.Requests.{IsRecord, IsMalformed}
 use Rattle.wire_replies.specs.Replies.{reply_text}
-use Rattle.wire_replies.specs.Rows.{airfield_row}
-use Rattle.wire_requests.specs.declared.request.Query.{Query}
-use Rattle.wire_requests.specs.declared.request.Query.TheVariants as queries
 use Rattle.wire_requests.specs.declared.request.Request.{Request}
 use Rattle.wire_requests.specs.declared.request.Request.TheVariants as requests
-use Rattle.case_records.specs.declared.case.CaseView.{CaseView}
 use Rattle.case_records.specs.declared.refusal.Refusal.TheVariants as refusals
-use Rattle.desk_machine.specs.States.{State, last_number}
-use Rattle.desk_machine.specs.Marks.{case_view, marks}
-use Rattle.desk_machine.specs.Reports.{IsExpiryOrder, expiry_rows, review_rows}
-use Rattle.oe_reports.specs.Tables.{airfield_table, expiry_table, review_table}
-use Rattle.oe_reports.specs.declared.rows.ExpiryRow.{ExpiryRow}
-use Rattle.wire_values.specs.declared.report.ReportKind.{ReportKind}
-use Rattle.wire_values.specs.declared.report.ReportKind.TheVariants as reports
+use Rattle.desk_machine.specs.States.{State}
 use Rattle.desk_machine.specs.Machine.{state_after}
+use Rattle.desk_queries.specs.Queries.{IsQueryReply, no_memory}
 use Rattle.filing_desk.specs.Answers.{answer_of, decision, MakesEntry}
 use Rattle.filing_desk.specs.Clerks.{Clerking}
 use Rattle.filing_desk.specs.Handed.{Told as ToldRows}
@@ -37,31 +24,6 @@ abbrev pub change_reply : Answer → Reply
 change_reply (answers.Accepted entry outcome) = replies.Accepted entry true outcome
 change_reply (answers.Refused why) = replies.Refused why
 
--- the status of a case, and whether it is marked for review
-abbrev pub case_reply : Option CaseView → Reply
-case_reply None = replies.Refused refusals.UnknownCase
-case_reply (Some view) = replies.Case view
-
--- the row of an airfield
-abbrev pub airfield_reply : Option Airfield → Reply
-airfield_reply None = replies.Refused refusals.UnknownAirfield
-airfield_reply (Some field) = replies.Airfield (airfield_row field)
-
--- the report of the marked cases, that of the determinations that have an expiry, in order of expiry and case, and that of the airfields
-abbrev pub IsReport : State → ReportKind → Reply → Type 0
-IsReport s reports.Review reply = reply ≡ replies.Report (review_table (review_rows s))
-IsReport s reports.Expiry reply = (rows : List ExpiryRow) × IsExpiryOrder (expiry_rows s) rows × (reply ≡ replies.Report (expiry_table rows))
-IsReport s reports.Airfields reply = reply ≡ replies.Report (airfield_table s.register)
-
--- a screening is answered with the findings over the present airfields, or with their verdict
-abbrev pub IsQueryReply : State → Query → Reply → Type 0
-IsQueryReply s (queries.Screen site) reply = reply ≡ replies.Found (last_number s) (findings_of s.register site)
-IsQueryReply s (queries.Verdict site) reply = reply ≡ replies.Verdict (last_number s) (verdict_of (findings_of s.register site))
-IsQueryReply s (queries.Case number) reply = reply ≡ case_reply (case_view s number)
-IsQueryReply s queries.Review reply = reply ≡ replies.Review (marks s)
-IsQueryReply s (queries.Airfield id) reply = reply ≡ airfield_reply (airfield_at s.register id)
-IsQueryReply s (queries.Report kind) reply = IsReport s kind reply
-
 -- the reply to a request, and the state after it
 abbrev pub IsReply : State → Request → Reply → Type 0
 IsReply s (requests.Query query) reply = IsQueryReply s query reply
@@ -71,10 +33,7 @@ abbrev pub after_request : State → Request → State
 after_request s (requests.Query query) = s
 after_request s (requests.Change change) = state_after s (decision s change)
 
--- the refusal for lack of memory, and the one for a failed keeper; they change nothing
-abbrev pub no_memory : Reply
-no_memory = replies.Refused refusals.NoMemory
-
+-- the refusal for a failed keeper, which changes nothing
 abbrev pub not_kept : Reply
 not_kept = replies.Refused refusals.KeeperFault
 

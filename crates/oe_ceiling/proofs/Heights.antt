@@ -1,8 +1,8 @@
 -- The greatest height without a finding: it is one, and at most 499 feet.
-use Rattle.std.proofs.Common.{◌≡◌, ◌↔◌, ◌∙◌, ap, refl, ℕ, length, ℤ, pos, ◌+ℤ◌, ◌≤ℤ◌, ◌<ℤ◌, arith, true, false, cond, inl, inr, Option, Some, None, List, [], ◌∷◌, ◌++◌}
-use Rattle.std.specs.Prelude.{IfSome, IsTrue, int_lt, nat_eq}
+use Rattle.std.proofs.Common.{◌≡◌, ℤ, pos, ◌+ℤ◌, ◌≤ℤ◌, ◌<ℤ◌, arith, true, false, cond, inl, inr, Option, Some, None, List, ◌++◌}
+use Rattle.std.specs.Prelude.{IfSome, int_lt}
 use Rattle.std.specs.List.{flat_map}
-use Rattle.std.proofs.lemmas.Bool.{cases_Bool, eqb-true}
+use Rattle.std.proofs.lemmas.Bool.{cases_Bool}
 use Rattle.std.proofs.lemmas.Int.{ints, by_lt_z}
 use Rattle.grid_exact.proofs.TestFacts.{lt_out}
 use Rattle.airfields.specs.Sites.{IsSite, Site}
@@ -13,12 +13,9 @@ use Rattle.height_rules.specs.AboveGround.{height_excess, height_limit}
 use Rattle.height_rules.specs.Heights.{allowance_of, notice_top, standards_top, top_raised_by}
 use Rattle.height_rules.specs.declared.above_ground.TheConstants.{OBSTRUCTION_HEIGHT}
 use Rattle.height_rules.specs.declared.heights.TheConstants.{PRIVATE_RAISED}
-use Rattle.finding_lists.specs.Verdicts.{verdict_of}
-use Rattle.finding_lists.specs.declared.finding.Finding.{Finding}
 use Rattle.finding_lists.specs.declared.finding.Rule.TheVariants as rules
-use Rattle.finding_lists.specs.declared.verdict.Verdict.{Verdict}
 use Rattle.airfield_findings.specs.Entries.{entries, no_key, of_airfield}
-use Rattle.oe_findings.specs.List.{findings_of, notices_if_due}
+use Rattle.oe_findings.specs.List.{notices_if_due}
 use Rattle.oe_ceiling.specs.Ceilings.{at_height, IsCeiling, IsCeilingOf, IsClear}
 use Rattle.oe_ceiling.proofs.Lowering.{no_excess, no_first}
 use Rattle.oe_ceiling.proofs.ListsBelow.{clear_below}
@@ -68,14 +65,3 @@ at_most airfields s height site h = by_lt_z OBSTRUCTION_HEIGHT height (λ l. abs
 pub not_negative : (airfields : List Airfield) (s : Site) (o : Option ℤ) → IsCeilingOf airfields s o → IfSome o (λ height. pos 0 ≤ℤ height)
 not_negative airfields s None h = tt
 not_negative airfields s (Some height) h = h.not_negative
-
--- ---- what one verdict tells
-empty_by : (list : List Finding) (n : ℕ) → n ≡ length list → IsTrue (nat_eq n 0) ↔ list ≡ []
-empty_by [] n e = (λ _. refl, λ _. rw e refl)
-empty_by (f ∷ fs) n e = (λ t. absurd (let k : n ≡ 0 = eqb-true n 0 t in omega (arith, e, k)), λ q. absurd (cc))
-
-pub clear_by : (airfields : List Airfield) (s : Site) (height : ℤ) (v : Verdict) (at : Site) → v ≡ verdict_of (findings_of airfields at) → at ≡ at_height s height → IsTrue (nat_eq v.entries 0) ↔ IsClear airfields s height
-clear_by airfields s height v at h q =
-    let list = findings_of airfields (at_height s height) in
-    let k : v ≡ verdict_of list = h ∙ ap (λ (f : Site). verdict_of (findings_of airfields f)) q in
-    empty_by list v.entries (ap (λ (w : Verdict). w.entries) k)

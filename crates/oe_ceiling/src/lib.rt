@@ -7,5 +7,5 @@ mod laws;
 mod search;
 mod site;
 
-pub use laws::lower_is_clear;
+pub use laws::{lower_is_clear, numbers};
 pub use search::{HALVINGS, LISTS, binding, ceiling, findings_above};

@@ -41,5 +41,5 @@ pub(crate) fn is_clear<L: Ledger>(
     ensures near { (n : ℕ) → AreNear sky.now filing.now.at n
         → steps.new ≤ steps.old + (TOP_LEVEL + 1 + n) }
 {
-    sky.verdict(&at_height(filing, height), steps).entries == 0
+    sky.is_clear(&at_height(filing, height), steps)
 }

@@ -5,6 +5,7 @@ pub mod Holding
 pub mod Sights
 pub mod Counts
 pub mod Standards
+pub mod Clears
 pub mod OutsideFacts
 pub mod Nears
 pub mod LeftOut

@@ -75,10 +75,10 @@ no_airfield rule None = All-nil (λ (e : Finding). e.key.field ≡ None)
 no_airfield rule (Some n) = All-cons (λ (e : Finding). e.key.field ≡ None) (record { rule = rule; key = no_key; excess = n }) [] refl (All-nil (λ (e : Finding). e.key.field ≡ None))
 
 -- what an airfield without the point gives
-no_standards : (site : Site) (x : Point) → x ≡ site.at → HasLevels site → (p : Prepared) → has_point p.plot.area x ≡ false → of_airfield site (airfield_of p) ≡ []
+pub no_standards : (site : Site) (x : Point) → x ≡ site.at → HasLevels site → (p : Prepared) → has_point p.plot.area x ≡ false → of_airfield site (airfield_of p) ≡ []
 no_standards site x at levels p e = p.in_place.standards site levels (ap (has_point p.plot.area) (sym at) ∙ e)
 
-no_slopes : (site : Site) (x : Point) → x ≡ site.at → HasLevels site → (p : Prepared) → has_point p.plot.area x ≡ false → slope_entries site (airfield_of p) ≡ []
+pub no_slopes : (site : Site) (x : Point) → x ≡ site.at → HasLevels site → (p : Prepared) → has_point p.plot.area x ≡ false → slope_entries site (airfield_of p) ≡ []
 no_slopes site x at levels p e = p.in_place.slopes site levels (ap (has_point p.plot.area) (sym at) ∙ e)
 
 -- what a visit gathers is what all airfields give

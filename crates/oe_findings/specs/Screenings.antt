@@ -1,9 +1,10 @@
 -- For proofs alone: the entries that a screening has collected.
-use Rattle.std.specs.Prelude.{◌≡◌, List, [], ◌∷◌, ◌++◌, Bool, true, false, nat_eq, if◌then◌else◌}
+use Rattle.std.specs.Prelude.{◌≡◌, List, [], ◌∷◌, ◌++◌, ◌&&◌, ◌||◌, Bool, true, false, is_some, nat_eq, if◌then◌else◌}
 use Rattle.std.specs.List.{flat_map}
 use Rattle.airfields.specs.Sites.{Site}
 use Rattle.airfields.specs.declared.airfield.Airfield.{Airfield}
 use Rattle.height_rules.specs.AboveGround.{notice_excess, height_excess}
+use Rattle.notice_slopes.specs.OnAirfields.{is_on_described}
 use Rattle.airfield_plots.specs.declared.plots.TheConstants.{SMALL_LEVEL}
 use Rattle.airfield_findings.specs.Entries.{entries, no_key, of_airfield, slope_entries}
 use Rattle.finding_lists.specs.Orders.{merged_list}
@@ -26,11 +27,25 @@ slopes_over site due airfields = if due then entries (rule_a site) no_key (notic
 abbrev pub exceeds_over : Site → List Airfield → Bool
 exceeds_over site airfields = is_obstruction (flat_map (of_airfield site) airfields)
 
+-- ---- whether there is any entry
+
+abbrev pub has_entry : List Finding → Bool
+has_entry [] = false
+has_entry (f ∷ fs) = true
+
+-- the airfield gives an entry: a notice slope where notice is due, or a standard
+abbrev pub gives_entry : Site → Bool → Airfield → Bool
+gives_entry site due f = (due && has_entry (slope_entries site f)) || has_entry (of_airfield site f)
+
+-- there is an entry of no surface: the height of 77.17(a)(1), or 77.9(a) or 77.9(d) where notice is due
+abbrev pub has_lone_entry : List Airfield → Site → Bool → Bool
+has_lone_entry airfields site due = is_some (height_excess site) || (due && (is_some (notice_excess site) || is_on_described airfields site))
+
+-- ---- in the order of a visit
+
 -- its plot is stored in the smaller squares
 abbrev pub is_small : Prepared → Bool
 is_small p = nat_eq p.plot.level SMALL_LEVEL
-
--- ---- in the order of a visit
 
 -- the entries collected from these airfields, visited one by one: those of a large one are appended, those of a small one are merged by
 -- its name

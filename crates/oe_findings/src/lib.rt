@@ -4,6 +4,7 @@
 //! Excesses and coordinates are whole tenths of a foot.
 #![tactic(auto)]
 
+mod any_finding;
 mod area_list;
 mod laws;
 mod notices;

@@ -1,7 +1,8 @@
-//! The notice rules without a surface: 77.9(a) and 77.9(d).
+//! The rules without a surface: the notice rules 77.9(a) and 77.9(d), and the height of 77.17(a)(1).
 
 ghost use Rattle.std.specs.Prelude.{◌≡◌, ◌++◌, List, OnOk, OnErr};
 ghost use Rattle.oe_findings.specs.List.{on_airfield, rule_a as rule_a_of};
+ghost use Rattle.oe_findings.specs.Screenings.{has_lone_entry as has_lone_entry_of};
 ghost use Rattle.finding_lists.specs.declared.finding.Finding.{Finding as AFinding};
 
 use airfield_findings::field_key;
@@ -9,6 +10,7 @@ use airfields::Filing;
 use airport_register::Register;
 use finding_lists::{Collector, Finding, Rule};
 use grid_exact::NoMemory;
+use height_rules::{excess_200, excess_499};
 use notice_slopes::rule_d;
 
 /// The rule of 77.9(a) for the structure; a traverse way has it under 77.9(c).
@@ -43,4 +45,12 @@ pub(crate) fn put_on_airfield<C: Collector>(
         })?;
     }
     Ok(())
+}
+
+/// Whether the structure has a finding of no surface: the height of 77.17(a)(1), or 77.9(a) or 77.9(d) where notice is due.
+pub(crate) fn has_lone_entry(register: &Register, filing: &Filing, is_due: bool) -> bool
+    ensures { result ≡ has_lone_entry_of register.now filing.now is_due }
+{
+    excess_499(filing).is_some()
+        || is_due && (excess_200(filing).is_some() || rule_d(register, filing))
 }

@@ -1,6 +1,6 @@
 //! The register with the surfaces of its airfields.
 
-ghost use Rattle.std.specs.Prelude.{◌≡◌, ◌≢◌, ◌≤◌, ◌+◌, ℕ, [], None, Some, IfOk, IfErr, OnOk, OnErr, length, option_map};
+ghost use Rattle.std.specs.Prelude.{◌≡◌, ◌≢◌, ◌≤◌, ◌+◌, ◌↔◌, IsTrue, ℕ, [], None, Some, IfOk, IfErr, OnOk, OnErr, length, option_map};
 ghost use Rattle.std.specs.Arc.{arc_value};
 ghost use Rattle.airport_register.specs.Amendments.{amended_id, first_broken, after_amendment, list_with_replaced};
 ghost use Rattle.airport_register.specs.Changes.{IsChange};
@@ -10,6 +10,7 @@ ghost use Rattle.grid_exact.specs.declared.point.Point.{Point as APoint};
 ghost use Rattle.oe_findings.specs.Nearness.{AreNear, HasOneNear};
 ghost use Rattle.finding_lists.specs.Verdicts.{is_obstruction, verdict_of};
 
+use crate::notices::has_lone_entry;
 use crate::screening::Screening;
 use crate::surroundings::Surroundings;
 use airfields::Filing;
@@ -17,6 +18,7 @@ use airport_register::{AmendRefusal, Amendment, Changed, Register};
 use finding_lists::{Collector, Findings, Verdict};
 use grid_exact::{NoMemory, Steps};
 use height_rules::excess_499;
+use notice_slopes::exempt;
 use std::alloc::Global;
 use std::marker::Model;
 use std::sync::ledger::Ledger;
@@ -62,6 +64,20 @@ impl Sky {
         Ok(Sky {
             register: register.share(alloc)?,
             surroundings: Surroundings::of(alloc, register)?,
+        })
+    }
+
+    /// The same sky once more, which shares what it holds.
+    ///
+    /// # Errors
+    ///
+    /// `NoMemory` where memory was refused.
+    pub fn share(&self, alloc: Global) -> Result<Sky, NoMemory>
+        ensures { IfOk result (λ s. s ≡ self.now) }
+    {
+        Ok(Sky {
+            register: self.register.share(alloc)?,
+            surroundings: self.surroundings.share()?,
         })
     }
 
@@ -208,5 +224,18 @@ impl Sky {
             return true;
         }
         self.surroundings.exceeded(filing, steps)
+    }
+
+    /// Whether that list is empty: the structure has no standard that it exceeds, and no notice rule that it meets. It takes no memory,
+    /// and computes no further excesses once one is found.
+    pub fn is_clear<L: Ledger>(&self, filing: &Filing, steps: &mut Steps<L>) -> bool
+        ensures found { IsTrue result ↔ findings_of self.now filing.now ≡ [] }
+        ensures steps { steps.new ≤ steps.old + (TOP_LEVEL + 1) + length self.now }
+        ensures near { (n : ℕ) → AreNear self.now filing.now.at n
+            → steps.new ≤ steps.old + (TOP_LEVEL + 1) + n }
+    {
+        let is_due = exempt(filing).is_none();
+        !has_lone_entry(&self.register, filing, is_due)
+            && !self.surroundings.has_finding(filing, is_due, steps)
     }
 }

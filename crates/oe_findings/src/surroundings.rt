@@ -2,6 +2,7 @@
 
 ghost use Rattle.std.specs.Prelude.{◌≡◌, ◌≤◌, ◌+◌, ℕ, [], length, IfOk, IfSome, option_map};
 ghost use Rattle.std.specs.Arc.{arc_value};
+ghost use Rattle.std.specs.List.{list_any};
 ghost use Rattle.ordered_list.specs.Ordered.{Rises};
 ghost use Rattle.airfields.specs.Airfields.{IsHeld, id_of};
 ghost use Rattle.airfields.specs.Names.{name_cmp};
@@ -9,8 +10,9 @@ ghost use Rattle.airport_register.specs.Amendments.{list_with_replaced};
 ghost use Rattle.surface_tree.specs.declared.square.TheConstants.{TOP_LEVEL};
 ghost use Rattle.grid_exact.specs.declared.point.Point.{Point as APoint};
 ghost use Rattle.oe_findings.specs.Nearness.{AreNear, HasOneNear};
-ghost use Rattle.oe_findings.specs.Screenings.{exceeds_over, HasGathered, HasSeen};
+ghost use Rattle.oe_findings.specs.Screenings.{exceeds_over, gives_entry, HasGathered, HasSeen};
 
+use crate::any_finding::AnyFinding;
 use crate::obstruction::Obstruction;
 use crate::screening::Screening;
 use airfield_findings::Prepared;
@@ -49,6 +51,15 @@ impl Surroundings {
         Surroundings {
             tree: Tree::empty(alloc),
         }
+    }
+
+    /// The same airfields once more, which are shared.
+    pub(crate) fn share(&self) -> Result<Surroundings, NoMemory>
+        ensures { IfOk result (λ s. s ≡ self.now) }
+    {
+        Ok(Surroundings {
+            tree: self.tree.share()?,
+        })
     }
 
     /// The airfields of a register, each with its surfaces prepared.
@@ -132,5 +143,26 @@ impl Surroundings {
         };
         self.tree.visit(&filing.at, &mut obstruction, steps);
         obstruction.is_found
+    }
+
+    /// Whether a structure has a finding for one of the airfields; a notice slope counts where notice is due.
+    pub(crate) fn has_finding<L: Ledger>(
+        &self,
+        filing: &Filing,
+        is_due: bool,
+        steps: &mut Steps<L>,
+    ) -> bool
+        ensures found { result ≡ list_any (gives_entry filing.now is_due) self.now }
+        ensures steps { steps.new ≤ steps.old + (TOP_LEVEL + 1) + length self.now }
+        ensures near { (n : ℕ) → AreNear self.now filing.now.at n
+            → steps.new ≤ steps.old + (TOP_LEVEL + 1) + n }
+    {
+        let mut any = AnyFinding {
+            structure: Structure::of(filing),
+            is_due,
+            is_found: false,
+        };
+        self.tree.visit(&filing.at, &mut any, steps);
+        any.is_found
     }
 }

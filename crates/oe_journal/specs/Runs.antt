@@ -1,7 +1,7 @@
--- The rows that stand after calls of a journal, and those that a crash may leave while the calls are made.
-use Rattle.std.specs.Prelude.{◌≡◌, ◌⊎◌, ℕ, ◌+◌, ◌-◌, ◌^◌, ◌≤◌, min, Bool, true, false, List, [], ◌∷◌, length, take}
-use Rattle.std.specs.List.{sum_by}
-use Rattle.crash_disks.specs.Crash.{Rose}
+-- What a run of calls of a journal comes to: the rows that stand after each call, and those that a crash leaves at a moment of it.
+use Rattle.std.specs.Prelude.{◌≡◌, ◌⊎◌, ℕ, ◌≤◌, Bool, true, false, List, [], ◌∷◌}
+use Rattle.crash_disks.specs.Crash.{Rose, LeavesDuring}
+use Rattle.change_frames.specs.Frames.{rows_of}
 use Rattle.oe_keeper.specs.Kept.{Kept, rows_after_changes}
 use Rattle.oe_keeper.specs.declared.change.RowChange.{RowChange}
 use Rattle.oe_journal.specs.declared.journal.JournalKeeper.{JournalKeeper}
@@ -23,6 +23,10 @@ pub record Stand : Type 0 where
 abbrev pub just_loaded : Kept → Stand
 just_loaded rows = record { rows = rows; lists = []; is_loaded = true; is_told = true }
 
+-- with one list more that is not acknowledged
+abbrev pub with_unacknowledged : Stand → List RowChange → Stand
+with_unacknowledged stand changes = record { rows = stand.rows; lists = changes ∷ stand.lists; is_loaded = stand.is_loaded; is_told = false }
+
 abbrev pub after_load : Stand → Answer → Stand
 after_load stand (Loaded rows) = just_loaded rows
 after_load stand Applied = stand
@@ -33,7 +37,7 @@ after_load stand Unasked = stand
 abbrev pub after_apply : Stand → List RowChange → Answer → Stand
 after_apply stand changes (Loaded rows) = stand
 after_apply stand changes Applied = record { rows = rows_after_changes stand.rows changes; lists = []; is_loaded = stand.is_loaded; is_told = stand.is_told }
-after_apply stand changes Failed = record { rows = stand.rows; lists = changes ∷ stand.lists; is_loaded = stand.is_loaded; is_told = false }
+after_apply stand changes Failed = with_unacknowledged stand changes
 after_apply stand changes NoMemory = stand
 after_apply stand changes Unasked = stand
 
@@ -56,9 +60,18 @@ HasList base (changes ∷ lists) rows = (rows ≡ rows_after_changes base change
 abbrev pub IsOneOf : Stand → Kept → Type 0
 IsOneOf stand rows = (rows ≡ stand.rows) ⊎ HasList stand.rows stand.lists rows
 
--- what stands after some of the calls
-abbrev pub StandsAfterSome : Stand → List Call → List Answer → Kept → Type 0
-StandsAfterSome start calls answers rows = (n : ℕ) × (n ≤ length answers) × IsOneOf (after_all start calls (take n answers)) rows
+-- What stands while changes are made: they are not acknowledged yet. Those that memory is refused to, or that are not handed on, change nothing.
+abbrev pub while_applied : Stand → List RowChange → Answer → Stand
+while_applied stand changes (Loaded rows) = stand
+while_applied stand changes Applied = with_unacknowledged stand changes
+while_applied stand changes Failed = with_unacknowledged stand changes
+while_applied stand changes NoMemory = stand
+while_applied stand changes Unasked = stand
+
+-- what stands while a call is made that is answered so
+abbrev pub while_made : Stand → Call → Answer → Stand
+while_made stand Load answer = stand
+while_made stand (Apply list) answer = while_applied stand list.items answer
 
 -- a load finds the acknowledged rows, and then at most one list more
 abbrev pub FindsOne : Stand → Answer → Type 0
@@ -68,7 +81,8 @@ FindsOne stand Failed = Unit {0}
 FindsOne stand NoMemory = Unit {0}
 FindsOne stand Unasked = Unit {0}
 
--- Every call is handed to the journal, but for changes where the last load did not answer Ok.
+-- How a call may be answered. A load with rows, as failed, or as refused for memory. Changes as unasked where the last load did not answer Ok, and
+-- as made, failed, or refused for memory where it did. Memory may be refused to each of them.
 abbrev pub IsAsked : Stand → Call → Answer → Type 0
 IsAsked stand Load (Loaded rows) = Unit {0}
 IsAsked stand Load Applied = ⊥
@@ -81,32 +95,6 @@ IsAsked stand (Apply list) Failed = stand.is_loaded ≡ true
 IsAsked stand (Apply list) NoMemory = stand.is_loaded ≡ true
 IsAsked stand (Apply list) Unasked = stand.is_loaded ≡ false
 
--- so it is of each call of a run and its answer, at what stands before the call
-abbrev pub Each : (Stand → Call → Answer → Type 0) → Stand → List Call → List Answer → Type 0
-Each P stand [] answers = Unit {0}
-Each P stand (call ∷ calls) [] = Unit {0}
-Each P stand (call ∷ calls) (answer ∷ answers) = P stand call answer × Each P (after_one stand call answer) calls answers
-
--- each load of a run finds such rows
-abbrev pub FindEach : Stand → List Call → List Answer → Type 0
-FindEach = Each (λ stand call answer. FindsOne stand answer)
-
--- how many calls failed
-abbrev pub failed_once : Answer → ℕ
-failed_once (Loaded rows) = 0
-failed_once Applied = 0
-failed_once Failed = 1
-failed_once NoMemory = 0
-failed_once Unasked = 0
-
-abbrev pub failures : List Answer → ℕ
-failures = sum_by failed_once
-
--- a count never falls, and has risen at least as often as a call failed, or stands at the end of its type
-pub record HasCauses (before now failed : ℕ) : Type 0 where
-  pub later : before ≤ now
-  pub rose : min (before + failed) (2 ^ 64 - 1) ≤ now
-
 -- a count never falls, and has risen where the call failed
 pub record HasCauseOf (before now : ℕ) (answer : Answer) : Type 0 where
   pub later : before ≤ now
@@ -117,3 +105,23 @@ pub record StandsSo {D : Type 0} (IsTold : Type 0) (content : D → List ℕ) (M
   pub acknowledges : stand.is_loaded ≡ true → acknowledged_by content k ≡ stand.rows
   pub may_stand : (rows : Kept) → MayStandIn MayLeave k rows → IsOneOf stand rows
   pub telling : (rows : Kept) → IsTelling IsTold content k rows → stand.is_told ≡ true
+
+module _ {D : Type 0} (IsTold TellsPast : Type 0) (content : D → List ℕ) (MayLeave : D → List ℕ → Type 0) (moment : D → ℕ) (LeftSince : D → ℕ → List ℕ → Type 0) (faults : D → ℕ) where
+  -- A call leads from the one journal, where this stands, to the other. A crash at a moment of it leaves the rows that were acknowledged before it, and
+  -- then at most one list more. Changes that memory was refused to, or that were not handed on, left the journal and its disk as they were; a load that
+  -- memory was refused to left what was told.
+  pub record IsMade (old : JournalKeeper D) (stand : Stand) (call : Call) (answer : Answer) (new : JournalKeeper D) : Type 0 where
+    pub asked : IsAsked stand call answer
+    pub found : IsTold → FindsOne stand answer
+    pub stands : IsTold → StandsSo IsTold content MayLeave new (after_one stand call answer)
+    pub crash : IsTold → TellsPast → LeavesDuring moment LeftSince old.disk new.disk (λ c. IsOneOf (while_made stand call answer) (rows_of c))
+    pub cause : HasCauseOf (faults old.disk) (faults new.disk) answer
+    pub unasked : answer ≡ Unasked → new ≡ old
+    pub refused : answer ≡ NoMemory → (call ≡ Load) ⊎ (new ≡ old)
+    pub kept : answer ≡ NoMemory → (rows : Kept) → IsTelling IsTold content old rows → IsTelling IsTold content new rows
+
+  -- These calls lead, with these answers, from the one journal to the other: each from the journal that the one before it left.
+  abbrev pub AreMade : JournalKeeper D → Stand → List Call → List Answer → JournalKeeper D → Type 0
+  AreMade from stand calls [] to = to ≡ from
+  AreMade from stand [] (answer ∷ answers) to = ⊥
+  AreMade from stand (call ∷ calls) (answer ∷ answers) to = (next : JournalKeeper D) × IsMade from stand call answer next × AreMade next (after_one stand call answer) calls answers to

@@ -163,7 +163,9 @@ impl<D: Disk> Keeper for JournalKeeper<D> {
 
     ghost IsSteady = { λ k. ⊥ };
 
-    /// The rows of the file. A crash at any moment leaves rows that might have stood before the call.
+    /// Finds the rows of the file, and cuts away what stands behind their frames. Where it answers Ok no other
+    /// rows may come to stand afterwards. A crash at any moment of the call, of a first one from the moment when
+    /// the disk was open, leaves rows that might have stood before it.
     ///
     /// # Errors
     ///
@@ -208,7 +210,9 @@ impl<D: Disk> Keeper for JournalKeeper<D> {
         self.reload(alloc)
     }
 
-    /// Makes all the changes, in order, or none of them, at whatever moment a crash comes.
+    /// Makes all the changes, in order, or none of them. Where it answers Ok only the rows with them may come to
+    /// stand afterwards. A crash at any moment of the call leaves rows that might have stood before it, or the
+    /// acknowledged ones with all the changes.
     ///
     /// # Errors
     ///

@@ -1,14 +1,17 @@
 //! Calls of a journal, made one after another.
 
-ghost use Rattle.std.specs.Prelude.{◌≡◌, ◌⊎◌, true, List, Vec, IfOk, length};
+ghost use Rattle.std.specs.Prelude.{◌≡◌, true, List, Vec, IfOk, OnErr, length};
 ghost use Rattle.crash_disks.specs.Crash.{LeavesDuring};
 ghost use Rattle.change_frames.specs.Frames.{rows_of};
 ghost use Rattle.std.specs.declared.alloc.Global.{Global as OfMemory};
+ghost use Rattle.oe_keeper.specs.Kept.{Kept};
 ghost use Rattle.oe_keeper.specs.declared.change.RowChange.{RowChange as Change};
 ghost use Rattle.oe_journal.specs.declared.runs.Call.TheVariants as calls_of;
-ghost use Rattle.oe_journal.specs.Journal.{IsLoadedOver, IsFresh, acknowledged_by};
-ghost use Rattle.oe_journal.specs.Runs.{Stand, just_loaded, after_load, after_apply, after_one, after_all, failures};
-ghost use Rattle.oe_journal.specs.Runs.{IsOneOf, StandsAfterSome, FindsOne, FindEach, IsAsked, Each, HasCauses, HasCauseOf, StandsSo};
+ghost use Rattle.oe_journal.specs.declared.runs.Answer.{Answer as Answered};
+ghost use Rattle.oe_journal.specs.declared.runs.Answer.TheVariants as answers_of;
+ghost use Rattle.oe_journal.specs.Journal.{IsTelling, IsLoadedOver, IsFresh, acknowledged_by};
+ghost use Rattle.oe_journal.specs.Runs.{Stand, just_loaded, after_load, after_apply, after_one, after_all, while_applied};
+ghost use Rattle.oe_journal.specs.Runs.{IsOneOf, FindsOne, IsAsked, HasCauseOf, StandsSo, IsMade, AreMade};
 
 use crate::journal::JournalKeeper;
 use crash_disks::Disk;
@@ -54,6 +57,9 @@ fn load_again<D: Disk>(alloc: Global, keeper: &mut JournalKeeper<D>, is_loaded: 
     ensures found { D.IsTold → (stand : Stand)
         → StandsSo D.IsTold D.content D.MayLeave keeper.old stand → FindsOne stand result }
     ensures asked { (stand : Stand) → IsAsked stand calls_of.Load result }
+    ensures kept { result ≡ answers_of.NoMemory → (rows : Kept)
+        → IsTelling D.IsTold D.content keeper.old rows
+        → IsTelling D.IsTold D.content keeper.new rows }
     ensures cause { HasCauseOf (D.faults keeper.old.disk) (D.faults keeper.new.disk) result }
     ensures crash { D.IsTold → D.TellsPast → (stand : Stand)
         → StandsSo D.IsTold D.content D.MayLeave keeper.old stand
@@ -81,11 +87,12 @@ fn apply_one<D: Disk>(alloc: Global, keeper: &mut JournalKeeper<D>, list: &[RowC
     ensures found { (stand : Stand) → FindsOne stand result }
     ensures asked { (stand : Stand) (all : Vec Change OfMemory) → stand.is_loaded ≡ true
         → IsAsked stand (calls_of.Apply all) result }
+    ensures refused { result ≡ answers_of.NoMemory → keeper.new ≡ keeper.old }
     ensures cause { HasCauseOf (D.faults keeper.old.disk) (D.faults keeper.new.disk) result }
     ensures crash { D.IsTold → D.TellsPast → (stand : Stand) → stand.is_loaded ≡ true
         → StandsSo D.IsTold D.content D.MayLeave keeper.old stand
         → LeavesDuring D.moment D.LeftSince keeper.old.disk keeper.new.disk
-        (λ c. IsOneOf stand (rows_of c) ⊎ IsOneOf (after_apply stand list.now result) (rows_of c)) }
+        (λ c. IsOneOf (while_applied stand list.now result) (rows_of c)) }
 {
     match keeper.apply(alloc, list) {
         Ok(()) => Answer::Applied,
@@ -109,18 +116,10 @@ fn call_one<D: Disk>(
         → ∥ IsLoadedOver D.IsTold D.content D.MayLeave keeper.new ∥₁ }
     ensures flag { (stand : Stand) → stand.is_loaded ≡ is_loaded.old
         → (after_one stand call.now result).is_loaded ≡ is_loaded.new }
-    ensures stands { D.IsTold → (stand : Stand) → stand.is_loaded ≡ is_loaded.old
-        → StandsSo D.IsTold D.content D.MayLeave keeper.old stand
-        → StandsSo D.IsTold D.content D.MayLeave keeper.new (after_one stand call.now result) }
-    ensures found { D.IsTold → (stand : Stand)
-        → StandsSo D.IsTold D.content D.MayLeave keeper.old stand → FindsOne stand result }
-    ensures asked { (stand : Stand) → stand.is_loaded ≡ is_loaded.old
-        → IsAsked stand call.now result }
-    ensures cause { HasCauseOf (D.faults keeper.old.disk) (D.faults keeper.new.disk) result }
-    ensures crash { D.IsTold → D.TellsPast → (stand : Stand) → stand.is_loaded ≡ is_loaded.old
-        → StandsSo D.IsTold D.content D.MayLeave keeper.old stand
-        → LeavesDuring D.moment D.LeftSince keeper.old.disk keeper.new.disk
-        (λ c. IsOneOf stand (rows_of c) ⊎ IsOneOf (after_one stand call.now result) (rows_of c)) }
+    ensures made { (stand : Stand) → stand.is_loaded ≡ is_loaded.old
+        → (D.IsTold → StandsSo D.IsTold D.content D.MayLeave keeper.old stand)
+        → IsMade D.IsTold D.TellsPast D.content D.MayLeave D.moment D.LeftSince D.faults
+        keeper.old stand call.now result keeper.new }
 {
     match call {
         Call::Load => load_again(alloc, keeper, is_loaded),
@@ -135,15 +134,19 @@ fn call_one<D: Disk>(
 }
 
 /// Makes the calls in order, whatever each answers, after a load that answered Ok. Changes are not handed to
-/// the journal after a load that did not answer Ok, until one does. At whatever moment a crash comes, within
-/// a call too, it leaves the rows of the last load that answered Ok with the lists that were acknowledged
-/// since, in order and none in part, and then at most one list more, whole: that of an apply after the last
-/// acknowledged one that called the disk and was not acknowledged. Each load finds such rows. The disk's
-/// count of faults rises with each call that failed.
+/// the journal after a load that did not answer Ok, until one does.
+///
+/// Of each call this holds (`made`). A crash at any moment of it leaves the rows of the last load that answered
+/// Ok with the lists that were acknowledged since, in order and none in part, and then at most one list more,
+/// whole: that of an apply after the last acknowledged one that called the disk and did not answer Ok, or has
+/// not answered yet. No other rows may come to stand after it, and a load finds such rows. The disk's count of
+/// faults has risen where it failed. Memory may be refused to any call; an apply has then left the journal and
+/// its disk as they were.
 ///
 /// # Errors
 ///
-/// `NoMemory` where the answers could not be kept.
+/// `NoMemory` where the answers could not be kept. The same then holds of the calls that were made, the first
+/// ones.
 pub fn run_all<D: Disk>(
     alloc: Global,
     keeper: &mut JournalKeeper<D>,
@@ -155,16 +158,14 @@ pub fn run_all<D: Disk>(
     ensures stands { D.IsTold
         → IfOk result (λ answers. StandsSo D.IsTold D.content D.MayLeave keeper.new
         (after_all (just_loaded (acknowledged_by D.content keeper.old)) calls.now answers.items)) }
-    ensures found { D.IsTold → IfOk result (λ answers.
-        FindEach (just_loaded (acknowledged_by D.content keeper.old)) calls.now answers.items) }
-    ensures asked { IfOk result (λ answers.
-        Each IsAsked (just_loaded (acknowledged_by D.content keeper.old)) calls.now answers.items) }
-    ensures cause { IfOk result (λ answers.
-        HasCauses (D.faults keeper.old.disk) (D.faults keeper.new.disk) (failures answers.items)) }
-    ensures crash { D.IsTold → D.TellsPast → IfOk result (λ answers.
-        LeavesDuring D.moment D.LeftSince keeper.old.disk keeper.new.disk
-        (λ c. StandsAfterSome (just_loaded (acknowledged_by D.content keeper.old))
-        calls.now answers.items (rows_of c))) }
+    ensures made { IfOk result (λ answers.
+        AreMade D.IsTold D.TellsPast D.content D.MayLeave D.moment D.LeftSince D.faults
+        keeper.old (just_loaded (acknowledged_by D.content keeper.old)) calls.now answers.items
+        keeper.new) }
+    ensures unkept { OnErr result ((answers : List Answered) ×
+        AreMade D.IsTold D.TellsPast D.content D.MayLeave D.moment D.LeftSince D.faults
+        keeper.old (just_loaded (acknowledged_by D.content keeper.old)) calls.now answers
+        keeper.new) }
 {
     let mut answers = Vec::new(alloc);
     let mut is_loaded = true;

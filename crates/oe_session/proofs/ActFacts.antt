@@ -25,7 +25,7 @@ use Rattle.desk_machine.specs.declared.entry.Entry.{Entry}
 use Rattle.desk_machine.specs.States.{State, state_after_step, entry_of, case_at}
 use Rattle.desk_machine.specs.Evaluations.{Given, evaluation_of, site_of, basis_of}
 use Rattle.desk_machine.specs.Machine.{Kept, No, Done, entry, on_day, on_kept, on_list, ruling_of_act, register_effect, register_rule, ruling_on_act, decide_new, decide_by, decide, day_rules, file_rules}
-use Rattle.oe_session.specs.Fronts.{register_after_act}
+use Rattle.desk_machine.specs.Fronts.{register_after_act}
 use Rattle.oe_session.specs.World.{recorded_list}
 
 -- ---- through what an effect is made of

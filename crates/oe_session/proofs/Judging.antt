@@ -15,7 +15,7 @@ use Rattle.desk_machine.specs.declared.entry.Entry.{Entry}
 use Rattle.desk_machine.specs.States.{State}
 use Rattle.desk_machine.specs.Evaluations.{Given, same_site, own_list, evaluation_of, evaluated_site, basis_of}
 use Rattle.desk_machine.specs.Machine.{decide, Done, replay}
-use Rattle.oe_session.specs.Fronts.{register_after_act, register_after, front_number}
+use Rattle.desk_machine.specs.Fronts.{register_after_act, register_after, front_number}
 use Rattle.oe_session.specs.World.{list_over, recorded_list, IsOver, IsJudged, AreJudged}
 use Rattle.oe_session.proofs.Lists.{prefix_more, prefix_length, taken_whole, take_more, get_within, get_last, get_past}
 use Rattle.oe_session.proofs.ActFacts.{makes}

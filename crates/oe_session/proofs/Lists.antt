@@ -15,6 +15,15 @@ every_set P [] k x h p = tt
 every_set P (y ∷ ys) zero x h p = (p, h.1)
 every_set P (y ∷ ys) (suc k) x h p = (h.0, every_set P ys k x h.1 p)
 
+pub length_set : {A : Type 0} (xs : List A) (k : ℕ) (x : A) → length (slice_set xs k x) ≡ length xs
+length_set [] k x = refl
+length_set (y ∷ ys) zero x = refl
+length_set (y ∷ ys) (suc k) x = ap suc (length_set ys k x)
+
+pub length_same : {A : Type 0} (n : ℕ) (x : A) → length (replicate n x) ≡ n
+length_same zero x = refl
+length_same (suc n) x = ap suc (length_same n x)
+
 pub every_at : {A : Type 0} (P : A → Type 0) (xs : List A) (k : ℕ) (x : A) → Every P xs → slice_get xs k ≡ Some x → P x
 every_at P [] k x h is = absurd cc
 every_at P (y ∷ ys) zero x h is = let e : y ≡ x = cc (is) in subst P e h.0

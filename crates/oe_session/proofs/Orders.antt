@@ -11,9 +11,9 @@ use Rattle.desk_machine.specs.States.{State}
 use Rattle.desk_machine.specs.Evaluations.{Given}
 use Rattle.desk_machine.specs.Machine.{Answer, Kept, No, Done, decide, state_after, entries_of_answer, replay}
 use Rattle.desk_machine.proofs.Replaying.{replayed_always, same_entries, append_nothing}
-use Rattle.oe_session.specs.Fronts.{register_after_act, register_after, front_number}
+use Rattle.desk_machine.specs.Fronts.{register_after_act, register_after, front_number}
 use Rattle.oe_session.specs.World.{Moment, Had, Told, front_of, fronts_of, World, opening_world, accepted_entries, Event, Look, Change, Publish, Tell, list_over, list_at, list_from, noted_in, world_after, world_after_all, Every, Begins, AreInOrder, AreJudged, IsOrderly}
-use Rattle.oe_session.proofs.Lists.{every_map, every_set, every_at, every_same, prefix_self, prefix_trans, prefix_more, prefix_take, prefix_taken, drop_before}
+use Rattle.oe_session.proofs.Lists.{length_set, length_same, every_map, every_set, every_at, every_same, prefix_self, prefix_trans, prefix_more, prefix_take, prefix_taken, drop_before}
 use Rattle.oe_session.proofs.ActFacts.{makes}
 use Rattle.oe_session.proofs.Judging.{IsFair, register_more, judged_more}
 
@@ -40,6 +40,10 @@ every_noted : (P : List Moment → Type 0) (m : Moment) → ((past : List Moment
 every_noted P m step all who None is h = h
 every_noted P m step all who (Some past) is h = every_set P all who (m ∷ past) h (step past (every_at P all who past h is))
 
+length_noted : (m : Moment) (all : List (List Moment)) (who : ℕ) (v : Option (List Moment)) → length (noted_in m all who v) ≡ length all
+length_noted m all who None = refl
+length_noted m all who (Some past) = length_set all who (m ∷ past)
+
 looks : (published : List Entry) (past : List Moment) → Sees published past → Sees published (Had published ∷ past)
 looks published past h = ((prefix_self published, h.0), (h.0, h.1))
 
@@ -55,7 +59,8 @@ sees_more published next p past h = (every_map (Begins published) (Begins next) 
 
 -- ---- the world
 
-record Goes (opening : State) (w : World) : Type 0 where
+record Goes (opening : State) (count : ℕ) (w : World) : Type 0 where
+  counted : length w.sessions ≡ count
   es : List Entry
   entries : w.state.entries ≡ opening.entries ++ es
   register : w.state.register ≡ register_after opening.register es
@@ -64,8 +69,8 @@ record Goes (opening : State) (w : World) : Type 0 where
   published : IsPrefix w.published es
   sees : Every (Sees w.published) w.sessions
 
-accepted_are : (opening : State) (w : World) (g : Goes opening w) → accepted_entries opening w ≡ g.es
-accepted_are opening w g = ap (drop (length opening.entries)) g.entries ∙ drop_before opening.entries g.es
+accepted_are : (opening : State) (count : ℕ) (w : World) (g : Goes opening count w) → accepted_entries opening w ≡ g.es
+accepted_are opening count w g = ap (drop (length opening.entries)) g.entries ∙ drop_before opening.entries g.es
 
 -- ---- a change
 
@@ -84,15 +89,16 @@ fair : (opening : State) (published es : List Entry) (all : List (List Moment)) 
 fair opening published es all who None given p h is = tt
 fair opening published es all who (Some past) given p h is = fair_session opening published es past given p (every_at (Sees published) all who past h is).0
 
-changes : (opening : State) (w : World) (p : ℕ) (q : Asked) (given : Option Given) (a : Answer) (g : Goes opening w) → IfSome given (IsFair opening g.es) → decide w.state p q given ≡ a
-    → Goes opening (record w { state = state_after w.state a })
-changes opening w p q given (Kept e) g fair is = g
-changes opening w p q given (No why) g fair is = g
-changes opening w p q given (Done e step) g fair is =
+changes : (opening : State) (count : ℕ) (w : World) (p : ℕ) (q : Asked) (given : Option Given) (a : Answer) (g : Goes opening count w) → IfSome given (IsFair opening g.es) → decide w.state p q given ≡ a
+    → Goes opening count (record w { state = state_after w.state a })
+changes opening count w p q given (Kept e) g fair is = g
+changes opening count w p q given (No why) g fair is = g
+changes opening count w p q given (Done e step) g fair is =
     let m = makes w.state p q given e step is in
     let all = g.es ++ e ∷ [] in
     record {
       es = all;
+      counted = g.counted;
       entries = ap (λ (l : List Entry). l ++ e ∷ []) (same_entries step w.state ∙ g.entries) ∙ append_assoc opening.entries g.es (e ∷ []);
       register = m.register ∙ ap (λ r. register_after_act r q.act) g.register ∙ ap (λ (c : Asked). register_after_act (register_after opening.register g.es) c.act) (sym m.change) ∙ sym (register_more opening.register g.es e);
       replayed = subst (λ (a : Answer). state_after w.state a ≡ replay opening (g.es ++ entries_of_answer a)) is (replayed_always opening w.state g.es p q given g.replayed);
@@ -103,16 +109,17 @@ changes opening w p q given (Done e step) g fair is =
 
 -- ---- each event
 
-publishes : (opening : State) (w : World) (upto : ℕ) (b : Bool) (g : Goes opening w) → (nat_le (length w.published) upto && nat_le upto (length (accepted_entries opening w))) ≡ b
-    → Goes opening (record w { published = cond b (take upto (accepted_entries opening w)) w.published })
-publishes opening w upto false g is = g
-publishes opening w upto true g is =
+publishes : (opening : State) (count : ℕ) (w : World) (upto : ℕ) (b : Bool) (g : Goes opening count w) → (nat_le (length w.published) upto && nat_le upto (length (accepted_entries opening w))) ≡ b
+    → Goes opening count (record w { published = cond b (take upto (accepted_entries opening w)) w.published })
+publishes opening count w upto false g is = g
+publishes opening count w upto true g is =
     let le : length w.published ≤ upto = grind (arith, nat_tests, is) in
-    let same = accepted_are opening w g in
+    let same = accepted_are opening count w g in
     let now : IsPrefix w.published (accepted_entries opening w) = subst (λ (l : List Entry). IsPrefix w.published l) (sym same) g.published in
     let more = prefix_taken w.published (accepted_entries opening w) upto now le in
     record {
       es = g.es;
+      counted = g.counted;
       entries = g.entries;
       register = g.register;
       replayed = g.replayed;
@@ -121,27 +128,28 @@ publishes opening w upto true g is =
       sees = every_map (Sees w.published) (Sees (take upto (accepted_entries opening w))) (sees_more w.published (take upto (accepted_entries opening w)) more) w.sessions g.sees;
     }
 
-seen : (opening : State) (w : World) (all : List (List Moment)) → Goes opening w → Every (Sees w.published) all → Goes opening (record w { sessions = all })
-seen opening w all g h = record { es = g.es; entries = g.entries; register = g.register; replayed = g.replayed; judged = g.judged; published = g.published; sees = h }
+seen : (opening : State) (count : ℕ) (w : World) (all : List (List Moment)) → Goes opening count w → length all ≡ length w.sessions → Every (Sees w.published) all → Goes opening count (record w { sessions = all })
+seen opening count w all g l h = record { es = g.es; counted = l ∙ g.counted; entries = g.entries; register = g.register; replayed = g.replayed; judged = g.judged; published = g.published; sees = h }
 
-keeps : (opening : State) (w : World) (e : Event) → Goes opening w → Goes opening (world_after opening w e)
-keeps opening w (Look who) g =
-    seen opening w _ g (every_noted (Sees w.published) (Had w.published) (looks w.published) w.sessions who (slice_get w.sessions who) refl g.sees)
-keeps opening w (Change who q given) g =
-    changes opening w (front_number opening w.published) q (list_from opening (slice_get w.sessions who) given)
+keeps : (opening : State) (count : ℕ) (w : World) (e : Event) → Goes opening count w → Goes opening count (world_after opening w e)
+keeps opening count w (Look who) g =
+    seen opening count w _ g (length_noted (Had w.published) w.sessions who (slice_get w.sessions who)) (every_noted (Sees w.published) (Had w.published) (looks w.published) w.sessions who (slice_get w.sessions who) refl g.sees)
+keeps opening count w (Change who q given) g =
+    changes opening count w (front_number opening w.published) q (list_from opening (slice_get w.sessions who) given)
     (decide w.state (front_number opening w.published) q (list_from opening (slice_get w.sessions who) given)) g
     (fair opening w.published g.es w.sessions who (slice_get w.sessions who) given g.published g.sees refl) refl
-keeps opening w (Publish upto) g = publishes opening w upto (nat_le (length w.published) upto && nat_le upto (length (accepted_entries opening w))) g refl
-keeps opening w (Tell who) g =
-    seen opening w _ g (every_noted (Sees w.published) (Told w.published) (tells w.published) w.sessions who (slice_get w.sessions who) refl g.sees)
+keeps opening count w (Publish upto) g = publishes opening count w upto (nat_le (length w.published) upto && nat_le upto (length (accepted_entries opening w))) g refl
+keeps opening count w (Tell who) g =
+    seen opening count w _ g (length_noted (Told w.published) w.sessions who (slice_get w.sessions who)) (every_noted (Sees w.published) (Told w.published) (tells w.published) w.sessions who (slice_get w.sessions who) refl g.sees)
 
-runs : (opening : State) (events : List Event) (w : World) → Goes opening w → Goes opening (world_after_all opening events w)
-runs opening [] w g = g
-runs opening (e ∷ es) w g = runs opening es (world_after opening w e) (keeps opening w e g)
+runs : (opening : State) (count : ℕ) (events : List Event) (w : World) → Goes opening count w → Goes opening count (world_after_all opening events w)
+runs opening count [] w g = g
+runs opening count (e ∷ es) w g = runs opening count es (world_after opening w e) (keeps opening count w e g)
 
-starts : (opening : State) (count : ℕ) → Goes opening (opening_world opening count)
+starts : (opening : State) (count : ℕ) → Goes opening count (opening_world opening count)
 starts opening count = record {
   es = [];
+  counted = length_same count [];
   entries = sym (append_nothing opening.entries);
   register = refl;
   replayed = refl;
@@ -150,10 +158,11 @@ starts opening count = record {
   sees = every_same (Sees []) count [] (tt, tt);
 }
 
-orders : (opening : State) (w : World) → Goes opening w → IsOrderly opening w
-orders opening w g =
-    let same = sym (accepted_are opening w g) in
+orders : (opening : State) (count : ℕ) (w : World) → Goes opening count w → IsOrderly opening count w
+orders opening count w g =
+    let same = sym (accepted_are opening count w g) in
     record {
+      counted = g.counted;
       fronts = every_map (Sees w.published) (λ past. IsPrefix (front_of past) w.published) (λ past h. front_begins w.published past h.0) w.sessions g.sees;
       order = every_map (Sees w.published) AreInOrder (λ past h. h.1) w.sessions g.sees;
       published = subst (λ (l : List Entry). IsPrefix w.published l) same g.published;
@@ -161,5 +170,5 @@ orders opening w g =
       judged = subst (AreJudged opening) same g.judged;
     }
 
-pub orderly : (opening : State) (count : ℕ) (events : List Event) → IsOrderly opening (world_after_all opening events (opening_world opening count))
-orderly opening count events = orders opening _ (runs opening events (opening_world opening count) (starts opening count))
+pub orderly : (opening : State) (count : ℕ) (events : List Event) → IsOrderly opening count (world_after_all opening events (opening_world opening count))
+orderly opening count events = orders opening count _ (runs opening count events (opening_world opening count) (starts opening count))

@@ -13,7 +13,7 @@ use Rattle.desk_machine.specs.declared.entry.Entry.{Entry}
 use Rattle.desk_machine.specs.States.{State, last_number}
 use Rattle.desk_machine.specs.Evaluations.{Given, evaluated_site}
 use Rattle.desk_machine.specs.Machine.{decide, state_after, replay}
-use Rattle.oe_session.specs.Fronts.{register_after, front_number}
+use Rattle.desk_machine.specs.Fronts.{register_after, front_number}
 
 -- ---- the world
 
@@ -140,9 +140,10 @@ IsJudged opening entries place e =
 abbrev pub AreJudged : State → List Entry → Type 0
 AreJudged opening entries = (place : ℕ) → IfSome (slice_get entries place) (IsJudged opening entries place)
 
--- each session's front begins the published entries, and its fronts are in order; the published entries begin the accepted ones; the desk is
+-- there are as many sessions as at the opening; each session's front begins the published entries, and its fronts are in order; the published entries begin the accepted ones; the desk is
 -- the replay of these from the opening; and each determination among them has its list
-pub record IsOrderly (opening : State) (w : World) : Type 0 where
+pub record IsOrderly (opening : State) (count : ℕ) (w : World) : Type 0 where
+  pub counted : length w.sessions ≡ count
   pub fronts : Every (λ past. IsPrefix (front_of past) w.published) w.sessions
   pub order : Every AreInOrder w.sessions
   pub published : IsPrefix w.published (accepted_entries opening w)

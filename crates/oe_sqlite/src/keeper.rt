@@ -28,13 +28,25 @@ pub type SqliteKeeper<'a> = StoreKeeper<HostFiles<'a>>;
 
 /// A keeper over one SQLite store, which holds all rows in its table `kept`. Its rows are known from the first load on that found the
 /// store to be that one table and nothing else; in memory this is always so.
-#[derive(Drop)]
 pub struct StoreKeeper<O: Opens> {
     opener: O,
     place: Place<O::Disk>,
     is_told: bool,
     faults: u64,
     ghost held: { ∥ (IsTrue is_told → IsHeldAt place) ∥₁ },
+}
+
+/// Its end closes the file of its store.
+impl<O: Opens> Drop for StoreKeeper<O> {
+    fn drop(self) {
+        let StoreKeeper {
+            opener: _,
+            place,
+            is_told: _,
+            faults: _,
+        } = self;
+        place.close();
+    }
 }
 
 /// The keeper's error where its store stopped. All but `NoMemory` is a fault, and is counted.
@@ -156,7 +168,13 @@ impl<O: Opens> StoreKeeper<O> {
             → outcomes O.Disk.Disk (store_files it).0 (store_files it).1 image
             → ∥ ((db : Trees) × MayLeaveAt self.place db × HoldsDatabase image db) ∥₁) }
     {
-        self.place.leave()
+        let StoreKeeper {
+            opener: _,
+            place,
+            is_told: _,
+            faults: _,
+        } = self;
+        place.leave()
     }
 
     /// Makes all the changes, in order, or none of them.

@@ -103,6 +103,13 @@ impl<D: Disk + Drop> Place<D> {
         }
     }
 
+    /// Ends the place, and copies the log of its file into the database where nothing stops that.
+    pub(crate) fn close(self) {
+        if let Place::File(conn) = self {
+            let _closed = conn.close();
+        }
+    }
+
     /// Ends the place and returns the store of its file, if it has one and no transaction is open.
     pub(crate) fn leave(self) -> Option<FileStore<D>>
         ensures rows { IfSome result (λ it. IsClean (view it) → (rows : Kept) → TellsAt self rows

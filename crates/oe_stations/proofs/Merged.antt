@@ -12,9 +12,9 @@ use Rattle.ordered_list.proofs.Finding.{found_by-put_other, found_by-put_same}
 use Rattle.ordered_list.proofs.Orders.{alike}
 use Rattle.ordered_list.proofs.Rising.{Rises-put, found_key}
 use Rattle.finding_lists.specs.declared.finding.Finding.{Finding}
-use Rattle.oe_stations.specs.Merging.{is_covered, of_station, with_finding, with_findings, with_lists}
+use Rattle.oe_stations.specs.Merging.{is_covered, with_finding, with_findings, with_lists}
 use Rattle.oe_stations.specs.Order.{place_of}
-use Rattle.oe_stations.specs.Ways.{AreOfOne, HasFrom, IsGreatest, IsWayListOf, way_place}
+use Rattle.oe_stations.specs.Ways.{AreOfOne, HasFrom, IsGreatest, IsWayListOf, of_station, way_place}
 use Rattle.oe_stations.specs.declared.place.Place.{Place}
 use Rattle.oe_stations.specs.declared.way_list.WayFinding.{WayFinding}
 use Rattle.oe_stations.specs.contracts.place.PlaceOrd.TheImpl as places
@@ -34,7 +34,7 @@ abbrev and_from : (ℕ → Finding → Type 0) → ℕ → List (List Finding) �
 and_from Has n lists k g = Has k g ⊎ HasFrom n lists k g
 
 -- ---- what is found
-found_alike : (p q : Place) (xs : List WayFinding) → cmp p q ≡ Equal → found_by cmp way_place p xs ≡ found_by cmp way_place q xs
+pub found_alike : (p q : Place) (xs : List WayFinding) → cmp p q ≡ Equal → found_by cmp way_place p xs ≡ found_by cmp way_place q xs
 found_alike p q [] e = refl
 found_alike p q (x ∷ xs) e =
     let a : cmp p (way_place x) ≡ cmp q (way_place x) = alike cmp total p q (way_place x) e in

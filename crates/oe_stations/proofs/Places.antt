@@ -84,7 +84,7 @@ of_one f g h =
       same_key f.key g.key (same_name f.key.field g.key.field _ exact_bytes field.0) (same_name f.key.runway g.key.runway _ exact_bytes runway.0) (same_number f.key.part g.key.part rank.1),
     )
 
-abbrev place_by : Rule → SurfaceKey → Place
+abbrev pub place_by : Rule → SurfaceKey → Place
 place_by rule key = record { part = part_of rule; field = key.field; runway = key.runway; rank = rank_of rule; side = key.part }
 
 pub one_place : (f g : Finding) → AreOfOne f g → place_of f ≡ place_of g

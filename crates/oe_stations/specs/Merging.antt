@@ -3,12 +3,9 @@ use Rattle.std.specs.Prelude.{ℕ, ◌+◌, List, [], ◌∷◌, Option, Some, N
 use Rattle.ordered_list.specs.Ordered.{found_by, put_by}
 use Rattle.finding_lists.specs.declared.finding.Finding.{Finding}
 use Rattle.oe_stations.specs.Order.{place_of}
-use Rattle.oe_stations.specs.Ways.{way_place}
+use Rattle.oe_stations.specs.Ways.{of_station, way_place}
 use Rattle.oe_stations.specs.declared.way_list.WayFinding.{WayFinding}
 use Rattle.oe_stations.specs.contracts.place.PlaceOrd.TheImpl as places
-
-abbrev pub of_station : ℕ → Finding → WayFinding
-of_station n f = record { finding = f; station = n }
 
 -- what stands in the finding's place has as great an excess
 abbrev pub is_covered : Finding → Option WayFinding → Bool

@@ -24,6 +24,10 @@ AreOfOne f g = (f.rule ≡ g.rule) × (f.key ≡ g.key)
 abbrev pub way_place : WayFinding → Place
 way_place w = place_of w.finding
 
+-- a finding of station n
+abbrev pub of_station : ℕ → Finding → WayFinding
+of_station n f = record { finding = f; station = n }
+
 -- a station has the finding; no station has a greater excess under its rule and surface, and none before it has as great a one
 pub record IsGreatest (Has : ℕ → Finding → Type 0) (w : WayFinding) : Type 0 where
   pub stands : Has w.station w.finding

@@ -1,5 +1,5 @@
--- The output of a session of ways for its input: a way that has stations at the end of the input ends there. Where the bytes of a stream
--- are not known, these conditions say nothing.
+-- The output of a session of ways for its input: a way that has stations at the end of the input ends there.
+-- Where the bytes of a stream are not known, these conditions say nothing.
 use Rattle.std.specs.Prelude.{ℕ, List, [], ◌∷◌, ◌++◌, ◌≡◌, ◌⊎◌, Option, Some, None}
 use Rattle.std.specs.Io.KnownBytes.{Appends}
 use Rattle.std.specs.Str.Lines.{lines}

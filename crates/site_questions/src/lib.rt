@@ -4,9 +4,11 @@
 #![tactic(auto)]
 
 mod ceiling_desk;
+mod laws;
 mod screens;
 mod way_desk;
 
 pub use ceiling_desk::{CeilingDesk, HEIGHT_FIELD, ceilings};
+pub use laws::numbers;
 pub use screens::FORM_FIELD;
 pub use way_desk::{WayDesk, ways};

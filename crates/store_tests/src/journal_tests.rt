@@ -55,6 +55,28 @@ fn a_disk_that_crashes(rt: HostRuntime) -> Result<(), Fail> {
     Ok(())
 }
 
+/// What a crash leaves where a write over the byte 0 failed.
+fn after_a_failed_write(alloc: Global, pick: u64) -> Result<MemoryDisk, Fail> {
+    let mut fail = FailList::new(alloc);
+    fail.push(3)?;
+    let mut disk = MemoryDisk::new(alloc, fail, None);
+    if write_synced(&mut disk, 0, &[0]).is_err() || disk.write_at(0, &[1]).is_ok() {
+        return Err(Fail::new("another call failed"));
+    }
+    Ok(disk.crashed(alloc, pick)?)
+}
+
+#[test]
+fn a_failed_write_was_done_or_not(rt: HostRuntime) -> Result<(), Fail> {
+    let alloc = rt.alloc();
+    assert_eq!(rt; after_a_failed_write(alloc, 0)?.bytes(), [0].as_slice());
+    assert_eq!(rt;
+        after_a_failed_write(alloc, EACH_WRITE)?.bytes(),
+        [1].as_slice()
+    );
+    Ok(())
+}
+
 #[test]
 fn a_frame_there_and_back(rt: HostRuntime) -> Result<(), Fail> {
     let alloc = rt.alloc();
@@ -194,6 +216,19 @@ fn a_choice_stays_after_an_error(rt: HostRuntime) -> Result<(), Fail> {
     let place = Some("office.oej");
     assert_eq!(rt; rows_after_an_error(alloc, None, place)?, 1);
     assert_eq!(rt; rows_after_an_error(alloc, place, None)?, 0);
+    Ok(())
+}
+
+#[test]
+fn a_file_that_is_cut(rt: HostRuntime) -> Result<(), Fail> {
+    let mut disk = FileDisk::new(&rt);
+    assert_eq!(rt; disk.open(Some("cut.oej")), Ok(()));
+    assert_eq!(rt; disk.write_at(0, &FRAME), Ok(()));
+    assert_eq!(rt; disk.cut(10), Ok(()));
+    assert_eq!(rt; disk.size(), Ok(10));
+    let mut bytes = [7; 12];
+    assert_eq!(rt; disk.read_at(0, &mut bytes), Ok(10));
+    assert_eq!(rt; bytes, [1, 0, 0, 0, 0, 0, 0, 0, 25, 80, 7, 7]);
     Ok(())
 }
 

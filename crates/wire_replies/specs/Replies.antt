@@ -48,6 +48,10 @@ cases_text cases = decimal (length cases) ++ with_commas (map decimal cases)
 abbrev pub review_text : List ℕ → List ℕ
 review_text cases = codes "review," ++ cases_text cases ++ codes "\n"
 
+-- the number of the newest entry
+abbrev pub synced_text : ℕ → List ℕ
+synced_text last = codes "sync," ++ decimal last ++ codes "\n"
+
 -- the text of a reply; a report is its table as it stands
 abbrev pub reply_text : Reply → List ℕ
 reply_text (replies.Accepted entry published outcome) = accepted_text entry published outcome
@@ -58,3 +62,4 @@ reply_text (replies.Case view) = case_text view
 reply_text (replies.Airfield row) = row_text row
 reply_text (replies.Review cases) = review_text cases
 reply_text (replies.Report table) = table
+reply_text (replies.Synced last) = synced_text last

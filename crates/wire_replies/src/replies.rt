@@ -111,6 +111,18 @@ fn append_row_text(text: &mut String, row: &str) -> Result<(), NoMemory>
     append_text(text, "\n")
 }
 
+// Appends the reply of the number of the newest entry.
+#[tactic(auto, using(grid_exact::proofs::Extending::extending))]
+fn append_synced(text: &mut String, last: u64) -> Result<(), NoMemory>
+    ensures ok { OnOk result (string_bytes text.new
+        ≡ string_bytes text.old ++ spec.synced_text last) }
+    ensures part { OnErr result (Extends (string_bytes text.old) (string_bytes text.new)) }
+{
+    append_text(text, "sync,")?;
+    append_number(text, last)?;
+    append_text(text, "\n")
+}
+
 /// Appends a reply, with the line feed that ends it.
 ///
 /// # Errors
@@ -134,6 +146,7 @@ pub fn append_reply(text: &mut String, reply: &Reply) -> Result<(), NoMemory>
         Reply::Airfield(row) => append_row_text(text, row.as_str()),
         Reply::Review(cases) => append_review(text, cases.as_slice()),
         Reply::Report(table) => append_text(text, table.as_str()),
+        Reply::Synced { last } => append_synced(text, *last),
     }
 }
 

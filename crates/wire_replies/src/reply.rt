@@ -33,4 +33,8 @@ pub enum Reply {
     Review(CaseList),
     /// The table of a report, with a line feed after each of its lines.
     Report(Text),
+    /// The number of the newest entry that the session sees, 0 where there is none.
+    Synced {
+        last: u64,
+    },
 }

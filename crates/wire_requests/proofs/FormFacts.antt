@@ -16,28 +16,29 @@ use Rattle.wire_requests.specs.declared.request.Request.{Request}
 pub no_form : (word : List ℕ) → word ≢ codes "screen" → word ≢ codes "airport" → word ≢ codes "runway" → word ≢ codes "droprunway" → word ≢ codes "heliport"
     → word ≢ codes "drop" → word ≢ codes "day" → word ≢ codes "closed" → word ≢ codes "file" → word ≢ codes "form" → word ≢ codes "determine" → word ≢ codes "petition"
     → word ≢ codes "dispose" → word ≢ codes "extend" → word ≢ codes "fcc" → word ≢ codes "abandon" → word ≢ codes "verdict" → word ≢ codes "case" → word ≢ codes "airfield" → word ≢ codes "review"
-    → word ≢ codes "report" → (form : Form) → word ≢ form_word form
-no_form word n0 n1 n2 n3 n4 n5 n6 n7 n8 n9 n10 n11 n12 n13 n14 n15 n16 n17 n18 n19 n20 forms.Screen = n0
-no_form word n0 n1 n2 n3 n4 n5 n6 n7 n8 n9 n10 n11 n12 n13 n14 n15 n16 n17 n18 n19 n20 (forms.Act (act_forms.Plain plains.Airport)) = n1
-no_form word n0 n1 n2 n3 n4 n5 n6 n7 n8 n9 n10 n11 n12 n13 n14 n15 n16 n17 n18 n19 n20 (forms.Act (act_forms.Plain plains.Runway)) = n2
-no_form word n0 n1 n2 n3 n4 n5 n6 n7 n8 n9 n10 n11 n12 n13 n14 n15 n16 n17 n18 n19 n20 (forms.Act (act_forms.Plain plains.DropRunway)) = n3
-no_form word n0 n1 n2 n3 n4 n5 n6 n7 n8 n9 n10 n11 n12 n13 n14 n15 n16 n17 n18 n19 n20 (forms.Act (act_forms.Plain plains.Heliport)) = n4
-no_form word n0 n1 n2 n3 n4 n5 n6 n7 n8 n9 n10 n11 n12 n13 n14 n15 n16 n17 n18 n19 n20 (forms.Act (act_forms.Plain plains.Drop)) = n5
-no_form word n0 n1 n2 n3 n4 n5 n6 n7 n8 n9 n10 n11 n12 n13 n14 n15 n16 n17 n18 n19 n20 (forms.Act (act_forms.Plain plains.Day)) = n6
-no_form word n0 n1 n2 n3 n4 n5 n6 n7 n8 n9 n10 n11 n12 n13 n14 n15 n16 n17 n18 n19 n20 (forms.Act (act_forms.Plain plains.Closed)) = n7
-no_form word n0 n1 n2 n3 n4 n5 n6 n7 n8 n9 n10 n11 n12 n13 n14 n15 n16 n17 n18 n19 n20 (forms.Act act_forms.File) = n8
-no_form word n0 n1 n2 n3 n4 n5 n6 n7 n8 n9 n10 n11 n12 n13 n14 n15 n16 n17 n18 n19 n20 (forms.Act act_forms.Form) = n9
-no_form word n0 n1 n2 n3 n4 n5 n6 n7 n8 n9 n10 n11 n12 n13 n14 n15 n16 n17 n18 n19 n20 (forms.Act act_forms.Determine) = n10
-no_form word n0 n1 n2 n3 n4 n5 n6 n7 n8 n9 n10 n11 n12 n13 n14 n15 n16 n17 n18 n19 n20 (forms.Act act_forms.Petition) = n11
-no_form word n0 n1 n2 n3 n4 n5 n6 n7 n8 n9 n10 n11 n12 n13 n14 n15 n16 n17 n18 n19 n20 (forms.Act act_forms.Dispose) = n12
-no_form word n0 n1 n2 n3 n4 n5 n6 n7 n8 n9 n10 n11 n12 n13 n14 n15 n16 n17 n18 n19 n20 (forms.Act act_forms.Extend) = n13
-no_form word n0 n1 n2 n3 n4 n5 n6 n7 n8 n9 n10 n11 n12 n13 n14 n15 n16 n17 n18 n19 n20 (forms.Act act_forms.Fcc) = n14
-no_form word n0 n1 n2 n3 n4 n5 n6 n7 n8 n9 n10 n11 n12 n13 n14 n15 n16 n17 n18 n19 n20 (forms.Act act_forms.Abandon) = n15
-no_form word n0 n1 n2 n3 n4 n5 n6 n7 n8 n9 n10 n11 n12 n13 n14 n15 n16 n17 n18 n19 n20 forms.Verdict = n16
-no_form word n0 n1 n2 n3 n4 n5 n6 n7 n8 n9 n10 n11 n12 n13 n14 n15 n16 n17 n18 n19 n20 forms.Case = n17
-no_form word n0 n1 n2 n3 n4 n5 n6 n7 n8 n9 n10 n11 n12 n13 n14 n15 n16 n17 n18 n19 n20 forms.Airfield = n18
-no_form word n0 n1 n2 n3 n4 n5 n6 n7 n8 n9 n10 n11 n12 n13 n14 n15 n16 n17 n18 n19 n20 forms.Review = n19
-no_form word n0 n1 n2 n3 n4 n5 n6 n7 n8 n9 n10 n11 n12 n13 n14 n15 n16 n17 n18 n19 n20 forms.Report = n20
+    → word ≢ codes "report" → word ≢ codes "sync" → (form : Form) → word ≢ form_word form
+no_form word n0 n1 n2 n3 n4 n5 n6 n7 n8 n9 n10 n11 n12 n13 n14 n15 n16 n17 n18 n19 n20 n21 forms.Screen = n0
+no_form word n0 n1 n2 n3 n4 n5 n6 n7 n8 n9 n10 n11 n12 n13 n14 n15 n16 n17 n18 n19 n20 n21 (forms.Act (act_forms.Plain plains.Airport)) = n1
+no_form word n0 n1 n2 n3 n4 n5 n6 n7 n8 n9 n10 n11 n12 n13 n14 n15 n16 n17 n18 n19 n20 n21 (forms.Act (act_forms.Plain plains.Runway)) = n2
+no_form word n0 n1 n2 n3 n4 n5 n6 n7 n8 n9 n10 n11 n12 n13 n14 n15 n16 n17 n18 n19 n20 n21 (forms.Act (act_forms.Plain plains.DropRunway)) = n3
+no_form word n0 n1 n2 n3 n4 n5 n6 n7 n8 n9 n10 n11 n12 n13 n14 n15 n16 n17 n18 n19 n20 n21 (forms.Act (act_forms.Plain plains.Heliport)) = n4
+no_form word n0 n1 n2 n3 n4 n5 n6 n7 n8 n9 n10 n11 n12 n13 n14 n15 n16 n17 n18 n19 n20 n21 (forms.Act (act_forms.Plain plains.Drop)) = n5
+no_form word n0 n1 n2 n3 n4 n5 n6 n7 n8 n9 n10 n11 n12 n13 n14 n15 n16 n17 n18 n19 n20 n21 (forms.Act (act_forms.Plain plains.Day)) = n6
+no_form word n0 n1 n2 n3 n4 n5 n6 n7 n8 n9 n10 n11 n12 n13 n14 n15 n16 n17 n18 n19 n20 n21 (forms.Act (act_forms.Plain plains.Closed)) = n7
+no_form word n0 n1 n2 n3 n4 n5 n6 n7 n8 n9 n10 n11 n12 n13 n14 n15 n16 n17 n18 n19 n20 n21 (forms.Act act_forms.File) = n8
+no_form word n0 n1 n2 n3 n4 n5 n6 n7 n8 n9 n10 n11 n12 n13 n14 n15 n16 n17 n18 n19 n20 n21 (forms.Act act_forms.Form) = n9
+no_form word n0 n1 n2 n3 n4 n5 n6 n7 n8 n9 n10 n11 n12 n13 n14 n15 n16 n17 n18 n19 n20 n21 (forms.Act act_forms.Determine) = n10
+no_form word n0 n1 n2 n3 n4 n5 n6 n7 n8 n9 n10 n11 n12 n13 n14 n15 n16 n17 n18 n19 n20 n21 (forms.Act act_forms.Petition) = n11
+no_form word n0 n1 n2 n3 n4 n5 n6 n7 n8 n9 n10 n11 n12 n13 n14 n15 n16 n17 n18 n19 n20 n21 (forms.Act act_forms.Dispose) = n12
+no_form word n0 n1 n2 n3 n4 n5 n6 n7 n8 n9 n10 n11 n12 n13 n14 n15 n16 n17 n18 n19 n20 n21 (forms.Act act_forms.Extend) = n13
+no_form word n0 n1 n2 n3 n4 n5 n6 n7 n8 n9 n10 n11 n12 n13 n14 n15 n16 n17 n18 n19 n20 n21 (forms.Act act_forms.Fcc) = n14
+no_form word n0 n1 n2 n3 n4 n5 n6 n7 n8 n9 n10 n11 n12 n13 n14 n15 n16 n17 n18 n19 n20 n21 (forms.Act act_forms.Abandon) = n15
+no_form word n0 n1 n2 n3 n4 n5 n6 n7 n8 n9 n10 n11 n12 n13 n14 n15 n16 n17 n18 n19 n20 n21 forms.Verdict = n16
+no_form word n0 n1 n2 n3 n4 n5 n6 n7 n8 n9 n10 n11 n12 n13 n14 n15 n16 n17 n18 n19 n20 n21 forms.Case = n17
+no_form word n0 n1 n2 n3 n4 n5 n6 n7 n8 n9 n10 n11 n12 n13 n14 n15 n16 n17 n18 n19 n20 n21 forms.Airfield = n18
+no_form word n0 n1 n2 n3 n4 n5 n6 n7 n8 n9 n10 n11 n12 n13 n14 n15 n16 n17 n18 n19 n20 n21 forms.Review = n19
+no_form word n0 n1 n2 n3 n4 n5 n6 n7 n8 n9 n10 n11 n12 n13 n14 n15 n16 n17 n18 n19 n20 n21 forms.Report = n20
+no_form word n0 n1 n2 n3 n4 n5 n6 n7 n8 n9 n10 n11 n12 n13 n14 n15 n16 n17 n18 n19 n20 n21 forms.Sync = n21
 
 -- the reader took the first field, the word of this form
 abbrev TookForm : Form → Place → Place → Type 0
@@ -93,6 +94,7 @@ short_shape forms.Case = omega arith
 short_shape forms.Airfield = omega arith
 short_shape forms.Review = omega arith
 short_shape forms.Report = omega arith
+short_shape forms.Sync = omega arith
 
 -- so the number of a wrong field is small
 pub wrong_early : (fields : List (List ℕ)) (n : ℕ) → FirstWrong fields n → n ≤ 17

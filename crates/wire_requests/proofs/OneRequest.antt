@@ -62,7 +62,8 @@ form_named word = if bytes_eq word (form_word forms.Screen) then forms.Screen
     else if bytes_eq word (form_word forms.Case) then forms.Case
     else if bytes_eq word (form_word forms.Airfield) then forms.Airfield
     else if bytes_eq word (form_word forms.Review) then forms.Review
-    else if bytes_eq word (form_word forms.Report) then forms.Report else forms.Act (act_named word)
+    else if bytes_eq word (form_word forms.Report) then forms.Report
+    else if bytes_eq word (form_word forms.Sync) then forms.Sync else forms.Act (act_named word)
 
 pub form_again : (form : Form) → form_named (form_word form) ≡ form
 unfolding form_named act_named plain_named
@@ -87,6 +88,7 @@ form_again forms.Case = refl
 form_again forms.Airfield = refl
 form_again forms.Review = refl
 form_again forms.Report = refl
+form_again forms.Sync = refl
 
 pub one_form : (f g : Form) → form_word f ≡ form_word g → f ≡ g
 one_form f g e = sym (form_again f) ∙ ap form_named e ∙ form_again g
@@ -226,6 +228,7 @@ one_query (queries.Verdict a) (queries.Verdict b) h k f e = ap (λ x. queries.Ve
 one_query (queries.Case a) (queries.Case b) h k f e = ap (λ x. queries.Case x) (one_count a b (omega (arith, h)) (omega (arith, k)) (at 1 e))
 one_query (queries.Airfield a) (queries.Airfield b) h k f e = ap (λ x. queries.Airfield x) (at 1 e)
 one_query queries.Review queries.Review h k f e = refl
+one_query queries.Sync queries.Sync h k f e = refl
 one_query (queries.Report a) (queries.Report b) h k f e = ap (λ x. queries.Report x) (one_report a b (at 1 e))
 one_query _ _ h k f e = absurd (cc)
 
@@ -239,6 +242,7 @@ no_query (queries.Case n) a e = cc
 no_query (queries.Airfield id) a e = cc
 no_query queries.Review a e = cc
 no_query (queries.Report kind) a e = cc
+no_query queries.Sync a e = cc
 
 same_form : (r s : Request) → spelling r ≡ spelling s → form_of r ≡ form_of s
 same_form (requests.Query a) (requests.Query b) e = one_form (query_form a) (query_form b) (at 0 e)

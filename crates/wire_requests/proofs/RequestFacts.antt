@@ -108,6 +108,7 @@ form_usual forms.Case = (short_word _ (omega arith) (omega arith) refl, (case_us
 form_usual forms.Airfield = (short_word _ (omega arith) (omega arith) refl, (tt, tt))
 form_usual forms.Review = (short_word _ (omega arith) (omega arith) refl, tt)
 form_usual forms.Report = (short_word _ (omega arith) (omega arith) refl, (tt, tt))
+form_usual forms.Sync = (short_word _ (omega arith) (omega arith) refl, tt)
 
 -- ---- the request of some fields
 
@@ -267,6 +268,7 @@ request_of_values forms.Case v =
     record { request = requests.Query (queries.Case n.0); form_is = refl; fields_are = same_cons v.0.1 (same_cons n.1 refl); valid = (n.2, n.3) }
 request_of_values forms.Airfield v =
     record { request = requests.Query (queries.Airfield v.1.0.0); form_is = refl; fields_are = same_cons v.0.1 refl; valid = tt }
+request_of_values forms.Sync v = record { request = requests.Query queries.Sync; form_is = refl; fields_are = same_cons v.0.1 refl; valid = tt }
 request_of_values forms.Review v = record { request = requests.Query queries.Review; form_is = refl; fields_are = same_cons v.0.1 refl; valid = tt }
 request_of_values forms.Report v =
     let kind = v.1.0.1 in

@@ -33,6 +33,7 @@ form_word forms.Case = codes "case"
 form_word forms.Airfield = codes "airfield"
 form_word forms.Review = codes "review"
 form_word forms.Report = codes "report"
+form_word forms.Sync = codes "sync"
 
 -- the fields after caller and key, of forms whose accepted reply holds nothing but the form's name
 abbrev pub plain_shape : Plain → List Wanted
@@ -71,6 +72,7 @@ fields_of_form forms.Case = case_wanted ∷ []
 fields_of_form forms.Airfield = FieldIdWanted ∷ []
 fields_of_form forms.Review = []
 fields_of_form forms.Report = ReportWanted ∷ []
+fields_of_form forms.Sync = []
 
 -- all fields of each form
 abbrev pub shape_of : Form → List Wanted

@@ -30,6 +30,7 @@ IsValidQuery (queries.Case n) = IsCase n
 IsValidQuery (queries.Airfield id) = Unit {0}
 IsValidQuery queries.Review = Unit {0}
 IsValidQuery (queries.Report kind) = Unit {0}
+IsValidQuery queries.Sync = Unit {0}
 
 -- elevations and widths have up to nine digits here; the register refuses those outside their limits
 abbrev pub IsValidAmendment : Amendment → Type 0

@@ -94,6 +94,7 @@ query_form (queries.Case n) = forms.Case
 query_form (queries.Airfield id) = forms.Airfield
 query_form queries.Review = forms.Review
 query_form (queries.Report kind) = forms.Report
+query_form queries.Sync = forms.Sync
 
 abbrev pub query_fields : Query → List (List ℕ)
 query_fields (queries.Screen site) = site_fields site
@@ -102,6 +103,7 @@ query_fields (queries.Case n) = decimal n ∷ []
 query_fields (queries.Airfield id) = id ∷ []
 query_fields queries.Review = []
 query_fields (queries.Report kind) = report_word kind ∷ []
+query_fields queries.Sync = []
 
 abbrev pub query_spelling : Query → List (List ℕ)
 query_spelling q = form_word (query_form q) ∷ query_fields q

@@ -49,6 +49,8 @@ pub enum Form {
     Review,
     /// A report.
     Report,
+    /// The number of the newest entry.
+    Sync,
 }
 
 // Finds the form with this word.
@@ -79,6 +81,7 @@ fn form_of(word: &[u8]) -> Option<Form>
         b"airfield" => Some(Form::Airfield),
         b"review" => Some(Form::Review),
         b"report" => Some(Form::Report),
+        b"sync" => Some(Form::Sync),
         _ => None,
     }
 }

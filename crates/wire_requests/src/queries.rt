@@ -1,4 +1,4 @@
-//! The query forms: on a structure, a case or an airfield, and for reports.
+//! The query forms: on a structure, a case or an airfield, for reports, and for the number of the newest entry.
 
 ghost use Rattle.std.specs.Prelude.{◌≡◌, ◌+◌, IfOk, IfErr};
 ghost use Rattle.wire_cursor.specs.Shape.{IsBad};
@@ -78,4 +78,14 @@ pub(crate) fn report(cursor: &mut Cursor<'_>) -> Result<Request, BadField>
     let kind = cursor.take()?;
     cursor.end()?;
     Ok(Request::Query(Query::Report(kind)))
+}
+
+/// Reads a query for the number of the newest entry, after its word.
+pub(crate) fn sync(cursor: &mut Cursor<'_>) -> Result<Request, BadField>
+    requires { cursor.old.before ≡ form_word forms.Sync }
+    ensures read { IfOk result (λ r. IsReading forms.Sync r cursor.old) }
+    ensures bad { IfErr result (λ b. IsBad (fields_of_form forms.Sync) cursor.old (b.before + 1)) }
+{
+    cursor.end()?;
+    Ok(Request::Query(Query::Sync))
 }

@@ -6,7 +6,7 @@ ghost use Rattle.wire_requests.specs.Requests.{spelling, IsGood, IsRecord, IsRef
 
 use crate::change::change;
 use crate::form::{Form, named_form};
-use crate::queries::{airfield, case, report, review, screen, verdict};
+use crate::queries::{airfield, case, report, review, screen, sync, verdict};
 use crate::request::{ReadRefusal, Request};
 use csv::ByteRecord;
 use grid_exact::LINE_LIMIT;
@@ -31,6 +31,7 @@ fn request(fields: Fields<'_>) -> Result<Request, BadField>
         Some(Form::Airfield) => airfield(&mut cursor),
         Some(Form::Review) => review(&mut cursor),
         Some(Form::Report) => report(&mut cursor),
+        Some(Form::Sync) => sync(&mut cursor),
         None => Err(BadField { before: 0 }),
     }
 }

@@ -56,6 +56,8 @@ pub enum Query {
     Review,
     /// A report.
     Report(ReportKind),
+    /// The number of the newest entry that the session sees.
+    Sync,
 }
 
 /// A request.

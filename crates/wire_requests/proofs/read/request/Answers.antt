@@ -26,5 +26,8 @@ returns-in-Some-Review-clause-bad c = wrong_form forms.Review _ _ _ c.review.res
 pub returns-in-Some-Report-clause-bad : goal.returns-in-Some-Report-clause-bad
 returns-in-Some-Report-clause-bad c = wrong_form forms.Report _ _ _ c.report.result c.new-cursor.ensures (rw c.in-Some-Report.field-0-is at c.in-Some-Report.ensures.took) c.report.ensures.bad
 
+pub returns-in-Some-Sync-clause-bad : goal.returns-in-Some-Sync-clause-bad
+returns-in-Some-Sync-clause-bad c = wrong_form forms.Sync _ _ _ c.sync.result c.new-cursor.ensures (rw c.in-Some-Sync.field-0-is at c.in-Some-Sync.ensures.took) c.sync.ensures.bad
+
 pub returns-in-None-clause-bad : goal.returns-in-None-clause-bad
 returns-in-None-clause-bad c = NoForm (rw c.new-cursor.ensures at c.in-None.ensures.none) refl

@@ -1,0 +1,3 @@
+pub mod WorkFacts
+pub mod TeamFacts
+pub mod OpenFacts

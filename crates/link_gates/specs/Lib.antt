@@ -1,0 +1,4 @@
+pub mod Ports
+pub mod Serving
+pub mod Teams
+pub mod Fakes

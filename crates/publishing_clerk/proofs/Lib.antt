@@ -1,0 +1,7 @@
+pub mod Agreeing
+pub mod Going
+pub mod Named
+pub mod Offering
+pub mod Over
+pub mod Owning
+pub mod Ruled
