@@ -90,10 +90,12 @@ def cautions(pair: Pair, register: Register) -> list[str]:
 
 
 def of_file(pairs: list[Pair]) -> list[str]:
-    """A caution about the heights of a whole file."""
+    """A caution about a whole file: it has no record, or its heights are small."""
+    if not pairs:
+        return ["there is no record in this file: is it another one, or was it not saved?"]
     heights = [int(pair.record.values["HEIGHT"]) for pair in pairs if has_structure(pair) and pair.record.values["KIND"] in ("object", "antenna")]
     if heights and max(heights) in FEET_FOR_TENTHS:
-        return [f"no structure of this file is taller than {show(max(heights) / TENTHS)} ft: were feet written for tenths of a foot?"]
+        return [f"no structure of this file is taller than {show(max(heights) / TENTHS)} ft: were feet written for tenths of a foot, or metres for feet?"]
     return []
 
 

@@ -6,6 +6,9 @@ from dataclasses import dataclass
 from datetime import date
 
 LONGEST_LINE = 8192  # bytes
+LONGEST_QUOTED = 60  # letters of a field that was refused
+WORDS_OF_POINTS = ("what", "end", "pad", "structure")  # of a table for oe-from-points
+SEPARATORS = ",;\t"  # a spreadsheet saves semicolons where a comma begins the decimals
 FLAG_LETTERS = "SDRIGT"
 TRAVERSE_WITH_MOBILE = ("private", "water")
 Earlier = Mapping[str, str]
@@ -173,6 +176,24 @@ def is_sheet_date(text: str) -> bool:
     return re.fullmatch(r"[0-9]{1,2}[/.][0-9]{1,2}[/.][0-9]{2,4}|[0-9]{1,2}-[A-Z][a-z]{2}(-[0-9]{2,4})?|[A-Z][a-z]{2}-[0-9]{2,4}", text) is not None
 
 
+def quoted(text: str) -> str:
+    """A cell for a message, shortened."""
+    return f'"{text}"' if len(text) <= LONGEST_QUOTED else f'"{text[:LONGEST_QUOTED]}.."'
+
+
+def about_form(cell: str) -> str | None:
+    """Why a first cell is no form, where that is plain."""
+    if cell.strip().lower() in FORMS:
+        return f"write {cell.strip().lower()}"
+    if cell.strip().lower() in WORDS_OF_POINTS:
+        return "a table of points: oe-from-points makes records of it"
+    if "\0" in cell:
+        return "the file is in UTF-16: save the sheet as CSV UTF-8"
+    if ";" in cell or "\t" in cell:
+        return "the columns are parted by semicolons or tabs: oe-clean writes commas"
+    return None if cell else "an empty row of a spreadsheet: oe-clean takes it off"
+
+
 def cause(text: str, field: Field | None = None) -> str | None:
     """What a field that was refused looks like, where that is plain: mostly what a spreadsheet made of it."""
     if text != text.strip():
@@ -181,8 +202,10 @@ def cause(text: str, field: Field | None = None) -> str | None:
         return "a spreadsheet's date: format the column as text"
     if re.fullmatch(r"-?[0-9]{1,3}(,[0-9]{3})+(\.[0-9]*)?", text):
         return "commas between thousands"
-    if re.fullmatch(r"-?[0-9]*\.[0-9]*", text) and any(letter.isdigit() for letter in text):
-        return "a point: write tenths of a foot without one"
+    if re.fullmatch(r"-?[0-9]*[.,][0-9]*", text) and any(letter.isdigit() for letter in text):
+        return f"a {'point' if '.' in text else 'comma'}: write tenths of a foot without one, so 200.1 ft are 2001"
+    if re.fullmatch(r"-?[0-9][0-9.,]* ?(m|ft|feet|'|′)\.?", text, re.I):
+        return "a unit: write tenths of a foot alone, so 200.1 ft are 2001; convert metres to feet first"
     if re.fullmatch(r"-?[0-9]+(\.[0-9]+)?E[+-]?[0-9]+", text):
         return "a spreadsheet's large number: format the column as a number without decimals"
     if re.fullmatch(r"\+[0-9]+|-?0[0-9]+|-0", text):

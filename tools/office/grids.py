@@ -49,6 +49,8 @@ def read_choice(path: str) -> Choice:
 def kept_choice(said: Choice, path: str | None) -> Choice:
     """The choice of a grid's file where there is one; another one beside it is refused."""
     if not path or not os.path.exists(path):
+        if path and not said.crs:
+            raise Fault(f"{path}: no such file; the first time, --crs and --origin stand beside --grid, which then keeps them there")
         return said
     kept = read_choice(path)
     for name, value in vars(said).items():
@@ -110,10 +112,13 @@ class Grid:
         zone = self.crs.area_of_use
         if zone is None:
             return
-        is_within = (zone.west - AROUND_ZONE <= lon <= zone.east + AROUND_ZONE) and (zone.south - AROUND_ZONE <= lat <= zone.north + AROUND_ZONE)
-        if not is_within:
+
+        def is_within(lat: float, lon: float) -> bool:
+            return zone.west - AROUND_ZONE <= lon <= zone.east + AROUND_ZONE and zone.south - AROUND_ZONE <= lat <= zone.north + AROUND_ZONE
+        if not is_within(lat, lon):
+            cause = "a western longitude is negative" if is_within(lat, -lon) else "are lat and lon exchanged?" if is_within(lon, lat) else "is this the zone of the place?"
             raise Fault(f"{where}: latitude {lat:.5f}, longitude {lon:.5f} is outside of {self.crs.name} ({zone.south:g} to {zone.north:g}, "
-                        f"{zone.west:g} to {zone.east:g}); a western longitude is negative")
+                        f"{zone.west:g} to {zone.east:g}); {cause}")
 
     def ellipsoid_feet(self, lat: float, lon: float, to_lat: float, to_lon: float) -> float:
         """The way between two points over the ellipsoid, in feet of the grid."""

@@ -12,6 +12,7 @@ from office.tables import Row
 SORTS = ("airport", "end", "pad", "structure")
 SAME_OF_ENDS = {"end": ("use", "surface"), "pad": ("category", "width_ft", "elev_ft")}
 FAR_FROM_PUBLISHED = 10  # feet
+ABOVE_AIRPORT, BELOW_AIRPORT = 1, 500  # feet of an end from its airport's elevation, which is that of the highest point of its runways
 
 
 @dataclass(frozen=True)
@@ -44,6 +45,7 @@ class Writer:
     names: list[tuple[str, ...]] = field(default_factory=list)
     notes: list[str] = field(default_factory=list)
     waiting: dict[tuple[str, str, str], Point] = field(default_factory=dict)
+    elevations: dict[str, int] = field(default_factory=dict)
     changes: int = 0
 
     def put(self, row: Row, *fields: str | int) -> None:
@@ -51,8 +53,9 @@ class Writer:
         cells = [str(cell) for cell in fields]
         number = forms.first_bad_field(cells)
         if number is not None:
-            field_of = forms.FORMS[cells[0]][number - 2]
-            raise Fault(f'{row.where}: {field_of.name} "{cells[number - 1]}"; wanted is {field_of.wanted}')
+            field_of, cell = forms.FORMS[cells[0]][number - 2], cells[number - 1]
+            why = forms.cause(cell, field_of)
+            raise Fault(f"{row.where}: {field_of.name} {forms.quoted(cell)}" + (f" ({why})" if why else "") + f"; wanted is {field_of.wanted}")
         self.records.append(",".join(cells))
 
     def put_change(self, row: Row, form: str, *fields: str | int) -> None:
@@ -65,6 +68,7 @@ class Writer:
             raise Fault(f'{row.where}: what is "{what}"; wanted is {", ".join(SORTS)}')
         point = self.locate(row)
         if what == "airport":
+            self.elevations[row.get("id")] = point.elevation
             self.put_change(row, "airport", row.need("id"), row.need("category"), point.place.x, point.place.y, point.elevation)
         elif what == "structure":
             self.put_structure(point)
@@ -101,6 +105,16 @@ class Writer:
         row = second.row
         self.put_change(row, "runway", row.need("id"), row.need("name"), row.need("use"), row.need("surface"), *first.as_end(), *second.as_end())
         self.note_length(first, second)
+        for end in (first, second):
+            self.note_elevation(end)
+
+    def note_elevation(self, end: Point) -> None:
+        """A caution where an end is above its airport, or far below it."""
+        name, runway = end.row.get("id"), end.row.get("name")
+        above = (end.elevation - self.elevations.get(name, end.elevation)) / TENTHS
+        if above > ABOVE_AIRPORT or above < -BELOW_AIRPORT:
+            self.notes.append(f"CAUTION: {end.row.where}: an end of {name} {runway} is {show(abs(above))} ft {'above' if above > 0 else 'below'} the airport's elevation, "
+                              "which is that of the highest point of its runways: is one of them mistyped, or in metres?")
 
     def note_length(self, first: Point, second: Point) -> None:
         """The length on the grid beside that on the ellipsoid and the published one, as a check of the coordinates."""

@@ -1,5 +1,6 @@
 """Records out of a spreadsheet's CSV, each cell as the form of its row wants it; what is not so is refused by its line."""
 import csv
+import re
 from collections.abc import Iterator
 from dataclasses import dataclass
 
@@ -8,6 +9,7 @@ from office.faults import Fault
 from office.records import read_bytes
 
 REMARK = "#"
+END_OF_WAY = ["-"]  # which `oe stations` reads behind the points of a way
 OTHER_ENCODINGS = (b"\xff\xfe", b"\xfe\xff")  # the marks of UTF-16
 TEMPLATE_REMARKS = (
     f"{REMARK} A row that begins with {REMARK} is a remark and is left out. Type records below the heading of their form.",
@@ -43,9 +45,16 @@ def trimmed(cells: list[str]) -> list[str]:
     return bare
 
 
+def separator_of(text: str) -> str:
+    """What parts the cells: what stands behind the first form that begins a line."""
+    found = re.search(rf'^\s*"?({"|".join(forms.FORMS)})"?\s*([{forms.SEPARATORS}])', text, re.M | re.I)
+    return found[2] if found else forms.SEPARATORS[0]
+
+
 def rows(path: str) -> Iterator[Row]:
     """The rows of a sheet. A cell that goes over several lines is refused."""
-    reader = csv.reader(text_of(path).splitlines(keepends=True), strict=True)
+    text = text_of(path)
+    reader = csv.reader(text.splitlines(keepends=True), strict=True, delimiter=separator_of(text))
     line = 0
     try:
         for cells in reader:
@@ -59,11 +68,11 @@ def rows(path: str) -> Iterator[Row]:
 
 def about_form(cell: str) -> str:
     """Why a first cell is no form."""
-    if cell.lower() in forms.FORMS:
-        return f'"{cell}": write {cell.lower()}'
-    if ";" in cell or "\t" in cell:
-        return f'"{cell[:40]}": the columns are not parted by commas; save the sheet as CSV with commas'
-    return f'"{cell[:40]}" is no form ({", ".join(forms.FORMS)}); begin a row of headings or remarks with {REMARK}'
+    first, *others = re.split(f"[{forms.SEPARATORS}]", cell)
+    if others and first.strip().lower() in forms.FORMS:
+        return f"{forms.quoted(cell)}: its cells are not parted as those of the first record"
+    why = forms.about_form(cell) if cell else "the first cell is empty"
+    return f"{forms.quoted(cell)}: {why}" if why else f'{forms.quoted(cell)} is no form ({", ".join(forms.FORMS)}); begin a row of headings or remarks with {REMARK}'
 
 
 def about_runway(cells: list[str]) -> str | None:
@@ -74,6 +83,8 @@ def about_runway(cells: list[str]) -> str | None:
 
 def fault_of(row: Row) -> str | None:
     """What is wrong with a row's cells, or nothing."""
+    if row.cells == END_OF_WAY:
+        return None
     number = forms.first_bad_field(row.cells)
     if number is None:
         return about_runway(row.cells)
@@ -85,7 +96,7 @@ def fault_of(row: Row) -> str | None:
     field = form[number - 2]
     cell = row.cells[number - 1] if number <= len(row.cells) else ""
     why = forms.cause(cell, field) if cell else "it is wanting"
-    return f"field {number}, {field.name}: " + (f'"{cell}"' if cell else "nothing") + (f" ({why})" if why else "") + f"; wanted is {field.wanted}"
+    return f"field {number}, {field.name}: " + (forms.quoted(cell) if cell else "nothing") + (f" ({why})" if why else "") + f"; wanted is {field.wanted}"
 
 
 def reused_keys(some: list[Row]) -> Iterator[tuple[int, str]]:

@@ -1,14 +1,17 @@
 """Tables of points. A table of another source is read with a map of its columns; none of another's names are built in."""
 import configparser
 import csv
+import io
 import os
 from dataclasses import dataclass, field
 
 from office.faults import Fault
+from office.forms import SEPARATORS
 
 WANTED = ("what", "lat", "lon", "elev_ft")
 COLUMNS = (*WANTED, "id", "name", "height_ft", "category", "use", "surface", "kind", "width_ft", "mobile_ft", "flags", "published_ft")
 MAP_SECTION = "columns"
+MORE = "more cells"  # what a row has beyond the named columns
 
 
 @dataclass(frozen=True)
@@ -50,6 +53,10 @@ class MapParser(configparser.ConfigParser):
         return optionstr
 
 
+def why_no_table(error: Exception) -> str:
+    return f"it is no CSV ({error})" if isinstance(error, csv.Error) else "it is no text in UTF-8; save the sheet as CSV UTF-8"
+
+
 def read_map(path: str) -> ColumnMap:
     """A map of columns from an INI file (see oe-from-points --help)."""
     parser = MapParser(delimiters=("=",), comment_prefixes=("#", ";"), interpolation=None)
@@ -81,18 +88,32 @@ def check_columns(path: str, there: list[str], columns: ColumnMap, is_mapped: bo
         raise Fault(f"{path}: no column {', '.join(missing)}{hint}")
 
 
+def reader_of(text: str, is_mapped: bool) -> "csv.DictReader[str]":
+    """The rows of a table by the names of its columns. Our own names may have capitals and spaces around them."""
+    head = text.partition("\n")[0]
+    separator = next((one for one in SEPARATORS if one in head), SEPARATORS[0])
+    reader = csv.DictReader(io.StringIO(text, newline=""), restkey=MORE, delimiter=separator)
+    if reader.fieldnames and not is_mapped:
+        reader.fieldnames = [name.strip().lower() for name in reader.fieldnames]
+    return reader
+
+
 def read_rows(path: str, map_path: str | None) -> list[Row]:
     """The points of a table, whose first line names the columns."""
     columns = read_map(map_path) if map_path else ColumnMap()
     try:
         with open(path, newline="", encoding="utf-8-sig") as file:
-            reader = csv.DictReader(file)
-            check_columns(path, list(reader.fieldnames or []), columns, bool(map_path))
+            reader = reader_of(file.read(), bool(map_path))
+            if not reader.fieldnames:
+                raise Fault(f"{path}: it is empty; its first line names the columns")
+            check_columns(path, list(reader.fieldnames), columns, bool(map_path))
             rows = []
             for row in reader:
                 where = f"{os.path.basename(path)} line {reader.line_num}"
+                if any(text.strip() for text in row.get(MORE, [])):
+                    raise Fault(f"{where}: the row has more cells than the first line has names")
                 if any((text or "").strip() for text in row.values() if isinstance(text, str)):
                     rows.append(Row(where, columns.take(row, where)))
             return rows
     except (OSError, UnicodeDecodeError, csv.Error) as error:
-        raise Fault(f"{path}: {getattr(error, 'strerror', None) or 'it is no table in UTF-8'}") from error
+        raise Fault(f"{path}: {getattr(error, 'strerror', None) or why_no_table(error)}") from error

@@ -8,7 +8,6 @@ from office.replies import (NONE, Accepted, AirfieldRow, CaseState, Ceiling, Ent
 from office.structures import ENTRIES_OF_DETERMINATION
 
 MALFORMED = 13
-LONGEST_QUOTED = 60  # letters of a field that was refused
 REFUSALS = {  # {0} and {1} are the values of the refusal
     2: "a utility runway cannot have a precision approach",
     3: "no airfield of this ID is registered: register it first, or look for a misspelt ID",
@@ -172,7 +171,8 @@ def say_malformed(record: Record, number: int) -> list[str]:
     if number == 1 and record.form in forms.FORMS:
         return [f"{head} at field 1: `oe ceiling` and `oe stations` read `screen` records, and this is `{record.form}`"]
     if record.form not in forms.FORMS:
-        return [f'{head} at field 1: there is no form "{record.form[:LONGEST_QUOTED]}"']
+        why = forms.about_form(record.form)
+        return [f"{head} at field 1: there is no form {forms.quoted(record.form)}" + (f" ({why})" if why else "")]
     form = forms.FORMS[record.form]
     if number > len(form) + 1:
         return [f"{head} at field {number}: {forms.size(record.form)} (a spreadsheet pads lines with commas; oe-clean takes them off)"]
@@ -181,7 +181,7 @@ def say_malformed(record: Record, number: int) -> list[str]:
         return [f"{head} at field {number}, {field.name}: it is wanting; wanted is {field.wanted}"]
     text = record.fields[number - 1]
     why = forms.cause(text, field)
-    return [f'{head} at field {number}, {field.name}: "{text[:LONGEST_QUOTED]}"' + (f" ({why})" if why else "") + f"; wanted is {field.wanted}"]
+    return [f"{head} at field {number}, {field.name}: {forms.quoted(text)}" + (f" ({why})" if why else "") + f"; wanted is {field.wanted}"]
 
 
 def say_refusal(record: Record, reply: Refusal) -> list[str]:

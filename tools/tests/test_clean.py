@@ -36,9 +36,28 @@ class Clean(Trial):
                 ('screen,"1,000",0,0,1,object,0,-,-', "commas between thousands"), ("screen,1.5,0,0,1,object,0,-,-", "a point"),
                 ("screen,1E+06,0,0,1,object,0,-,-", "large number"), ("Screen,0,0,0,1,object,0,-,-", '"Screen": write screen'),
                 ("screen,0,0,0,1,Object,0,-,-", 'field 6, KIND: "Object" (capital'), ("screen,0,0,0,1,object,0,-", "field 9, ON: nothing (it is wanting)"),
-                ("screen,0,0,0,1,object,0,-,-,x", "screen has 9 fields, and the row has 10"), ("screen;0;0", "not parted by commas"),
-                ("X,Y,GROUND", "begin a row of headings or remarks with #"), ("screen,20000001,0,0,1,object,0,-,-", 'X: "20000001"')):
+                ("screen,0,0,0,1,object,0,-,-,x", "screen has 9 fields, and the row has 10"), ("review\nscreen,0,0,0,1,object,0,-,-\nday;a;1;2026-01-15", 'line 4: "day;a;1;2026-01-15": its cells are not parted as those of the first record'),
+                ('screen,0,0,0,"200,1",object,0,-,-', "a comma: write tenths of a foot without one, so 200.1 ft are 2001"), ("screen,0,0,0,200 ft,object,0,-,-", "a unit: write"),
+                ("screen,0,0,0,61m,object,0,-,-", '"61m" (a unit'), (",x,y", '"": the first cell is empty'), ("airport,a,1,M\u00dcN,public,0,0,0", 'ID: "M\u00dcN"; wanted is 1 to 8'),
+                ("screen,0,0,0,1,object,0,-," + "A" * 20000, f'ON: "{"A" * 60}.."; wanted'), ("screen;0;0;0;200,1;object;0;-;-", "a comma: write tenths"),
+                ("X,Y,GROUND", "begin a row of headings or remarks with #"), ("what,id,name,lat", '"what": a table of points: oe-from-points makes'), ("screen,20000001,0,0,1,object,0,-,-", 'X: "20000001"')):
             self.fault(words, "oe-clean", self.write("sheet.csv", f"# remark\n{row}\nreview\n"))
+
+    def test_other_separators(self) -> None:
+        """As a spreadsheet saves a sheet where a comma begins the decimals."""
+        records = "\nscreen,0,0,0,2001,object,0,-,-\n\nday,office,1,2026-01-15\n"
+        for separator in ";\t":
+            rows = (["# one; two, three"], ["screen", "0", "0", "0", "2001", "object", "0", "-", "-"], [""] * 9, ["day", "office", "1", "2026-01-15"] + [""] * 5)
+            sheet = "\ufeff" + "".join(separator.join(row) + "\r\n" for row in rows)
+            self.assertEqual(self.good("oe-clean", self.write("sheet.csv", sheet)).out, records)
+
+    def test_the_end_of_a_way(self) -> None:
+        way = "screen,0,0,1000,850,interstate,0,-,-\n-\n"
+        self.assertEqual(self.good("oe-clean", self.write("sheet.csv", way.replace("-\n", "-,,\n"))).out, way)
+
+    def test_a_sheet_without_a_record(self) -> None:
+        for sheet in ("", "\r\n", "# remark\n,,,,\n"):
+            self.assertIn("sheet.csv: there is no record in it\n", self.good("oe-clean", self.write("sheet.csv", sheet)).err)
 
     def test_all_faults_are_said(self) -> None:
         ended = self.run_tool("oe-clean", self.write("sheet.csv", "days,1\nreview\nday,a,b,1/2/2026\n"))

@@ -21,17 +21,33 @@ TOWER = "structure,TST,Tower,40.76,-73.52,30,,,,antenna,250.5,,T,\n"
 class Measures(unittest.TestCase):
     def test_angles(self) -> None:
         for text, axis, value in (("40.75", Axis.LATITUDE, 40.75), ("40-45-00N", Axis.LATITUDE, 40.75), ("40-45.0N", Axis.LATITUDE, 40.75),
-                                  ("073-30-36.0W", Axis.LONGITUDE, -73.51), ("-73.51", Axis.LONGITUDE, -73.51), ("12-00-00S", Axis.LATITUDE, -12.0)):
+                                  ("073-30-36.0W", Axis.LONGITUDE, -73.51), ("-73.51", Axis.LONGITUDE, -73.51), ("12-00-00S", Axis.LATITUDE, -12.0),
+                                  ("40-45-00.0n", Axis.LATITUDE, 40.75), ("40°45'00.0\"N", Axis.LATITUDE, 40.75), ("40° 45′ 00″ N", Axis.LATITUDE, 40.75),
+                                  ("40 45 00 N", Axis.LATITUDE, 40.75), ("40°45.0'N", Axis.LATITUDE, 40.75), ("73.51W", Axis.LONGITUDE, -73.51), ("40.75 N", Axis.LATITUDE, 40.75)):
             self.assertAlmostEqual(degrees(text, axis, "here"), value, places=9)
         for text, axis in (("404500N", Axis.LATITUDE), ("40-60-00N", Axis.LATITUDE), ("40-45-60N", Axis.LATITUDE), ("91", Axis.LATITUDE), ("181", Axis.LONGITUDE),
-                           ("40-45-00W", Axis.LATITUDE), ("40 45 00", Axis.LATITUDE), ("40,75", Axis.LATITUDE), ("40-45.5-10N", Axis.LATITUDE), ("", Axis.LATITUDE)):
+                           ("40-45-00W", Axis.LATITUDE), ("40 45 00", Axis.LATITUDE), ("40,75", Axis.LATITUDE), ("40-45.5-10N", Axis.LATITUDE), ("", Axis.LATITUDE),
+                           ("-40.75N", Axis.LATITUDE), ("-73°30'36\"", Axis.LONGITUDE), ("40N", Axis.LATITUDE), ("-73-30-36W", Axis.LONGITUDE)):
             self.assertRaises(Fault, degrees, text, axis, "here")
 
     def test_feet(self) -> None:
         for text, value in (("0", 0), ("20.6", 206), ("-3.5", -35), ("-0", 0), ("7.", 70), ("13.10", 131)):
             self.assertEqual(tenths(text, "here"), value)
-        for text in ("20.65", "1,000", "1e3", "", "12 ft", "+5"):
+        for text in ("20.65", "1,000", "1e3", "", "12 ft", "+5", "9" * 20000, "1." + "0" * 20000):
             self.assertRaises(Fault, tenths, text, "here")
+
+    def test_what_is_said(self) -> None:
+        for text, axis, words in (("40,75", Axis.LATITUDE, "(a comma: write a point); write 40.77925 or"), ("073-30-36.0", Axis.LONGITUDE, "(without E or W); write -73.97292 or"),
+                                  ("073-30-36.0W", Axis.LATITUDE, "is no latitude (are lat and lon exchanged?)"), ("-120.14", Axis.LATITUDE, "more than 90 degrees: are lat and lon exchanged?"),
+                                  ("north", Axis.LATITUDE, '"north" is no latitude; write')):
+            with self.assertRaises(Fault) as fault:
+                degrees(text, axis, "here")
+            self.assertIn(words, str(fault.exception))
+        for text, words in (("61 m", "are these metres?"), ("200 ft", ": write the number alone"), ("200'", ": write the number alone"), ("1,000.5", "no comma"), ("5,5", "no comma"),
+                            ("9" * 70, f'"{"9" * 60}.." is no number of feet')):
+            with self.assertRaises(Fault) as fault:
+                tenths(text, "here")
+            self.assertIn(words, str(fault.exception))
 
 
 @unittest.skipUnless(HAS_PROJ, "pyproj is missing")
@@ -95,6 +111,7 @@ class Points(Trial):
         self.assertEqual((self.folder / "office.grid").read_text(), f"crs={ZONE}\norigin=1000000,200000\ndatum=EPSG:4269\n")
         self.assertEqual(self.records(AIRPORT, "--grid", "office.grid"), self.records(AIRPORT))
         self.refused("office.grid has origin 1000000,200000, and --origin says 0,0", AIRPORT, "--grid", "office.grid", "--origin", "0,0")
+        self.refused("ofice.grid: no such file; the first time, --crs and --origin stand beside --grid", AIRPORT, "--grid", "ofice.grid")
         self.refused("it is no file that --grid wrote", AIRPORT, "--grid", self.write("broken.grid", "crs=2263\n"))
 
     def test_grids_that_are_refused(self) -> None:
@@ -109,6 +126,10 @@ class Points(Trial):
     def test_points_that_are_refused(self) -> None:
         for rows, words in (
                 (AIRPORT.replace("-73.5", "73.5"), "points.csv line 2 (TST): latitude 40.75000, longitude 73.50000 is outside of"),
+                (AIRPORT.replace("-73.5", "73.5"), "; a western longitude is negative"), (AIRPORT.replace("-73.5", "-93.5"), "; is this the zone of the place?"),
+                (AIRPORT.replace("40.75,-73.5", "-73.5,40.75"), "; are lat and lon exchanged?"), (AIRPORT.replace("20.6", "6.3 m"), 'elev_ft: "6.3 m" is no number of feet: are these metres?'),
+                (AIRPORT.replace("\n", ",more\n"), "line 2: the row has more cells than the first line has names"),
+                (ENDS.replace("09/27", "27-Sep"), 'line 3: NAME "27-Sep" (a spreadsheet\'s date: format the column as text); wanted'),
                 (AIRPORT.replace("20.6", "20.65"), "points.csv line 2 (TST), elev_ft: 20.65 ft is finer than a tenth"),
                 (AIRPORT.replace("40.75", "404500N"), "line 2 (TST), lat"), (AIRPORT.replace("40.75", ""), '"airport" wants lat'),
                 (AIRPORT.replace("public", "PU"), 'line 2: CATEGORY "PU"; wanted is public'), (AIRPORT.replace("TST", "tst"), 'ID "tst"'),
@@ -125,6 +146,24 @@ class Points(Trial):
         for name in ("elev", "elev_m", "elevation"):
             hint = "the unit belongs into the name" if name != "elevation" else "no column elev_ft"
             self.fault(hint, "oe-from-points", self.write("points.csv", HEAD.replace("elev_ft", name) + AIRPORT), *AT)
+
+    def test_sheets_of_other_machines(self) -> None:
+        """Semicolons or tabs, a byte order mark, carriage returns, names of columns with capitals and spaces, padding; what is no table."""
+        records, table = self.records(AIRPORT + ENDS + TOWER), HEAD + AIRPORT + ENDS + TOWER
+        head, rest = table.split("\n", 1)
+        for sheet in (table.replace(",", ";"), table.replace(",", "\t"), "\ufeff" + table.replace("\n", "\r\n"), head.title().replace(",", " , ") + "\n" + rest,
+                      head + "\n" + rest.replace("\n", ",,,\n")):
+            self.assertEqual(self.good("oe-from-points", self.write("points.csv", sheet), *AT).out.splitlines(), records)
+        for sheet, words in (("", "points.csv: it is empty; its first line names the columns"), (table.encode("utf-16"), "no text in UTF-8; save the sheet as CSV UTF-8"),
+                             (table + "A" * 200_000, "it is no CSV (field larger than field limit")):
+            self.fault(words, "oe-from-points", self.write("points.csv", sheet), *AT)
+
+    def test_an_end_above_its_airport(self) -> None:
+        """The elevation of an airport is that of the highest point of its runways; metres beside feet are seen."""
+        for airport, words in (("20.6", ""), ("19.5", ""), ("18", "line 3: an end of TST 09/27 is 2.5 ft above the airport's elevation"), ("530", "line 4: an end of TST 09/27 is 512.0 ft below")):
+            ended = self.good("oe-from-points", self.write("points.csv", HEAD + AIRPORT.replace("20.6", airport) + ENDS), *AT)
+            self.assertIn(words, ended.err)
+            self.assertEqual("CAUTION" in ended.err, bool(words), ended.err)
 
     def test_another_datum_is_said(self) -> None:
         ended = self.good("oe-from-points", self.write("points.csv", HEAD + AIRPORT), *AT, "--datum", "EPSG:4326")

@@ -56,12 +56,22 @@ class Say(Trial):
         """A byte order mark, carriage returns, quotes and an empty line: lines keep their numbers."""
         out = self.said('\ufeffday,a,1,2026-01-15\r\n\r\n"screen","0","0",0,0,object,0,-,-\r\n', "ok,1,published,day\nfound,1,0\n")
         self.assertIn("line 3: screen: 0.0 ft", out)
+        self.assertTrue(out.startswith("line 1: day,a,1"), out)
 
     def test_bytes_that_are_no_text(self) -> None:
         ended = self.good("oe-say", self.write("in", b"screen,\xff\x1b[0m,0\n" + b"x" * 9000 + b"\n"), self.write("out", "no,13,Malformed,2\nno,13,Malformed,0\n"))
         self.assertIn('at field 2, X: "??[0m"', ended.out)
         self.assertIn("longer than 8,192 bytes", ended.out)
         self.assertTrue(all(len(line) < 200 and line.isprintable() for line in ended.out.splitlines()), ended.out)
+
+    def test_a_first_field_that_is_no_form(self) -> None:
+        records = "screen;0;0;0;1;object;0;-;-\nday\ta\t1\t2026-01-15\n,,,,\nScreen,0\nbuilding,0\n"
+        out = self.said(records, "no,13,Malformed,1\n" * 5)
+        for words in ('no form "screen;0;0;0;1;object;0;-;-" (the columns are parted by semicolons or tabs: oe-clean', 'no form "" (an empty row of a spreadsheet: oe-clean',
+                      'no form "Screen" (write screen)\n', 'no form "building"\n'):
+            self.assertIn(words, out)
+        self.assertEqual(out.count("by semicolons or tabs"), 2)
+        self.assertIn("UTF-16", self.said("s\0c\0\n", "no,13,Malformed,1\n"))
 
     def test_a_report(self) -> None:
         out = self.said("report,review\ncase,1\n", "report,review,1\n     1  nohazard  2026-01-15\nno,14,UnknownCase\n")
@@ -118,7 +128,7 @@ class Cautions(Trial):
         self.assertNotIn("CAUTION", self.said(f"{site}-,-\n", "ceiling,2,1020,1,9b1 AAA 09/27 1\n"))
         self.assertNotIn("CAUTION", self.said(f"{site}-,AAA\n", "ceiling,2,-,1,9d AAA - 0\n"))
         self.assertIn("is AAB registered", self.said(f"{site}-,AAB\n", "ceiling,2,1020,1,9b1 AAA 09/27 1\n"))
-        self.assertIn("flag S, D or R", self.said(f"{site}S,-\n", "ceiling,2,1500,1,19a AAA - 0\n"))
+        self.assertIn("flag S, D or R", self.said(f"{site}S,-\n", "ceiling,2,1500,1,19a AAA - 1\n"))
 
     def test_airfields_of_a_file_before(self) -> None:
         """Where the desk has changes that this file does not have, nothing is said of an empty one."""
@@ -139,6 +149,9 @@ class Cautions(Trial):
     def test_a_private_airfield(self) -> None:
         out = self.said(TWO.replace("public", "private") + "screen,0,0,0,1200,object,0,-,AAA\n", "ok,1,published,airport\nok,2,published,runway\nfound,2,0\n")
         self.assertIn("it is on AAA, which is private", out)
+
+    def test_a_file_without_a_record(self) -> None:
+        self.assertIn("CAUTION: there is no record in this file", self.said("\n\n", ""))
 
     def test_numbers_in_the_wrong_place(self) -> None:
         answered = "ok,1,published,airport\nok,2,published,runway\nfound,2,0\n"

@@ -11,7 +11,7 @@ use std::alloc::Global;
 
 /// Hands out links, one after another, and takes each back with how its session ended.
 pub trait Port {
-    type Link: TwoWay + Send;
+    type Link: TwoWay;
 
     /// The links that are left, where it tells.
     ghost links: { Self → Option (List Self.Link) };
@@ -66,7 +66,7 @@ pub enum GateErr {
 
 /// Makes ports.
 pub trait Gate {
-    type Port: Port + Send + Drop;
+    type Port: Port<Link: Send> + Send + Drop;
 
     /// The lists of links, one for each port to come, where it tells.
     ghost lists: { Self → Option (List (List Self.Port.Link)) };

@@ -1,5 +1,5 @@
 -- What the end of a session says of the status.
-use Rattle.std.proofs.Common.{ℕ, List, [], Option, refl, subst, sym, ap, ◌≡◌, ◌≢◌, ◌∙◌, ◌⊎◌, inl, inr}
+use Rattle.std.proofs.Common.{ℕ, List, [], Option, None, Some, refl, subst, sym, ap, ◌≡◌, ◌≢◌, ◌∙◌, ◌⊎◌, inl, inr}
 use Rattle.line_session.specs.Session.{Answered, Begun, HasCauses, IsOfLines, WritesWhole}
 use Rattle.line_session.specs.declared.session.Ended.{Ended}
 use Rattle.line_session.specs.declared.session.Ended.TheVariants as endings
@@ -21,6 +21,10 @@ use Rattle.site_questions.specs.Charts.{Chart, chart}
 use Rattle.site_questions.specs.Ceilings.{CeilingStep}
 use Rattle.site_questions.specs.Ways.{Survey, WayStep, survey}
 use Rattle.site_questions.specs.WaySessions.{WaysAnswered, WaysBegun}
+use Rattle.site_questions.specs.Questions.{CeilingSession, QuestionSession, WaySession}
+use Rattle.site_questions.specs.declared.kinds.Question.{Question}
+use Rattle.site_questions.specs.declared.kinds.Question.TheVariants as asked
+use Rattle.oe_commands.specs.Commands.{question_in}
 use Rattle.oe_commands.specs.Runs.{IsSessionEnd, IsUntouched, PlainRun, RunCauses, RunOver, SessionRun, WaysRun}
 
 -- the end of the session that a status tells of
@@ -113,6 +117,25 @@ module _ {K : Type 0} (Tells : K → Kept → Type 0) (IsSteady : K → Type 0) 
       subst (λ n. WaysRun (survey s.state.register n []) (status_of e) x y h k) number
       (subst (λ a. WaysRun (survey a last []) (status_of e) x y h k) fields (ways_run (survey airfields last []) e x y h k l closed b w)) in
       ended_so service services.Stations status served is (run, λ steady. run)
+
+  -- by the question that a service asks
+  pub question_run : (service : Service) (question : Question) (status : Status) (airfields : List Airfield) (last : ℕ) → question_in service ≡ Some question → status ≡ status_of e → airfields ≡ s.state.register
+      → last ≡ last_number s.state → IsOfLines e → QuestionSession question airfields last e x y h k → HasRun service status
+  question_run services.Desk question status airfields last asks is fields number l told = absurd (cc asks)
+  question_run services.Ceiling question status airfields last asks is fields number l told =
+      let same : question ≡ asked.Ceilings = cc asks in
+      let t : CeilingSession (chart airfields last) e x y h k = subst (λ (q : Question). QuestionSession q airfields last e x y h k) same told in
+      ceiling_run services.Ceiling status airfields last refl is fields number l t.closed t.begun t.written
+  question_run services.Stations question status airfields last asks is fields number l told =
+      let same : question ≡ asked.Ways = cc asks in
+      let t : WaySession (survey airfields last []) e x y h k = subst (λ (q : Question). QuestionSession q airfields last e x y h k) same told in
+      stations_run services.Stations status airfields last refl is fields number l t.closed t.begun t.written
+
+-- the desk alone asks no question
+pub desk_alone : (service : Service) → question_in service ≡ None → service ≡ services.Desk
+desk_alone services.Desk e = refl
+desk_alone services.Ceiling e = absurd (cc e)
+desk_alone services.Stations e = absurd (cc e)
 
 pub session_end : (e : Ended) → IsOfLines e → IsSessionEnd (status_of e)
 session_end endings.Closed l = tt

@@ -2,6 +2,8 @@
 use Rattle.std.specs.Prelude.{ℕ, ◌≤◌, ◌≡◌, ◌≢◌, ◌⊎◌, List, [], ◌∷◌, ◌++◌, Option, Some, None, codes, option_copied}
 use Rattle.std.specs.Fmt.{decimal}
 use Rattle.desk_generator.specs.declared.generator.TheConstants.{COUNT_LIMIT}
+use Rattle.site_questions.specs.declared.kinds.Question.{Question}
+use Rattle.site_questions.specs.declared.kinds.Question.TheVariants as asked
 use Rattle.oe_commands.specs.declared.words.Command.{Command}
 use Rattle.oe_commands.specs.declared.words.Command.TheVariants as commands
 use Rattle.oe_commands.specs.declared.words.Service.{Service}
@@ -20,6 +22,12 @@ abbrev pub word_of : Service → List ℕ
 word_of services.Desk = codes "desk"
 word_of services.Ceiling = codes "ceiling"
 word_of services.Stations = codes "stations"
+
+-- what the lines of a service ask of the airfields; those of a desk are answered by it
+abbrev pub question_in : Service → Option Question
+question_in services.Desk = None
+question_in services.Ceiling = Some asked.Ceilings
+question_in services.Stations = Some asked.Ways
 
 -- the words ask for a service: its word, and the file of the tables, in one word or two
 abbrev pub AskFor : Service → List (List ℕ) → Option (List ℕ) → Type 0

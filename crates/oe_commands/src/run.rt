@@ -7,7 +7,7 @@ ghost use Rattle.desk_tables.specs.Opening.{IsFirstBad};
 ghost use Rattle.line_session.specs.Session.{Answered, Begun, HasCauses, IsOfLines, WritesWhole};
 ghost use Rattle.filing_desk.specs.Handed.{Told};
 ghost use Rattle.line_desk.specs.Desk.{Serving, StepOver, serving};
-ghost use Rattle.oe_commands.specs.Commands.{AskFor, IsGenerate, TellsUsage};
+ghost use Rattle.oe_commands.specs.Commands.{AskFor, IsGenerate, TellsUsage, question_in};
 ghost use Rattle.oe_commands.specs.Generating.{GenerateWrites, IsGenerateEnd};
 ghost use Rattle.oe_commands.specs.Runs.{IsSessionEnd, IsUnopened, IsUntouched, PlainRun, RunCauses, RunOver, Served};
 ghost use Rattle.oe_commands.specs.declared.status.Status.TheVariants as statuses;
@@ -20,7 +20,7 @@ use line_desk::LineDesk;
 use line_session::{Ended, records};
 use oe_http::{Sink, Source};
 use oe_keeper::Keeper;
-use site_questions::{ceilings, ways};
+use site_questions::{Question, questions};
 use std::alloc::Global;
 use std::marker::Brand;
 use std::sync::ledger::{Blank, Ledger};
@@ -56,6 +56,17 @@ fn session<K: Keeper + Drop, L: Ledger, S: Source, O: Sink>(
     )
 }
 
+/// What the lines of a service ask of the airfields; `None` for a desk.
+fn question_of(service: Service) -> Option<Question>
+    ensures { result ≡ question_in service }
+{
+    match service {
+        Service::Desk => None,
+        Service::Ceiling => Some(Question::Ceilings),
+        Service::Stations => Some(Question::Ways),
+    }
+}
+
 /// Serves the input from the desk of this clerk, and returns the status of the run.
 #[tactic(auto, using(crate::proofs::RunFacts::session_end, crate::proofs::RunFacts::run_causes))]
 fn serve<K: Keeper + Drop, S: Source, O: Sink>(
@@ -76,15 +87,13 @@ fn serve<K: Keeper + Drop, S: Source, O: Sink>(
 {
     // what the keeper tells are the rows of the clerk
     clerk.keeper();
-    match service {
-        Service::Desk => {
+    match question_of(service) {
+        None => {
             ended_status(session::<K, Brand, S, O>(alloc, clerk, Blank::new(1), input, output))
         }
-        Service::Ceiling => {
-            ended_status(ceilings(alloc, clerk.sky(), clerk.accepted(), input, output))
-        }
-        Service::Stations => {
-            ended_status(ways(alloc, clerk.sky(), clerk.accepted(), input, output))
+        Some(question) => {
+            let sky = clerk.sky();
+            ended_status(questions(alloc, question, sky, clerk.accepted(), input, output))
         }
     }
 }

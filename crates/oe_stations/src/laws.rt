@@ -39,6 +39,6 @@ pub fn one_station()
 {}
 
 /// A lemma, never run: a way has at most 64 stations.
-pub fn numbers()
+pub fn most_stations()
     ensures stations { MOST_STATIONS ≡ 64 }
 {}

@@ -9,7 +9,7 @@ mod place;
 mod way;
 mod way_list;
 
-pub use laws::{numbers, one_place, one_station, one_way_list, order_of_places};
+pub use laws::{most_stations, one_place, one_station, one_way_list, order_of_places};
 pub use merging::way_findings;
 pub use place::Place;
 pub use way::{MOST_STATIONS, Way, WayRefusal};

@@ -1,17 +1,17 @@
 //! The list of the findings of a way.
 
-ghost use Rattle.std.specs.Prelude.{◌≡◌, ◌↔◌, [], length, slice_get, option_copied, IsTrue, OnOk};
-ghost use Rattle.ordered_list.specs.Ordered.{found_by};
-ghost use Rattle.oe_stations.specs.Order.{place_of};
+ghost use Rattle.std.specs.Prelude.{◌≡◌, ◌↔◌, [], length, slice_get, option_copied, nat_le, IsTrue, OnOk};
+ghost use Rattle.std.specs.List.Sorted.{IsBinarySearchResult, IsSearchInRange};
 ghost use Rattle.oe_stations.specs.Ways.{way_place};
-ghost use Rattle.oe_stations.specs.Merging.{is_covered, with_finding, with_findings};
+ghost use Rattle.oe_stations.specs.Merging.{with_finding, with_findings};
 ghost use Rattle.oe_stations.specs.contracts.place.PlaceOrd.TheImpl as places;
 
 use crate::place::Place;
 use finding_lists::Finding;
 use grid_exact::NoMemory;
-use ordered_list::{Keyed, OrderedList};
+use ordered_list::Keyed;
 use std::alloc::Global;
+use std::cmp::Ordering;
 use std::marker::Model;
 
 /// A standard or notice rule that a way exceeds or meets, with the greatest excess of its stations, and the first station that has it,
@@ -37,16 +37,52 @@ impl Keyed for WayFinding {
 /// The findings of a way, in the order of a list of findings.
 #[derive(Drop)]
 pub struct WayList {
-    list: OrderedList<WayFinding>,
+    list: Vec<WayFinding>,
 }
 
 impl Model for WayList {
     ghost use Rattle.std.specs.Prelude.{List};
+    ghost use Rattle.ordered_list.specs.Ordered.{Rises};
+    ghost use Rattle.oe_stations.specs.Ways.{way_place};
+    ghost use Rattle.oe_stations.specs.contracts.place.PlaceOrd.TheImpl as places;
     ghost use Rattle.oe_stations.specs.declared.way_list.WayFinding.{WayFinding};
 
     ghost Value = { List WayFinding };
 
-    ghost view = { λ l. l.list };
+    ghost view = { λ l. l.list.items };
+
+    ghost invariant = { λ l. Rises places.ghosts.cmp way_place l.list.items };
+}
+
+/// Where the finding of this place in the order stands, or would be inserted.
+fn search(list: &[WayFinding], place: &Place) -> Result<usize, usize>
+    ensures within { IsSearchInRange result (length list.now) }
+    ensures found { IsBinarySearchResult (λ w. places.ghosts.cmp (way_place w) place.now) list.now
+        result }
+{
+    list.binary_search_by_key(place, |found| found.key())
+}
+
+/// The same, where that is looked for at `likely` first.
+fn search_from(list: &[WayFinding], place: &Place, likely: usize) -> Result<usize, usize>
+    ensures within { IsSearchInRange result (length list.now) }
+    ensures found { IsBinarySearchResult (λ w. places.ghosts.cmp (way_place w) place.now) list.now
+        result }
+{
+    let Some(found) = list.get(likely) else {
+        return search(list, place);
+    };
+    match found.key().cmp(place) {
+        Ordering::Equal => Ok(likely),
+        _ => search(list, place),
+    }
+}
+
+/// Whether a finding of the way has an excess that is not smaller.
+fn is_as_great(before: &WayFinding, finding: &Finding) -> bool
+    ensures { result ≡ nat_le finding.now.excess before.now.finding.excess }
+{
+    before.finding.excess >= finding.excess
 }
 
 impl WayList {
@@ -55,7 +91,7 @@ impl WayList {
         ensures { result ≡ [] }
     {
         WayList {
-            list: OrderedList::empty(alloc),
+            list: Vec::new(alloc),
         }
     }
 
@@ -70,7 +106,7 @@ impl WayList {
     pub fn is_empty(&self) -> bool
         ensures { IsTrue result ↔ self.now ≡ [] }
     {
-        self.list.len() == 0
+        self.list.is_empty()
     }
 
     /// The finding at place `i`, counted from 0; `None` exactly past the end.
@@ -87,32 +123,28 @@ impl WayList {
         self.list.as_slice()
     }
 
-    /// Whether there is an excess under the finding's rule and surface that is not smaller.
-    fn has_as_great(&self, finding: &Finding) -> bool
-        ensures { result ≡ is_covered finding.now
-            (found_by places.ghosts.cmp way_place (place_of finding.now) self.now) }
-    {
-        match self.list.find(&Place::of(finding)) {
-            Some(before) => before.finding.excess >= finding.excess,
-            None => false,
-        }
-    }
-
-    /// Puts a finding of a later station into its place.
-    fn put(&mut self, finding: &Finding, station: u32) -> Result<(), NoMemory>
+    /// Puts a finding of a later station into its place, unless there is an excess under its rule and surface that is not smaller. It
+    /// is looked for at `likely` first. Returns the number of findings up to it.
+    fn put(&mut self, finding: &Finding, station: u32, likely: usize) -> Result<usize, NoMemory>
         ensures { OnOk result (self.new ≡ with_finding station self.old finding.now) }
     {
-        if self.has_as_great(finding) {
-            return Ok(());
-        }
         // through an array, since a value with options gets no proof where it is put directly
         let [item] = [WayFinding {
             finding: *finding,
             station,
         }];
-        match self.list.put(item) {
-            Ok(_) => Ok(()),
-            Err(_) => Err(NoMemory),
+        match search_from(self.list.as_slice(), &item.key(), likely) {
+            Ok(i) => {
+                if is_as_great(&self.list[i], finding) {
+                    return Ok(i + 1);
+                }
+                self.list[i] = item;
+                Ok(i + 1)
+            }
+            Err(i) => {
+                self.list.insert(i, item)?;
+                Ok(i + 1)
+            }
         }
     }
 
@@ -120,8 +152,10 @@ impl WayList {
     pub(crate) fn put_all(&mut self, findings: &[Finding], station: u32) -> Result<(), NoMemory>
         ensures { OnOk result (self.new ≡ with_findings station self.old findings.now) }
     {
+        // the findings of a station are in this order too: where the way has the same ones, each stands next to the one before
+        let mut likely = 0;
         for finding in findings {
-            self.put(finding, station)?;
+            likely = self.put(finding, station, likely)?;
         }
         Ok(())
     }

@@ -2,3 +2,4 @@ pub mod Charts
 pub mod Ceilings
 pub mod Ways
 pub mod WaySessions
+pub mod Questions

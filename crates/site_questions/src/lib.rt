@@ -4,11 +4,13 @@
 #![tactic(auto)]
 
 mod ceiling_desk;
+mod kinds;
 mod laws;
 mod screens;
 mod way_desk;
 
 pub use ceiling_desk::{CeilingDesk, HEIGHT_FIELD, ceilings};
-pub use laws::numbers;
+pub use kinds::{Question, questions};
+pub use laws::fields_of_refusals;
 pub use screens::FORM_FIELD;
 pub use way_desk::{WayDesk, ways};

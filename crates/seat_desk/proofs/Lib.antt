@@ -1,0 +1,5 @@
+pub mod Over
+pub mod Structures
+pub mod Numbers
+pub mod Staying
+pub mod Lines

@@ -1,0 +1,47 @@
+-- The structure that a change evaluates.
+use Rattle.std.proofs.Common.{◌≡◌, ◌≢◌, ℕ, refl, sym, subst, List, Option, Some, None, IfSome}
+use Rattle.std.specs.Option.{option_map}
+use Rattle.airfields.specs.Sites.{Site}
+use Rattle.airfields.specs.declared.airfield.Airfield.{Airfield}
+use Rattle.case_requests.specs.declared.act.Act.{Act}
+use Rattle.case_requests.specs.declared.act.Act.TheVariants as acts
+use Rattle.case_requests.specs.declared.act.Impact.{Impact}
+use Rattle.wire_requests.specs.Changes.{Asked}
+use Rattle.desk_machine.specs.States.{State, case_at}
+use Rattle.desk_machine.specs.Evaluations.{evaluated_site, site_of}
+use Rattle.publishing_clerk.specs.Publishing.{Publishing}
+use Rattle.publishing_clerk.specs.Evaluations.{Evaluating, IsEvaluation}
+use Rattle.seat_desk.specs.Sittings.{IsEvaluated, Looks, Sitting, Stays}
+
+no_site : (s : State) (a : Act) → ((n : ℕ) (f : Option Impact) → a ≢ acts.Determine n f) → None ≡ evaluated_site s a
+no_site s (acts.Amend x) h = refl
+no_site s (acts.Day d) h = refl
+no_site s (acts.Closed d) h = refl
+no_site s (acts.File n) h = refl
+no_site s (acts.Form number) h = refl
+no_site s (acts.Determine number finding) h = absurd (h number finding refl)
+no_site s (acts.Petition number party) h = refl
+no_site s (acts.Dispose number affirm) h = refl
+no_site s (acts.Extend number months started filed warranted) h = refl
+no_site s (acts.Fcc number completion) h = refl
+no_site s (acts.Abandon number) h = refl
+
+module _ {K : Type 0} where
+  -- an act that is no determination evaluates nothing
+  pub none_told : (o : Option (Publishing K)) (a b : Act) → a ≡ b → ((n : ℕ) (f : Option Impact) → a ≢ acts.Determine n f) → IfSome o (λ c. None ≡ evaluated_site c.clerk.state b)
+  none_told None a b e h = tt
+  none_told (Some c) a b e h = subst (λ x. None ≡ evaluated_site c.clerk.state x) e (no_site c.clerk.state a h)
+
+  -- a determination evaluates the structure of its case
+  pub case_told : (o : Option (Publishing K)) (a b : Act) (n : ℕ) (f : Option Impact) (r : Option Site) → a ≡ acts.Determine n f → a ≡ b
+      → IfSome o (λ c. r ≡ option_map site_of (case_at c.clerk.state.cases n)) → IfSome o (λ c. r ≡ evaluated_site c.clerk.state b)
+  case_told None a b n f r e same h = tt
+  case_told (Some c) a b n f r e same h = subst (λ x. r ≡ evaluated_site c.clerk.state x) same (subst (λ x. r ≡ evaluated_site c.clerk.state x) (sym e) h)
+
+  pub none_evaluated : (first : Option (List Airfield)) (change : Asked) (s : Sitting K) → IfSome s.clerk (λ c. None ≡ evaluated_site c.clerk.state change.act) → IsEvaluated first change s None s
+  none_evaluated first change s h = record { shown = tt; wanted = h }
+
+  pub some_evaluated : (first : Option (List Airfield)) (change : Asked) (s t : Sitting K) (site : Site) (e : Evaluating) → e.filing ≡ site → e.front ≡ t.front → Looks s t → IsEvaluation first e
+      → IfSome s.clerk (λ c. Some site ≡ evaluated_site c.clerk.state change.act) → IsEvaluated first change s (Some e) t
+  some_evaluated first change s t site e is front looks over h =
+      record { shown = (front, looks.all, looks.known, over); wanted = subst (λ x. IfSome s.clerk (λ c. Some x ≡ evaluated_site c.clerk.state change.act)) (sym is) h }
