@@ -1,16 +1,18 @@
 -- What a session is told by its clerk.
-use Rattle.std.specs.Prelude.{◌≡◌, ℕ, ◌+◌, List, length, Option, Some, None}
+use Rattle.std.specs.Prelude.{◌≡◌, ℕ, ◌+◌, List, length, Option, Some, None, option_map}
 use mathlib.Core.List.{IsPrefix}
 use Rattle.oe_keeper.specs.Keeping.{Rose}
+use Rattle.airfields.specs.Sites.{Site}
 use Rattle.wire_requests.specs.declared.request.Query.{Query}
 use Rattle.wire_replies.specs.declared.reply.Reply.{Reply}
 use Rattle.wire_replies.specs.declared.reply.Reply.TheVariants as replies
 use Rattle.case_records.specs.declared.refusal.Refusal.TheVariants as refusals
 use Rattle.desk_machine.specs.declared.entry.Entry.{Entry}
-use Rattle.desk_machine.specs.States.{State}
+use Rattle.desk_machine.specs.States.{State, case_at}
+use Rattle.desk_machine.specs.Evaluations.{site_of}
 use Rattle.desk_queries.specs.Queries.{IsAnswer}
-use Rattle.filing_desk.specs.Clerks.{Clerking, IsReplay}
-use Rattle.publishing_clerk.specs.Publishing.{Publishing}
+use Rattle.filing_desk.specs.Clerks.{Clerking}
+use Rattle.publishing_clerk.specs.Publishing.{GoesOn, Publishing}
 use Rattle.publishing_clerk.specs.Rulings.{Ruled}
 
 -- a query with its reply and a note, and the clerk that was asked
@@ -20,12 +22,26 @@ pub record Replied (K : Type 0) : Type 0 where
   pub reply : Reply
   pub note : List Entry
 
--- the clerk is the replay of its entries from the opening, the reply is that of its state or a refusal because memory was wanting, and the
+-- the clerk went on from the opening, the reply is that of its state or a refusal because memory was wanting, and the
 -- note begins the accepted entries
 pub record IsReplied {K : Type 0} (opening : State) (r : Replied K) : Type 0 where
-  pub replayed : IsReplay opening r.clerk
+  pub goes : GoesOn opening r.clerk
   pub reply : IsAnswer r.clerk.state r.query r.reply
   pub note : IsPrefix r.note r.clerk.accepted
+
+-- the number of a case with its structure and a note, and the clerk that was asked
+pub record FilingOf (K : Type 0) : Type 0 where
+  pub number : ℕ
+  pub clerk : Clerking K
+  pub filing : Option Site
+  pub note : List Entry
+
+-- the clerk went on from the opening, the structure is that of its case of this number, where it has one, and the note begins the accepted
+-- entries
+pub record IsFilingOf {K : Type 0} (opening : State) (f : FilingOf K) : Type 0 where
+  pub goes : GoesOn opening f.clerk
+  pub filing : f.filing ≡ option_map site_of (case_at f.clerk.state.cases f.number)
+  pub note : IsPrefix f.note f.clerk.accepted
 
 -- ---- where the clerk is told
 

@@ -1,18 +1,16 @@
 //! The front of a clerk of one session.
 
-ghost use Rattle.std.specs.Prelude.{◌≡◌, ◌≤◌, Some, option_copied, option_map};
+ghost use Rattle.std.specs.Prelude.{◌≡◌, ◌≤◌, Some, option_copied};
 ghost use mathlib.Core.List.{IsPrefix};
-ghost use Rattle.desk_machine.specs.States.{case_at};
-ghost use Rattle.desk_machine.specs.Evaluations.{site_of};
 ghost use Rattle.publishing_clerk.specs.Evaluations.{given_in};
 ghost use Rattle.filing_desk.specs.Handed.{Told};
 ghost use Rattle.publishing_clerk.specs.Publishing.{GoesOn};
 ghost use Rattle.publishing_clerk.specs.Rulings.{IsRuled};
-ghost use Rattle.clerk_fronts.specs.Fronts.{HasRuled, IsCounted, IsReplied, WasAsked};
+ghost use Rattle.clerk_fronts.specs.Fronts.{HasRuled, IsCounted, IsFilingOf, IsReplied, WasAsked};
 
 use crate::answered::{Answered, ask};
+use crate::case_filing::{CaseFiling, find};
 use crate::front::Front;
-use airfields::Filing;
 use desk_machine::Entry;
 use grid_exact::Steps;
 use oe_findings::Sky;
@@ -55,11 +53,14 @@ impl<K: Keeper, J: Opening> Front<J> for Alone<K, J> {
 
     ghost faults = { λ a. K.faults a.clerk.clerk.keeper };
 
-    fn filing<R: Wait>(&mut self, _rt: &R, number: u32) -> Option<Filing>
-        ensures told { result ≡ option_map site_of (case_at self.old.clerk.clerk.state.cases number) }
+    fn filing<R: Wait>(&mut self, _rt: &R, number: u32) -> CaseFiling<K, J>
+        ensures number { result.number ≡ number }
+        ensures case { IsFilingOf J.opening result }
+        ensures told { (result.clerk ≡ self.old.clerk.clerk)
+            × (result.note ≡ self.old.clerk.published) }
         ensures same { self.new.clerk ≡ self.old.clerk }
     {
-        self.clerk.filing(number)
+        find(&mut self.clerk, number)
     }
 
     fn apply<R: Wait>(

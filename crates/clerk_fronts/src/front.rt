@@ -1,17 +1,15 @@
 //! What a session asks of its clerk.
 
-ghost use Rattle.std.specs.Prelude.{◌≡◌, ◌≤◌, ℕ, Option, IfSome, option_copied, option_map};
+ghost use Rattle.std.specs.Prelude.{◌≡◌, ◌≤◌, ℕ, Option, IfSome, option_copied};
 ghost use mathlib.Core.List.{IsPrefix};
-ghost use Rattle.desk_machine.specs.States.{case_at};
-ghost use Rattle.desk_machine.specs.Evaluations.{site_of};
 ghost use Rattle.publishing_clerk.specs.Evaluations.{given_in};
 ghost use Rattle.filing_desk.specs.Handed.{Told};
 ghost use Rattle.publishing_clerk.specs.Publishing.{GoesOn, Publishing};
 ghost use Rattle.publishing_clerk.specs.Rulings.{IsRuled};
-ghost use Rattle.clerk_fronts.specs.Fronts.{HasRuled, IsCounted, IsReplied, WasAsked};
+ghost use Rattle.clerk_fronts.specs.Fronts.{HasRuled, IsCounted, IsFilingOf, IsReplied, WasAsked};
 
 use crate::answered::Answered;
-use airfields::Filing;
+use crate::case_filing::CaseFiling;
 use desk_machine::Entry;
 use grid_exact::Steps;
 use oe_findings::Sky;
@@ -33,10 +31,12 @@ pub trait Front<J: Opening> {
     /// The number of its faults. It never falls.
     ghost faults: { Self → ℕ };
 
-    /// The structure of the case of this number; `None` where there is no such case.
-    fn filing<R: Wait>(&mut self, rt: &R, number: u32) -> Option<Filing>
+    /// The structure of the case of this number, as the clerk has it. Nothing changes.
+    fn filing<R: Wait>(&mut self, rt: &R, number: u32) -> CaseFiling<Self::Keeper, J>
+        ensures number { result.number ≡ number }
+        ensures case { IsFilingOf J.opening result }
         ensures told { IfSome (clerk self.old) (λ c.
-            result ≡ option_map site_of (case_at c.clerk.state.cases number)) }
+            (result.clerk ≡ c.clerk) × (result.note ≡ c.published)) }
         ensures same { clerk self.new ≡ clerk self.old }
         ensures faults { faults self.new ≡ faults self.old };
 

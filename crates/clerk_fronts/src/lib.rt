@@ -3,10 +3,12 @@
 
 mod alone;
 mod answered;
+mod case_filing;
 mod front;
 mod locked;
 
 pub use alone::Alone;
 pub use answered::Answered;
+pub use case_filing::CaseFiling;
 pub use front::Front;
 pub use locked::Locked;

@@ -3,11 +3,11 @@
 ghost use Rattle.std.specs.Prelude.{◌≡◌, ◌≤◌, option_copied};
 ghost use Rattle.publishing_clerk.specs.Evaluations.{given_in};
 ghost use Rattle.publishing_clerk.specs.Rulings.{IsRuled};
-ghost use Rattle.clerk_fronts.specs.Fronts.{IsCounted, IsReplied};
+ghost use Rattle.clerk_fronts.specs.Fronts.{IsCounted, IsFilingOf, IsReplied};
 
 use crate::answered::{Answered, ask};
+use crate::case_filing::{CaseFiling, find};
 use crate::front::Front;
-use airfields::Filing;
 use desk_machine::Entry;
 use grid_exact::Steps;
 use oe_findings::Sky;
@@ -54,10 +54,13 @@ impl<'a, K: Keeper, J: Opening> Front<J> for Locked<'a, K, J> {
 
     ghost faults = { λ l. l.faults };
 
-    fn filing<R: Wait>(&mut self, rt: &R, number: u32) -> Option<Filing>
+    fn filing<R: Wait>(&mut self, rt: &R, number: u32) -> CaseFiling<K, J>
+        ensures number { result.number ≡ number }
+        ensures case { IsFilingOf J.opening result }
         ensures faults { self.new.faults ≡ self.old.faults }
     {
-        self.clerk.lock(rt).filing(number)
+        let mut clerk = self.clerk.lock(rt);
+        find(&mut clerk, number)
     }
 
     fn apply<R: Wait>(

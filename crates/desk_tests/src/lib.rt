@@ -14,6 +14,8 @@ mod date_tests;
 #[cfg(test)]
 mod generator_tests;
 #[cfg(test)]
+mod question_tests;
+#[cfg(test)]
 mod record_tests;
 #[cfg(test)]
 mod reply_tests;

@@ -48,6 +48,11 @@ made_no_fault s (inl d) h = cc
 made_no_fault s (inr (inl f)) h = cc
 made_no_fault s (inr (inr m)) h = cc
 
+pub made_no_gate : (s : Status) → IsGenerateEnd s → s ≢ statuses.GateFault
+made_no_gate s (inl d) h = cc
+made_no_gate s (inr (inl f)) h = cc
+made_no_gate s (inr (inr m)) h = cc
+
 pub made_no_bad_row : (s : Status) → IsGenerateEnd s → (t : Table) (k : List ℕ) → s ≢ statuses.BadRow t k
 made_no_bad_row s (inl d) t k h = cc
 made_no_bad_row s (inr (inl f)) t k h = cc

@@ -15,6 +15,11 @@ no_usage refusals.KeeperFault h = cc
 no_usage (refusals.BadRow table key) h = cc
 no_usage refusals.NoMemory h = cc
 
+pub no_gate : (why : OpenRefusal) → refused_by why ≢ statuses.GateFault
+no_gate refusals.KeeperFault h = cc
+no_gate (refusals.BadRow table key) h = cc
+no_gate refusals.NoMemory h = cc
+
 -- no stream was asked
 pub causes : (why : OpenRefusal) (x y : Option (List ℕ)) (r0 r1 w0 w1 : ℕ) → RunCauses (refused_by why) x y r0 r1 w0 w1
 causes refusals.KeeperFault x y r0 r1 w0 w1 = record { read = λ e. cc; write = λ e. cc; long = λ e. cc }

@@ -6,8 +6,8 @@ use Rattle.line_session.specs.declared.session.Ended.TheVariants as endings
 use Rattle.oe_commands.specs.declared.status.Status.{Status}
 use Rattle.oe_commands.specs.declared.status.Status.TheVariants as statuses
 use Rattle.oe_commands.specs.Statuses.{status_of}
-use Rattle.oe_commands.specs.declared.words.Service.{Service}
-use Rattle.oe_commands.specs.declared.words.Service.TheVariants as services
+use Rattle.command_words.specs.declared.commands.Service.{Service}
+use Rattle.command_words.specs.declared.commands.Service.TheVariants as services
 use Rattle.line_session.specs.Machine.{Step}
 use Rattle.oe_keeper.specs.Kept.{Kept}
 use Rattle.oe_keeper.specs.declared.change.Table.{Table}
@@ -37,6 +37,7 @@ ending statuses.KeeperFault = endings.Closed
 ending (statuses.BadRow table key) = endings.Closed
 ending statuses.NoMemory = endings.NoMemory
 ending statuses.InputLong = endings.Long
+ending statuses.GateFault = endings.Closed
 
 ending_of_status : (e : Ended) → IsOfLines e → ending (status_of e) ≡ e
 ending_of_status endings.Closed l = refl
@@ -163,6 +164,7 @@ no_usage statuses.KeeperFault e h = absurd e
 no_usage (statuses.BadRow table key) e h = absurd e
 no_usage statuses.NoMemory e h = cc
 no_usage statuses.InputLong e h = cc
+no_usage statuses.GateFault e h = absurd e
 
 pub no_fault : (s : Status) → IsSessionEnd s → s ≢ statuses.KeeperFault
 no_fault statuses.Done e h = cc
@@ -173,6 +175,18 @@ no_fault statuses.KeeperFault e h = absurd e
 no_fault (statuses.BadRow table key) e h = absurd e
 no_fault statuses.NoMemory e h = cc
 no_fault statuses.InputLong e h = cc
+no_fault statuses.GateFault e h = absurd e
+
+pub no_gate : (s : Status) → IsSessionEnd s → s ≢ statuses.GateFault
+no_gate statuses.Done e h = cc
+no_gate statuses.Usage e h = absurd e
+no_gate statuses.ReadFault e h = cc
+no_gate statuses.WriteFault e h = cc
+no_gate statuses.KeeperFault e h = absurd e
+no_gate (statuses.BadRow table key) e h = absurd e
+no_gate statuses.NoMemory e h = cc
+no_gate statuses.InputLong e h = cc
+no_gate statuses.GateFault e h = absurd e
 
 pub no_bad_row : (s : Status) → IsSessionEnd s → (t : Table) (k : List ℕ) → s ≢ statuses.BadRow t k
 no_bad_row statuses.Done e t k h = cc
@@ -183,6 +197,7 @@ no_bad_row statuses.KeeperFault e t k h = absurd e
 no_bad_row (statuses.BadRow table key) e t k h = absurd e
 no_bad_row statuses.NoMemory e t k h = cc
 no_bad_row statuses.InputLong e t k h = cc
+no_bad_row statuses.GateFault e t k h = absurd e
 
 pub touched : (s : Status) → IsSessionEnd s → IsUntouched s → ⊥
 touched statuses.Done e u = u
@@ -193,6 +208,7 @@ touched statuses.KeeperFault e u = e
 touched (statuses.BadRow table key) e u = e
 touched statuses.NoMemory e u = u
 touched statuses.InputLong e u = u
+touched statuses.GateFault e u = u
 
 -- a run that makes a desk by draws reads nothing
 pub generate_causes : (s : Status) (x y : Option (List ℕ)) (r0 r1 w0 w1 : ℕ) → IsGenerateEnd s → (s ≡ statuses.WriteFault → Rose w0 w1) → RunCauses s x y r0 r1 w0 w1

@@ -19,9 +19,9 @@ use Rattle.site_questions.specs.Charts.{chart}
 use Rattle.site_questions.specs.Ceilings.{CeilingStep}
 use Rattle.site_questions.specs.Ways.{Survey, WayStep, survey}
 use Rattle.site_questions.specs.WaySessions.{WaysBegun}
-use Rattle.oe_commands.specs.declared.words.Service.{Service}
-use Rattle.oe_commands.specs.declared.words.Service.TheVariants as services
-use Rattle.oe_commands.specs.Commands.{AskFor}
+use Rattle.command_words.specs.declared.commands.Service.{Service}
+use Rattle.command_words.specs.declared.commands.Service.TheVariants as services
+use Rattle.oe_commands.specs.Commands.{AskToOpen}
 use Rattle.oe_commands.specs.Runs.{IsUnopened, PlainRun, Served, SessionRun}
 use Rattle.oe_commands.proofs.GenerateFacts.{appends_nothing}
 
@@ -101,6 +101,7 @@ module _ (law : (s : State) → Opens maps.empty s → s ≡ empty) (service : S
   unopened (statuses.BadRow table key) x h (rows, found, bad) = absurd (none_bad rows _ (ap maps.len found ∙ maps.len-empty key_cmp (List ℕ)) bad)
   unopened statuses.NoMemory x h u = nothing_told service empty x h
   unopened statuses.InputLong x h u = absurd u
+  unopened statuses.GateFault x h u = absurd u
 
   pub unkept_run : (status : Status) (x y h k : Option (List ℕ)) {P Q : Type 0}
       → Served unkept.ghosts.Tells unkept.ghosts.Finds unkept.ghosts.IsSteady unkept.ghosts.faults service keeper path status x y h k ⊎ (IsUnopened unkept.ghosts.Finds unkept.ghosts.IsSteady keeper path status × P × Q)
@@ -109,5 +110,5 @@ module _ (law : (s : State) → Opens maps.empty s → s ≡ empty) (service : S
   unkept_run status x y h k (inr (u, p, q)) read written = rw (read p, written q) (unopened status x h u)
 
 pub unkept_no_bad : (words : List (List ℕ)) (keeper : NoKeeper) (t : Table) (k : List ℕ)
-    → ((service : Service) × (path : Option (List ℕ)) × AskFor service words path × ((rows : Kept) × unkept.ghosts.Finds keeper path rows × IsFirstBad rows (place t, k))) → ⊥
-unkept_no_bad words keeper t k (service, path, said, (rows, found, bad)) = none_bad rows (place t, k) (ap maps.len found ∙ maps.len-empty key_cmp (List ℕ)) bad
+    → ((path : Option (List ℕ)) × AskToOpen words path × ((rows : Kept) × unkept.ghosts.Finds keeper path rows × IsFirstBad rows (place t, k))) → ⊥
+unkept_no_bad words keeper t k (path, said, (rows, found, bad)) = none_bad rows (place t, k) (ap maps.len found ∙ maps.len-empty key_cmp (List ℕ)) bad

@@ -14,8 +14,11 @@ use Rattle.site_questions.specs.Charts.{chart}
 use Rattle.site_questions.specs.Ceilings.{CeilingStep}
 use Rattle.site_questions.specs.Ways.{Survey, WayStep, survey}
 use Rattle.site_questions.specs.WaySessions.{WaysAnswered, WaysBegun}
-use Rattle.oe_commands.specs.declared.words.Service.{Service}
-use Rattle.oe_commands.specs.declared.words.Service.TheVariants as services
+use Rattle.command_words.specs.declared.commands.Service.{Service}
+use Rattle.command_words.specs.declared.commands.Service.TheVariants as services
+use Rattle.desk_service.specs.Services.{Serves}
+use Rattle.desk_service.specs.declared.service.ServiceEnd.{ServiceEnd}
+use Rattle.oe_commands.specs.Statuses.{served_status}
 use Rattle.oe_commands.specs.declared.status.Status.{Status}
 use Rattle.oe_commands.specs.declared.status.Status.TheVariants as statuses
 
@@ -66,6 +69,7 @@ IsSessionEnd statuses.KeeperFault = ⊥
 IsSessionEnd (statuses.BadRow table key) = ⊥
 IsSessionEnd statuses.NoMemory = Unit {0}
 IsSessionEnd statuses.InputLong = Unit {0}
+IsSessionEnd statuses.GateFault = ⊥
 
 -- a desk was opened in the state of the rows that a load of the keeper may find at the path, and served from there on
 pub record Served {K : Type 0} (Tells : K → Kept → Type 0) (Finds : K → Option (List ℕ) → Kept → Type 0) (IsSteady : K → Type 0) (faults : K → ℕ)
@@ -82,6 +86,21 @@ pub record Served {K : Type 0} (Tells : K → Kept → Type 0) (Finds : K → Op
   pub steady : IsSteady keeper → PlainRun service opened.state status input left held_old held_new
   pub ended : IsSessionEnd status
 
+-- a desk was opened in the state of the rows that a load of the keeper may find at the path, and its links were served by HTTP
+pub record ServedLinks {K : Type 0} {Link : Type 0} (Tells : K → Kept → Type 0) (Finds : K → Option (List ℕ) → Kept → Type 0) (IsSteady : K → Type 0) (faults : K → ℕ)
+    (workers turns : ℕ) (lists : Option (List (List Link))) (keeper : K) (path : Option (List ℕ)) (status : Status) (held_old held_new : Option (List ℕ)) : Type 0 where
+  pub opened : Serving K
+  pub rows : Kept
+  pub found : Finds keeper path rows
+  pub opens : Opens rows opened.state
+  -- its keeper is that one, later, whose rows, where known, are those of the desk
+  pub later : IsLater IsSteady faults keeper opened.keeper
+  pub told : Told Tells opened.keeper opened.state
+  -- how the service ended, and what was written
+  pub end : ServiceEnd
+  pub ended : status ≡ served_status end
+  pub serves : Serves workers turns lists end held_old held_new
+
 -- why no desk was opened: the keeper can fail; or a row is the first bad one of those that a load may find; or memory ran out
 abbrev pub IsUnopened : {K : Type 0} → (K → Option (List ℕ) → Kept → Type 0) → (K → Type 0) → K → Option (List ℕ) → Status → Type 0
 IsUnopened {K} Finds IsSteady keeper path statuses.Done = ⊥
@@ -92,6 +111,7 @@ IsUnopened {K} Finds IsSteady keeper path statuses.KeeperFault = IsSteady keeper
 IsUnopened {K} Finds IsSteady keeper path (statuses.BadRow table key) = (rows : Kept) × Finds keeper path rows × IsFirstBad rows (place table, key)
 IsUnopened {K} Finds IsSteady keeper path statuses.NoMemory = Unit {0}
 IsUnopened {K} Finds IsSteady keeper path statuses.InputLong = ⊥
+IsUnopened {K} Finds IsSteady keeper path statuses.GateFault = ⊥
 
 -- the statuses at which no stream was touched
 abbrev pub IsUntouched : Status → Type 0
@@ -103,6 +123,7 @@ IsUntouched statuses.KeeperFault = Unit {0}
 IsUntouched (statuses.BadRow table key) = Unit {0}
 IsUntouched statuses.NoMemory = ⊥
 IsUntouched statuses.InputLong = ⊥
+IsUntouched statuses.GateFault = ⊥
 
 -- why a run ended so: a fault of a stream is reported only where its count rose, and a long input only at its limit
 pub record RunCauses (status : Status) (input left : Option (List ℕ)) (read_old read_new write_old write_new : ℕ) : Type 0 where

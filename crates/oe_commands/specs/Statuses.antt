@@ -4,6 +4,8 @@ use Rattle.oe_keeper.specs.declared.change.Table.{Table}
 use Rattle.oe_keeper.specs.declared.change.Table.TheVariants as tables
 use Rattle.line_session.specs.declared.session.Ended.{Ended}
 use Rattle.line_session.specs.declared.session.Ended.TheVariants as endings
+use Rattle.desk_service.specs.declared.service.ServiceEnd.{ServiceEnd}
+use Rattle.desk_service.specs.declared.service.ServiceEnd.TheVariants as ends
 use Rattle.filing_desk.specs.declared.opening.OpenRefusal.{OpenRefusal}
 use Rattle.filing_desk.specs.declared.opening.OpenRefusal.TheVariants as refusals
 use Rattle.oe_commands.specs.declared.status.Status.{Status}
@@ -25,6 +27,13 @@ refused_by refusals.KeeperFault = statuses.KeeperFault
 refused_by (refusals.BadRow table key) = statuses.BadRow table key
 refused_by refusals.NoMemory = statuses.NoMemory
 
+-- the status by how a service of links ended
+abbrev pub served_status : ServiceEnd → Status
+served_status ends.Done = statuses.Done
+served_status ends.GateFault = statuses.GateFault
+served_status ends.WriteFault = statuses.WriteFault
+served_status ends.NoMemory = statuses.NoMemory
+
 -- the exit code of the program
 abbrev pub number_of : Status → ℕ
 number_of statuses.Done = 0
@@ -35,6 +44,7 @@ number_of statuses.KeeperFault = 5
 number_of (statuses.BadRow table key) = 6
 number_of statuses.NoMemory = 7
 number_of statuses.InputLong = 8
+number_of statuses.GateFault = 9
 
 -- the name of a table
 abbrev pub table_name : Table → List ℕ
@@ -54,3 +64,4 @@ line_of statuses.KeeperFault = codes "oe: keeper fault"
 line_of (statuses.BadRow table key) = codes "oe: bad row " ++ table_name table ++ codes " " ++ key
 line_of statuses.NoMemory = codes "oe: no memory"
 line_of statuses.InputLong = codes "oe: input too long"
+line_of statuses.GateFault = codes "oe: gate fault"

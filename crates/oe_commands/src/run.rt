@@ -1,29 +1,37 @@
 //! The top-level function of the program.
 
-ghost use Rattle.std.specs.Prelude.{◌≡◌, ◌≢◌, ◌<◌, ◌⊎◌, List, ℕ, Option, option_copied};
+ghost use Rattle.std.specs.Prelude.{◌≡◌, ◌≢◌, ◌<◌, ◌≤◌, ◌⊎◌, List, ℕ, Option, option_copied};
 ghost use Rattle.oe_keeper.specs.Kept.{Kept, place};
 ghost use Rattle.oe_keeper.specs.declared.change.Table.{Table};
 ghost use Rattle.desk_tables.specs.Opening.{IsFirstBad};
 ghost use Rattle.line_session.specs.Session.{Answered, Begun, HasCauses, IsOfLines, WritesWhole};
 ghost use Rattle.filing_desk.specs.Handed.{Told};
 ghost use Rattle.line_desk.specs.Desk.{Serving, StepOver, serving};
-ghost use Rattle.oe_commands.specs.Commands.{AskFor, IsGenerate, TellsUsage, question_in};
+ghost use Rattle.command_words.specs.Commands.{AskFor, AsksToServe, IsGenerate};
+ghost use Rattle.oe_commands.specs.Commands.{AskToOpen, TellsUsage, question_in};
 ghost use Rattle.oe_commands.specs.Generating.{GenerateWrites, IsGenerateEnd};
-ghost use Rattle.oe_commands.specs.Runs.{IsSessionEnd, IsUnopened, IsUntouched, PlainRun, RunCauses, RunOver, Served};
+ghost use Rattle.oe_commands.specs.Runs.{IsSessionEnd, IsUnopened, IsUntouched, PlainRun, RunCauses, RunOver, Served, ServedLinks};
+ghost use Rattle.oe_http.specs.Causes.{Rose};
+ghost use Rattle.tree_versions.specs.declared.publisher.TheConstants.{MOST_SEATS};
+ghost use Rattle.link_gates.specs.declared.shift.TheConstants.{TURN_LIMIT};
 ghost use Rattle.oe_commands.specs.declared.status.Status.TheVariants as statuses;
 
 use crate::generate::generate;
-use crate::status::{Status, ended_status, refused_status};
-use crate::words::{Command, Service, Words};
+use crate::status::{Status, ended_status, refused_status, service_status};
+use command_words::{Command, Service, Words};
+use desk_service::Plan;
 use filing_desk::Clerk;
 use line_desk::LineDesk;
 use line_session::{Ended, records};
+use link_gates::Gate;
 use oe_http::{Sink, Source};
 use oe_keeper::Keeper;
 use site_questions::{Question, questions};
 use std::alloc::Global;
 use std::marker::Brand;
+use std::sync::Wait;
 use std::sync::ledger::{Blank, Ledger};
+use std::thread::Threads;
 
 /// Runs the session of a desk over this clerk, whose steps are counted in the ledger that `blank` opens.
 fn session<K: Keeper + Drop, L: Ledger, S: Source, O: Sink>(
@@ -113,6 +121,7 @@ fn serve_kept<K: Keeper + Drop, S: Source, O: Sink>(
         ⊎ (IsUnopened K.Finds K.IsSteady keeper (option_copied path.entry) result
         × (input.new ≡ input.old) × (output.new ≡ output.old)) }
     ensures usage { result ≢ Status.Usage }
+    ensures gate { result ≢ Status.GateFault }
     ensures fault { K.IsSteady keeper → result ≢ Status.KeeperFault }
     ensures bad_row { (table : Table) (key : List ℕ) → result ≡ statuses.BadRow table key
         → (rows : Kept) × K.Finds keeper (option_copied path.entry) rows
@@ -127,19 +136,59 @@ fn serve_kept<K: Keeper + Drop, S: Source, O: Sink>(
     }
 }
 
-/// Runs the program. With the words `desk`, `ceiling` and `stations` a desk is opened from the tables that its keeper has at the path of
-/// `--db`, or at none. With `desk` it answers each line of the input, in order. With `ceiling` each structure of the input is told its
-/// greatest height without a finding, and with `stations` each way of the input its list, over the airfields that the desk was opened
-/// with. With `generate SEED COUNT` a desk is generated, and its counts are written in one line.
+/// Opens the desk from the tables that its keeper has at a path, and serves links of a gate by HTTP.
+fn serve_links<R: Threads + Wait + Sync, K: Keeper + Drop + Send, G: Gate, O: Sink>(
+    rt: &R,
+    alloc: Global,
+    keeper: K,
+    plan: &Plan<'_>,
+    path: Option<&str>,
+    gate: &mut G,
+    output: &mut O,
+) -> Status
+    requires workers { (0 < plan.now.workers) × (plan.now.workers ≤ MOST_SEATS) }
+    requires turns { plan.now.turns ≤ TURN_LIMIT }
+    ensures links { ServedLinks K.Tells K.Finds K.IsSteady K.faults plan.now.workers plan.now.turns
+        (G.lists gate.old) keeper (option_copied path.entry) result
+        (O.held output.old) (O.held output.new)
+        ⊎ (IsUnopened K.Finds K.IsSteady keeper (option_copied path.entry) result
+        × (output.new ≡ output.old) × (gate.new ≡ gate.old)) }
+    ensures usage { result ≢ Status.Usage }
+    ensures gate { G.IsSteady gate.old → result ≢ Status.GateFault }
+    ensures fault { K.IsSteady keeper → result ≢ Status.KeeperFault }
+    ensures bad_row { (table : Table) (key : List ℕ) → result ≡ statuses.BadRow table key
+        → (rows : Kept) × K.Finds keeper (option_copied path.entry) rows
+        × IsFirstBad rows (place table, key) }
+    ensures untouched { IsUntouched result → (output.new ≡ output.old) × (gate.new ≡ gate.old) }
+    ensures read { (result ≢ Status.ReadFault) × (result ≢ Status.InputLong) }
+    ensures write { result ≡ Status.WriteFault → Rose (O.faults output.old) (O.faults output.new) }
+{
+    match Clerk::open(alloc, keeper, path) {
+        Ok(clerk) => {
+            // what the keeper tells are the rows of the clerk
+            clerk.keeper();
+            service_status(desk_service::serve(rt, alloc, clerk, plan, gate, output))
+        }
+        Err(refusal) => refused_status(refusal),
+    }
+}
+
+/// Runs the program. With the words `desk`, `serve`, `ceiling` and `stations` a desk is opened from the tables that its keeper has at the path
+/// of `--db`, or at none. With `desk` it answers each line of the input, in order. With `serve` it answers requests by HTTP on the links of the
+/// gate, many at a time, and writes the number of links. With `ceiling` each structure of the input is told its greatest height without a
+/// finding, and with `stations` each way of the input its list, over the airfields that the desk was opened with. With `generate SEED COUNT` a
+/// desk is generated, and its counts are written in one line.
 ///
 /// Where the bytes of the input or the output are not known, as with the system's streams, the clauses on bytes say nothing.
 #[tactic(auto, using(crate::proofs::RunFacts::generate_causes))]
-pub fn run<K: Keeper + Drop, S: Source, O: Sink>(
+pub fn run<R: Threads + Wait + Sync, S: Source, O: Sink, K: Keeper + Drop + Send, G: Gate>(
+    rt: &R,
     alloc: Global,
     words: &Words,
-    keeper: K,
     input: &mut S,
     output: &mut O,
+    keeper: K,
+    gate: &mut G,
 ) -> Status
     // A desk was opened in the state of the rows that its keeper has, and the output is what its service tells from there on, in which no
     // change is told as not kept where the keeper never fails; or none was opened, and both streams are as they were.
@@ -148,32 +197,63 @@ pub fn run<K: Keeper + Drop, S: Source, O: Sink>(
         (S.left input.old) (S.left input.new) (O.held output.old) (O.held output.new)
         ⊎ (IsUnopened K.Finds K.IsSteady keeper path result
         × (input.new ≡ input.old) × (output.new ≡ output.old)) }
+    // The same of a desk whose links were served, and how many they were.
+    ensures links { (address : List ℕ) (workers turns : ℕ) (path : Option (List ℕ))
+        → AsksToServe words.now address workers turns path
+        → ServedLinks K.Tells K.Finds K.IsSteady K.faults workers turns (G.lists gate.old) keeper path
+        result (O.held output.old) (O.held output.new)
+        ⊎ (IsUnopened K.Finds K.IsSteady keeper path result × (output.new ≡ output.old)
+        × (gate.new ≡ gate.old)) }
     // A keeper that never fails is not reported to have failed.
     ensures fault { K.IsSteady keeper → result ≢ Status.KeeperFault }
+    // Nor is a gate. Only a desk that serves links asks it.
+    ensures gate { G.IsSteady gate.old → result ≢ Status.GateFault }
+    ensures unasked { ((address : List ℕ) (workers turns : ℕ) (path : Option (List ℕ))
+        → AsksToServe words.now address workers turns path → ⊥)
+        → (result ≢ Status.GateFault) × (gate.new ≡ gate.old) }
     // The row that is named is the first bad one of those that a load may find.
     ensures bad_row { (table : Table) (key : List ℕ) → result ≡ statuses.BadRow table key
-        → (service : Service) × (path : Option (List ℕ)) × AskFor service words.now path
+        → (path : Option (List ℕ)) × AskToOpen words.now path
         × ((rows : Kept) × K.Finds keeper path rows × IsFirstBad rows (place table, key)) }
     // The line of a desk that was made by draws, and how that command ends.
     ensures generated { (seed count : ℕ) → IsGenerate words.now seed count
         → GenerateWrites seed count result (O.held output.old) (O.held output.new) }
     ensures ended { (seed count : ℕ) → IsGenerate words.now seed count → IsGenerateEnd result }
-    // Usage is the status exactly where the words are no command.
+    // Usage is the status exactly where the words are no command, if memory sufficed to read them.
     ensures usage { TellsUsage words.now result }
-    // At `Usage`, and where a keeper failed or a row is bad, both streams are unchanged, known or not: nothing was read and
-    // nothing written.
-    ensures untouched { IsUntouched result → (input.new ≡ input.old) × (output.new ≡ output.old) }
-    // Only a desk that is opened reads.
+    // At `Usage`, and where a keeper failed or a row is bad, both streams and the gate are unchanged, known or not: nothing was read, nothing
+    // written, and no link waited for.
+    ensures untouched { IsUntouched result → (input.new ≡ input.old) × (output.new ≡ output.old)
+        × (gate.new ≡ gate.old) }
+    // Only a desk that answers lines reads.
     ensures unread { ((service : Service) (path : Option (List ℕ)) → AskFor service words.now path → ⊥)
         → input.new ≡ input.old }
     // A fault is reported only where that stream's count of faults rose.
     ensures causes { RunCauses result (S.left input.old) (S.left input.new)
         (S.faults input.old) (S.faults input.new) (O.faults output.old) (O.faults output.new) }
 {
-    match words.asks_for() {
+    let Ok(command) = words.asks_for() else {
+        return Status::NoMemory;
+    };
+    match command {
         None => Status::Usage,
-        Some(Command::Serve { service, file }) => {
+        Some(Command::Answer { service, file }) => {
             serve_kept(alloc, keeper, service, file, input, output)
+        }
+        Some(
+            Command::Serve {
+                address,
+                workers,
+                turns,
+                file,
+            },
+        ) => {
+            let plan = Plan {
+                address,
+                workers,
+                turns,
+            };
+            serve_links(rt, alloc, keeper, &plan, file, gate, output)
         }
         Some(Command::Generate { seed, count }) => generate(alloc, seed, count, output),
     }

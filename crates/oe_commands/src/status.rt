@@ -1,8 +1,9 @@
 //! The status of a run.
 
 ghost use Rattle.std.specs.Prelude.{◌≡◌};
-ghost use Rattle.oe_commands.specs.Statuses.{number_of, refused_by, status_of, table_name};
+ghost use Rattle.oe_commands.specs.Statuses.{number_of, refused_by, served_status, status_of, table_name};
 
+use desk_service::ServiceEnd;
 use filing_desk::OpenRefusal;
 use grid_exact::Text;
 use line_session::Ended;
@@ -12,7 +13,8 @@ use std::fmt;
 /// How a run ended.
 #[derive(Debug, Drop)]
 pub enum Status {
-    /// The input was read to its end, and every reply was written, that to a last way too; or the generator's line was written.
+    /// The input was read to its end, and every reply was written, that to a last way too; or every worker ended; or the generator's line was
+    /// written.
     Done,
     /// The words are no command.
     Usage,
@@ -28,6 +30,8 @@ pub enum Status {
     NoMemory,
     /// 2^40 bytes of the input were read.
     InputLong,
+    /// The gate or a port failed.
+    GateFault,
 }
 
 impl Status {
@@ -44,6 +48,7 @@ impl Status {
             Status::BadRow { .. } => 6,
             Status::NoMemory => 7,
             Status::InputLong => 8,
+            Status::GateFault => 9,
         }
     }
 }
@@ -82,6 +87,7 @@ impl fmt::Display for Status {
             }
             Status::NoMemory => f.write_str("oe: no memory"),
             Status::InputLong => f.write_str("oe: input too long"),
+            Status::GateFault => f.write_str("oe: gate fault"),
         }
     }
 }
@@ -110,5 +116,17 @@ pub(crate) fn ended_status(ended: Ended) -> Status
         Ended::WriteFault => Status::WriteFault,
         Ended::Long => Status::InputLong,
         Ended::NoMemory => Status::NoMemory,
+    }
+}
+
+/// The status of a run by how its service of links ended.
+pub(crate) fn service_status(end: ServiceEnd) -> Status
+    ensures { result ≡ served_status end }
+{
+    match end {
+        ServiceEnd::Done => Status::Done,
+        ServiceEnd::GateFault => Status::GateFault,
+        ServiceEnd::WriteFault => Status::WriteFault,
+        ServiceEnd::NoMemory => Status::NoMemory,
     }
 }

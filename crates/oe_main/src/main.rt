@@ -1,9 +1,10 @@
 //! The program `oe`: an obstruction evaluation desk under 14 CFR Part 77.
 //!
-//! `run` of oe_commands does all of the work; `main` opens the system's streams and passes them to it.
+//! `run` of oe_commands does all of the work; `main` opens the system's streams, its files and a gate on loopback, and passes them to it.
 #![tactic(auto)]
 
 use crash_disks::FileDisk;
+use loopback_gate::TcpGate;
 use oe_commands::run::run;
 use oe_commands::{Status, Words};
 use oe_http::{ReadSource, WriteSink};
@@ -34,24 +35,22 @@ fn arguments(rt: &HostRuntime) -> Result<Words, Status> {
     Ok(words)
 }
 
-/// Runs the desk over the standard streams, with its tables in a file where one is named: a journal where the name ends in `.oej`, else a
-/// store of SQLite's.
-fn run_on_streams(rt: &HostRuntime) -> Status {
-    let journal = JournalKeeper::new(FileDisk::new(rt));
-    match arguments(rt) {
+/// Runs the program over the standard streams and a gate on loopback, with its tables in a file where one is named: a journal where the name
+/// ends in `.oej`, else a store of SQLite's.
+fn main(rt: HostRuntime) -> ExitCode {
+    let journal = JournalKeeper::new(FileDisk::new(&rt));
+    let status = match arguments(&rt) {
         Ok(words) => run(
+            &rt,
             rt.alloc(),
             &words,
-            PlacedKeeper::new(ByName::new(SqliteKeeper::new(rt), journal)),
             &mut ReadSource::new(rt.stdin()),
             &mut WriteSink::new(rt.stdout()),
+            PlacedKeeper::new(ByName::new(SqliteKeeper::new(&rt), journal)),
+            &mut TcpGate::new(&rt),
         ),
         Err(status) => status,
-    }
-}
-
-fn main(rt: HostRuntime) -> ExitCode {
-    let status = run_on_streams(&rt);
+    };
     if !matches!(&status, Status::Done) {
         let _ = rt.eprintln(&status);
     }

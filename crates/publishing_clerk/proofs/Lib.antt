@@ -1,5 +1,6 @@
 pub mod Agreeing
 pub mod Going
+pub mod Making
 pub mod Named
 pub mod Offering
 pub mod Over

@@ -116,7 +116,7 @@ offered_or_back first base opening k old new x now (Err b) Back h owes is made =
 
 -- ---- a decision, where nothing is owed
 
-few : (d : Decided) → length (entries_of_answer d) ≤ 1
+pub few : (d : Decided) → length (entries_of_answer d) ≤ 1
 few (Kept e) = omega arith
 few (No why) = omega arith
 few (Done e step) = omega arith

@@ -55,7 +55,7 @@ pub ruled : {K : Type 0} (IsSteady : K → Type 0) (faults : K → ℕ) (first :
 ruled IsSteady faults first base opening q given k l e f answer before after advances cause more desk =
     let begins : IsPrefix f.published l.accepted = published_begins opening.register l.accepted f after.offers in
     record {
-      replayed = before.goes.replayed;
+      goes = before.goes;
       answer = answer;
       reply = refl;
       advances = advances;

@@ -1,9 +1,10 @@
 -- A clerk that publishes, as contracts see it.
-use Rattle.std.specs.Prelude.{◌≡◌, ℕ, ◌+◌, ◌≤◌, List, ◌++◌, length, Option, Some}
+use Rattle.std.specs.Prelude.{◌≡◌, ℕ, ◌+◌, ◌≤◌, List, [], ◌∷◌, ◌++◌, length, Option, Some}
 use mathlib.Core.List.{IsPrefix}
 use Rattle.airfields.specs.declared.airfield.Airfield.{Airfield}
 use Rattle.desk_machine.specs.declared.entry.Entry.{Entry}
 use Rattle.desk_machine.specs.States.{State, last_number}
+use Rattle.desk_machine.specs.Machine.{decide_again, entries_of_answer, state_after}
 use Rattle.desk_machine.specs.Fronts.{register_after}
 use Rattle.filing_desk.specs.Clerks.{Clerking, IsReplay}
 use Rattle.reachable_desks.specs.Desks.{IsDesk}
@@ -20,12 +21,18 @@ pub record IsOpening (first : Option (List Airfield)) (base : ℕ) (opening : St
   pub number : base ≡ last_number opening
   pub desk : IsDesk opening
 
--- the clerk went on from the opening: its entries are those at the opening and the accepted ones, and its airfields are those at the
--- opening after the accepted entries
+-- the clerk went on from the opening: its state is the replay of the accepted entries, its entries are those at the opening and the accepted
+-- ones, and its airfields are those at the opening after the accepted entries; so each accepted entry is one that its request makes, since
+-- a replay passes over any other
 pub record GoesOn {K : Type 0} (opening : State) (k : Clerking K) : Type 0 where
   pub replayed : IsReplay opening k
   pub entries : k.state.entries ≡ opening.entries ++ k.accepted
   pub register : k.state.register ≡ register_after opening.register k.accepted
+
+-- each of these entries is the one that its request makes, where their requests are decided again in order, from this state
+abbrev pub AreMade : State → List Entry → Type 0
+AreMade s [] = Unit {0}
+AreMade s (e ∷ es) = (entries_of_answer (decide_again s e) ≡ e ∷ []) × AreMade (state_after s (decide_again s e)) es
 
 -- the entries that were offered for publication
 abbrev pub offered : Edition (List Airfield) Entry → List Entry

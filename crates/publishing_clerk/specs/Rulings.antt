@@ -10,8 +10,9 @@ use Rattle.desk_machine.specs.Evaluations.{Given}
 use Rattle.desk_machine.specs.Machine.{Answer as Decided, Kept, No, Done, decide}
 use Rattle.filing_desk.specs.declared.answer.Answer.{Answer}
 use Rattle.filing_desk.specs.declared.answer.Answer.TheVariants as answers
-use Rattle.filing_desk.specs.Clerks.{Clerking, IsReplay, Advances}
+use Rattle.filing_desk.specs.Clerks.{Clerking, Advances}
 use Rattle.filing_desk.specs.Handed.{HasCause}
+use Rattle.publishing_clerk.specs.Publishing.{GoesOn}
 
 -- a request with its reply and a note: the number of the last entry published before, the list that was given, and the clerk before and after
 pub record Ruled (K : Type 0) : Type 0 where
@@ -43,11 +44,11 @@ abbrev pub HasOwn : ℕ → List Entry → Decided → Reply → Type 0
 HasOwn base note d (replies.Accepted number published outcome) = published ≡ true → base < number → slice_get note (number - base - 1) ≡ entry_decided d
 HasOwn base note d _ = Unit {0}
 
--- the clerk before is the replay of its entries from the opening; the reply tells an answer by which the clerk went from before to after, as
+-- the clerk before went on from the opening; the reply tells an answer by which the clerk went from before to after, as
 -- the machine decides or for want of memory or a fault of the keeper; the note begins the accepted entries, with all that were published
 -- before; and it has the entry that the reply says is published
 pub record IsRuled {K : Type 0} (IsSteady : K → Type 0) (faults : K → ℕ) (base : ℕ) (opening : State) (r : Ruled K) : Type 0 where
-  pub replayed : IsReplay opening r.before
+  pub goes : GoesOn opening r.before
   pub answer : Answer
   pub reply : r.reply ≡ reply_of (base + length r.note) answer
   pub advances : Advances (decided r) r.before r.after answer

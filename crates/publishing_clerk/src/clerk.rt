@@ -111,7 +111,7 @@ impl<K: Keeper, J: Opening> PublishingClerk<K, J> {
         let asking = Asking {
             request: Snapshot::of(c),
             p: Snapshot::of(&p),
-            given: seen(evaluated),
+            given: snapshot_of(evaluated),
             before: Snapshot::of(&self.clerk),
         };
         let answer = answer(
@@ -209,7 +209,7 @@ fn reply(answer: Answer, last: u64) -> Reply
 }
 
 /// What was evaluated, for contracts alone.
-fn seen<J: Opening>(evaluated: Option<&Evaluation<J>>) -> Option<Snapshot<Evaluation<J>>>
+fn snapshot_of<J: Opening>(evaluated: Option<&Evaluation<J>>) -> Option<Snapshot<Evaluation<J>>>
     ensures { option_map (λ s. s.value) result ≡ option_copied evaluated.entry }
 {
     match evaluated {

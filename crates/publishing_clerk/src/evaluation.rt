@@ -105,7 +105,7 @@ impl<J: Opening> Evaluation<J> {
     /// # Errors
     ///
     /// `NoMemory` where memory was refused.
-    pub(crate) fn given(&self, alloc: Global, base: u64) -> Result<Evaluated, NoMemory>
+    pub(crate) fn list_for_decision(&self, alloc: Global, base: u64) -> Result<Evaluated, NoMemory>
         requires base { base ≡ J.base }
         requires told { IsTold (Some (given_as base self.now)) }
         ensures { IfOk result (λ g. g ≡ given_as base self.now) }

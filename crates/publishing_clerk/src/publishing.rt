@@ -72,14 +72,14 @@ fn decide<K: Keeper, J: Opening>(
     if !pay(alloc, clerk, publisher) {
         return Answer::Refused(Refusal::NoMemory);
     }
-    match given(alloc, clerk, publisher, evaluated) {
+    match usable_list(alloc, clerk, publisher, evaluated) {
         Ok(given) => clerk.apply_with(alloc, c, given.as_ref()),
         Err(NoMemory) => Answer::Refused(Refusal::NoMemory),
     }
 }
 
 /// What was evaluated, for a decision; nothing where it is over a version that is not published.
-fn given<K: Keeper, J: Opening>(
+fn usable_list<K: Keeper, J: Opening>(
     alloc: Global,
     clerk: &Clerk<K>,
     publisher: &mut Publisher<Entry, Sky, J>,
@@ -105,7 +105,7 @@ fn given<K: Keeper, J: Opening>(
     evaluated.is_over();
     names_go_on();
     findings_are_told();
-    Ok(Some(evaluated.given(alloc, publisher.base())?))
+    Ok(Some(evaluated.list_for_decision(alloc, publisher.base())?))
 }
 
 /// Offers the accepted entry that was not offered yet, where there is one. Says whether there is none any more.

@@ -1,5 +1,5 @@
 -- The structure that a change evaluates.
-use Rattle.std.proofs.Common.{◌≡◌, ◌≢◌, ℕ, refl, sym, subst, List, Option, Some, None, IfSome}
+use Rattle.std.proofs.Common.{◌≡◌, ◌≢◌, ℕ, refl, sym, ap, ◌∙◌, subst, List, Option, Some, None, IfSome}
 use Rattle.std.specs.Option.{option_map}
 use Rattle.airfields.specs.Sites.{Site}
 use Rattle.airfields.specs.declared.airfield.Airfield.{Airfield}
@@ -9,8 +9,10 @@ use Rattle.case_requests.specs.declared.act.Impact.{Impact}
 use Rattle.wire_requests.specs.Changes.{Asked}
 use Rattle.desk_machine.specs.States.{State, case_at}
 use Rattle.desk_machine.specs.Evaluations.{evaluated_site, site_of}
+use Rattle.filing_desk.specs.Clerks.{Clerking}
 use Rattle.publishing_clerk.specs.Publishing.{Publishing}
 use Rattle.publishing_clerk.specs.Evaluations.{Evaluating, IsEvaluation}
+use Rattle.clerk_fronts.specs.Fronts.{FilingOf, IsFilingOf}
 use Rattle.seat_desk.specs.Sittings.{IsEvaluated, Looks, Sitting, Stays}
 
 no_site : (s : State) (a : Act) → ((n : ℕ) (f : Option Impact) → a ≢ acts.Determine n f) → None ≡ evaluated_site s a
@@ -33,10 +35,13 @@ module _ {K : Type 0} where
   none_told (Some c) a b e h = subst (λ x. None ≡ evaluated_site c.clerk.state x) e (no_site c.clerk.state a h)
 
   -- a determination evaluates the structure of its case
-  pub case_told : (o : Option (Publishing K)) (a b : Act) (n : ℕ) (f : Option Impact) (r : Option Site) → a ≡ acts.Determine n f → a ≡ b
-      → IfSome o (λ c. r ≡ option_map site_of (case_at c.clerk.state.cases n)) → IfSome o (λ c. r ≡ evaluated_site c.clerk.state b)
-  case_told None a b n f r e same h = tt
-  case_told (Some c) a b n f r e same h = subst (λ x. r ≡ evaluated_site c.clerk.state x) same (subst (λ x. r ≡ evaluated_site c.clerk.state x) (sym e) h)
+  pub case_told : (opening : State) (o : Option (Publishing K)) (a b : Act) (n : ℕ) (f : Option Impact) (x : FilingOf K) (r : Option Site) → a ≡ acts.Determine n f → a ≡ b
+      → IsFilingOf opening x → x.number ≡ n → r ≡ x.filing → IfSome o (λ c. (x.clerk ≡ c.clerk) × (x.note ≡ c.published)) → IfSome o (λ c. r ≡ evaluated_site c.clerk.state b)
+  case_told opening None a b n f x r e same is number got h = tt
+  case_told opening (Some c) a b n f x r e same is number got h =
+      let found : r ≡ option_map site_of (case_at c.clerk.state.cases n) =
+      got ∙ is.filing ∙ ap (λ (k : Clerking K). option_map site_of (case_at k.state.cases x.number)) h.0 ∙ ap (λ (m : ℕ). option_map site_of (case_at c.clerk.state.cases m)) number in
+      subst (λ (y : Act). r ≡ evaluated_site c.clerk.state y) same (subst (λ (y : Act). r ≡ evaluated_site c.clerk.state y) (sym e) found)
 
   pub none_evaluated : (first : Option (List Airfield)) (change : Asked) (s : Sitting K) → IfSome s.clerk (λ c. None ≡ evaluated_site c.clerk.state change.act) → IsEvaluated first change s None s
   none_evaluated first change s h = record { shown = tt; wanted = h }

@@ -132,7 +132,7 @@ impl<'r, F: Front<J>, J: Opening, R: Wait> Place<'r, F, J, R> {
             result ≡ evaluated_site c.clerk.state change.now.act) }
     {
         match &change.act {
-            Act::Determine { case, .. } => self.front.filing(self.rt, *case),
+            Act::Determine { case, .. } => self.front.filing(self.rt, *case).filing(),
             _ => None,
         }
     }

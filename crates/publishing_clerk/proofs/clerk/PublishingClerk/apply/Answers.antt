@@ -27,4 +27,4 @@ new-requires g c =
     let number : c.of-2.result.value ≡ base + length e.published = omega (arith, c.of-2.ensures, c.base-base.ensures, c.number-2.ensures.number, ap length c.tell.ensures.note) in
     let note : c.tell-note.result ≡ f.published = c.tell-note.ensures.note ∙ ap (λ (x : Version). x.published) c.tell-note.ensures.same in
     let last : c.base-base.result + c.number-3.result ≡ base + length f.published = omega (arith, c.base-base.ensures, c.number-3.ensures.number, ap length note) in
-    ruled_as IsSteady faults base o q given k l e f answer _ is c.of.ensures number (ap (given_in base) c.seen.ensures) c.of-3.ensures c.of-4.ensures (c.reply-reply.ensures ∙ ap (λ (n : ℕ). reply_of n answer) last) note
+    ruled_as IsSteady faults base o q given k l e f answer _ is c.of.ensures number (ap (given_in base) c.snapshot_of.ensures) c.of-3.ensures c.of-4.ensures (c.reply-reply.ensures ∙ ap (λ (n : ℕ). reply_of n answer) last) note

@@ -1,0 +1,4 @@
+pub mod LineFacts
+pub mod SessionFacts
+pub mod ShiftFacts
+pub mod Threads

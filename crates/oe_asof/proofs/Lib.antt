@@ -1,0 +1,9 @@
+pub mod VersionFacts
+pub mod LineFacts
+pub mod TextFacts
+pub mod ListFacts
+pub mod MoveFacts
+pub mod CurrentFacts
+pub mod ThenFacts
+pub mod ServeFacts
+pub mod OpeningFacts

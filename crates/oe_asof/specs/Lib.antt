@@ -1,0 +1,5 @@
+pub mod Versions
+pub mod Lines
+pub mod Replies
+pub mod Sessions
+pub mod Histories

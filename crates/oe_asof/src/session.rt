@@ -1,0 +1,72 @@
+//! The session of a desk that keeps what the airfields were.
+
+ghost use Rattle.std.specs.Prelude.{◌≡◌, ◌<◌};
+ghost use Rattle.line_desk.specs.Desk.{serving};
+ghost use Rattle.line_session.specs.Session.{HasCauses, IsOfLines};
+ghost use Rattle.desk_machine.specs.States.{last_number};
+ghost use Rattle.oe_asof.specs.Histories.{IsCurrent};
+ghost use Rattle.oe_asof.specs.Sessions.{DatedSession};
+
+use crate::desk::{DatedDesk, history_from};
+use crate::history::History;
+use filing_desk::Clerk;
+use line_session::{Ended, records};
+use oe_http::{Sink, Source};
+use oe_keeper::Keeper;
+use std::alloc::Global;
+use std::marker::Brand;
+use std::sync::ledger::{Blank, Ledger};
+
+/// Runs the session of a desk with this history, whose steps are counted in the ledger that `blank` opens.
+fn session<K: Keeper + Drop, L: Ledger, S: Source, O: Sink>(
+    alloc: Global,
+    clerk: Clerk<K>,
+    history: History,
+    blank: Blank,
+    input: &mut S,
+    output: &mut O,
+) -> Ended
+    requires begins { IsCurrent (last_number clerk.state) clerk.state.register
+        clerk.state history.versions }
+    requires name { blank.name ≡ L.name }
+    requires parts { blank.parts ≡ L.parts }
+    requires some { 0 < L.parts }
+    ensures told { DatedSession K.Tells K.IsSteady K.faults (serving clerk) result
+        (S.left input.old) (S.left input.new) (O.held output.old) (O.held output.new) }
+    ensures lines { IsOfLines result }
+    ensures causes { HasCauses result (S.left input.old) (S.left input.new)
+        (S.faults input.old) (S.faults input.new) (O.faults output.old) (O.faults output.new) }
+{
+    records(
+        alloc,
+        &mut DatedDesk::<K, L>::over(alloc, clerk, history, blank),
+        input,
+        output,
+    )
+}
+
+/// Replies to each line of the input, in order. A line that begins with `asof,` has the number of an entry and a structure, and is replied to
+/// with the list of the structure over the airfields as they stood after the entry; each other line is answered as a desk does. The entries
+/// that can be asked for are those accepted in the session, and the last one before it. It ends with `NoMemory` where memory was refused
+/// for a version of the airfields.
+pub fn dated_records<K: Keeper + Drop, S: Source, O: Sink>(
+    alloc: Global,
+    clerk: Clerk<K>,
+    input: &mut S,
+    output: &mut O,
+) -> Ended
+    // The output is its old content and the replies to the lines of the input, or a beginning of them, by how it ends.
+    ensures told { DatedSession K.Tells K.IsSteady K.faults (serving clerk) result
+        (S.left input.old) (S.left input.new) (O.held output.old) (O.held output.new) }
+    // It ends in one of the ways of a session over lines.
+    ensures lines { IsOfLines result }
+    ensures causes { HasCauses result (S.left input.old) (S.left input.new)
+        (S.faults input.old) (S.faults input.new) (O.faults output.old) (O.faults output.new) }
+{
+    match history_from(alloc, &clerk) {
+        Ok(history) => {
+            session::<K, Brand, S, O>(alloc, clerk, history, Blank::new(1), input, output)
+        }
+        Err(_) => Ended::NoMemory,
+    }
+}

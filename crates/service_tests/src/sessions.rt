@@ -1,0 +1,93 @@
+//! What sessions are told.
+
+use grid_exact::LINE_LIMIT;
+use line_session::Answering;
+use std::alloc::Global;
+use std::process::Abort;
+use std::test::Fail;
+
+/// One of two sessions.
+#[derive(Clone, Copy, Debug, PartialEq, Eq)]
+pub(crate) enum Session {
+    First,
+    Second,
+}
+
+/// A session, its line, and the reply.
+pub(crate) type Turn<'a> = (Session, &'a str, &'a str);
+
+/// A line, and the reply of the one session.
+pub(crate) type Exchange<'a> = (&'a str, &'a str);
+
+/// An airport with one runway.
+pub(crate) const AIRPORT: [Turn<'static>; 2] = [
+    (
+        Session::First,
+        "airport,u,1,AAA,public,0,0,1000",
+        "ok,1,published,airport\n",
+    ),
+    (
+        Session::First,
+        "runway,u,2,AAA,09/27,other,hard,-50000,0,1000,P,50000,0,1000,NA",
+        "ok,2,published,runway\n",
+    ),
+];
+
+/// A case east of it.
+pub(crate) const CASE: [Turn<'static>; 2] = [
+    (Session::First, "day,u,3,2026-01-15", "ok,3,published,day\n"),
+    (
+        Session::First,
+        "file,u,4,2026-03-01,-,-,normal,-,152000,0,1000,2942,object,0,-,-",
+        "ok,4,published,case,1,timely,-,-\n",
+    ),
+];
+
+/// Checks that a session tells this reply to this line.
+pub(crate) fn check_reply<A: Answering, R: Abort>(
+    rt: &R,
+    alloc: Global,
+    desk: &mut A,
+    line: &str,
+    reply: &str,
+) -> Result<(), Fail> {
+    if line.len() > LINE_LIMIT {
+        return Err(Fail::from("the line is too long"));
+    }
+    let mut text = String::new(alloc);
+    desk.answer(line.as_bytes(), &mut text)?;
+    assert_eq!(rt; text.as_str(), reply);
+    Ok(())
+}
+
+/// Checks that two sessions tell the replies of these turns.
+pub(crate) fn check_replies<A: Answering, B: Answering, R: Abort>(
+    rt: &R,
+    alloc: Global,
+    first: &mut A,
+    second: &mut B,
+    turns: &[Turn<'_>],
+) -> Result<(), Fail> {
+    for turn in turns {
+        let (session, line, reply) = *turn;
+        match session {
+            Session::First => check_reply(rt, alloc, first, line, reply)?,
+            Session::Second => check_reply(rt, alloc, second, line, reply)?,
+        }
+    }
+    Ok(())
+}
+
+/// Checks that a session tells the replies of these exchanges.
+pub(crate) fn check_exchanges<A: Answering, R: Abort>(
+    rt: &R,
+    alloc: Global,
+    desk: &mut A,
+    said: &[Exchange<'_>],
+) -> Result<(), Fail> {
+    for exchange in said {
+        let (line, reply) = *exchange;
+        check_reply(rt, alloc, desk, line, reply)?;
+    }
+    Ok(())
+}
