@@ -23,7 +23,7 @@ def free_address():
                 continue
 
 
-def started(desk, workers, file=None):
+def start_serving(desk, workers, file=None):
     """Starts `serve` on a free address, and gives the process and the address."""
     address = free_address()
     words = [desk, "serve", "--listen", "%s:%d" % address, "--workers", str(workers), "--turns", str(OFTEN)]
@@ -31,7 +31,7 @@ def started(desk, workers, file=None):
     return subprocess.Popen(words, stdin=subprocess.DEVNULL, stdout=subprocess.DEVNULL, stderr=subprocess.DEVNULL), address
 
 
-def opened(address, process=None):
+def open_link(address, process=None):
     """A socket to the address once the program listens there. Ends the script where it has ended, or does not listen for long."""
     end = time.monotonic() + PATIENCE
     while time.monotonic() < end and not (process and process.poll() is not None):

@@ -5,7 +5,7 @@ from office import forms
 from office.desk import Pair
 from office.records import TENTHS, show
 from office.register import AIRFIELD_FORMS, NOT_DESCRIBED, Airfield, Register, point
-from office.replies import NONE, Accepted, Ceiling, Found, Verdict
+from office.replies import NONE, Accepted, AsOf, Ceiling, Found, Verdict
 
 FAR_AWAY = 200_000  # feet; no surface of an airport reaches as far
 FEET_FOR_TENTHS = range(100, 1000)  # tallest structures of a file that may have been written in feet
@@ -20,7 +20,7 @@ def changes_of(pair: Pair) -> int | None:
 
 def has_structure(pair: Pair) -> bool:
     """Whether a record has a structure with a height of its own; a place that `oe ceiling` is asked about has none."""
-    return isinstance(pair.reply, Found | Verdict) or isinstance(pair.reply, Accepted) and pair.record.form == "file"
+    return isinstance(pair.reply, Found | Verdict | AsOf) or isinstance(pair.reply, Accepted) and pair.record.form == "file"
 
 
 def of_register(pair: Pair, register: Register) -> list[str]:
@@ -41,6 +41,18 @@ def of_register(pair: Pair, register: Register) -> list[str]:
     return out
 
 
+def of_earlier(pair: Pair) -> list[str]:
+    """What an earlier register may not have had."""
+    if not isinstance(pair.reply, AsOf):
+        return []
+    if pair.reply.number == 0:
+        return ["entry 0 stands before every change, so no airfield was registered, and this says nothing of airports"]
+    on = pair.record.values["ON"]
+    if on == NONE or is_exempt(pair) or is_met_on(pair.reply, on):
+        return []
+    return [f"it is said to be on {on}, and 77.9(d) is not met: was {on} registered by entry {pair.reply.number}, not misspelt, and not private?"]
+
+
 def of_place(pair: Pair, register: Register) -> list[str]:
     """Whether all airfields are so far away that the structure may be on another grid."""
     def distance(airfield: Airfield) -> float:
@@ -51,7 +63,7 @@ def of_place(pair: Pair, register: Register) -> list[str]:
     return [f"the nearest airfield, {nearest.id}, is {show(distance(nearest), 0)} ft away: are both on one grid, in tenths of a foot?"]
 
 
-def is_met_on(reply: Found | Ceiling, on: str) -> bool:
+def is_met_on(reply: Found | Ceiling | AsOf, on: str) -> bool:
     return any(entry.rule.name == "9d" and entry.airfield == on for entry in reply.entries)
 
 
@@ -81,7 +93,7 @@ def of_flags(pair: Pair) -> list[str]:
 
 def cautions(pair: Pair, register: Register) -> list[str]:
     """The cautions about one record, with what is known of the register before it."""
-    out = of_register(pair, register)
+    out = of_register(pair, register) + of_earlier(pair)
     if has_structure(pair):
         out += of_structure(pair)
     if has_structure(pair) or isinstance(pair.reply, Ceiling):

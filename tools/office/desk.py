@@ -8,7 +8,7 @@ from contextlib import closing
 from dataclasses import dataclass
 from pathlib import Path
 
-from office import replies
+from office import forms, replies
 from office.faults import Fault
 from office.records import BEFORE, Record, read_bytes, record, records
 from office.replies import Accepted, Refusal, Reply
@@ -45,11 +45,16 @@ def program(chosen: str | None) -> str:
     return found
 
 
-def ask(desk: str, content: bytes) -> list[str]:
+def command_for(some: list[Record]) -> str:
+    """The command that answers the records of a file."""
+    return "asof" if any(one.form == forms.AS_OF for one in some) else "desk"
+
+
+def ask(desk: str, command: str, content: bytes) -> list[str]:
     """The lines of the replies of a desk in memory."""
-    done = subprocess.run([desk, "desk"], input=content, stdout=subprocess.PIPE)
+    done = subprocess.run([desk, command], input=content, stdout=subprocess.PIPE)
     if done.returncode:
-        raise Fault(f"{desk} desk ended with status {done.returncode}")
+        raise Fault(f"{desk} {command} ended with status {done.returncode}")
     return done.stdout.decode().splitlines()
 
 
@@ -111,9 +116,13 @@ def pair_up(some: list[Record], told: list[str], path: str) -> list[Pair]:
 
 
 def asked(content: bytes, before: list[Record], path: str, desk: str) -> list[Pair]:
-    """The records of a file answered by a desk in memory that has answered the records before them."""
-    head = "".join(one.text + "\n" for one in before).encode()
-    pairs = pair_up(before + records(content), ask(desk, head + content), path)
+    """The records of a file answered by a desk in memory that has answered the records before them. Behind those the entries have other numbers than
+    the office's, so no record may ask as of one."""
+    head, some = "".join(one.text + "\n" for one in before).encode(), records(content)
+    command = command_for(some)
+    if before and command != "desk":
+        raise Fault(f"{path}: the desk in memory does not have the office's entries: ask `oe asof`, and give its replies as a second file")
+    pairs = pair_up(before + some, ask(desk, command, head + content), path)
     for pair in pairs[:len(before)]:
         if isinstance(pair.reply, Refusal):
             raise Fault(f"the desk refuses a row of the office's file: {pair.record.text} ({pair.reply.name})")

@@ -10,6 +10,7 @@ LONGEST_QUOTED = 60  # letters of a field that was refused
 WORDS_OF_POINTS = ("what", "end", "pad", "structure")  # of a table for oe-from-points
 SEPARATORS = ",;\t"  # a spreadsheet saves semicolons where a comma begins the decimals
 FLAG_LETTERS = "SDRIGT"
+AS_OF = "asof"  # the form that `oe asof` alone answers
 TRAVERSE_WITH_MOBILE = ("private", "water")
 Earlier = Mapping[str, str]
 
@@ -85,6 +86,7 @@ NAME = spelling(r"[A-Z0-9/]{1,8}", "1 to 8 of A-Z, 0-9 and /")
 ON = spelling(r"-|[A-Z0-9]{1,8}", "-, or the ID of the airfield that it is on")
 CATEGORY = words("public", "building", "military", "federal", "dod", "procedure", "private")
 APPROACH = words("V", "NA", "NL", "P")
+ENTRY = whole("the number of an entry, a whole number from 0 on", 0)
 DAY = Value("a day as 2026-01-31, from 1900 to 2999", lambda text, _: is_day(text))
 DAY_OR_NONE = Value("-, or a day as 2026-01-31", lambda text, _: text == "-" or is_day(text))
 CASE = spelling(r"[1-9][0-9]{0,5}", "the number of a case, 1 to 999999")
@@ -120,6 +122,7 @@ FORMS: dict[str, tuple[Field, ...]] = {
     "drop": fields(CHANGE, Field("ID", ID)),
     "screen": SITE,
     "verdict": SITE,
+    AS_OF: fields(Field("N", ENTRY), SITE),
     "airfield": (Field("ID", ID),),
     "day": fields(CHANGE, Field("DATE", DAY)),
     "closed": fields(CHANGE, Field("DATE", DAY)),

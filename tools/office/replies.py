@@ -71,6 +71,13 @@ class Ceiling:
 
 
 @dataclass(frozen=True)
+class AsOf:
+    """The findings over the airfields as they stood after entry `number` (`oe asof`)."""
+    number: int
+    entries: tuple[Entry, ...]
+
+
+@dataclass(frozen=True)
 class Verdict:
     changes: int
     notice: bool
@@ -128,7 +135,7 @@ class Report:
     lines: tuple[str, ...]
 
 
-Reply = Found | Ceiling | Verdict | Accepted | Refusal | CaseState | AirfieldRow | Review | Sync | Report
+Reply = Found | Ceiling | AsOf | Verdict | Accepted | Refusal | CaseState | AirfieldRow | Review | Sync | Report
 
 
 def read_entries(texts: list[str]) -> tuple[Entry, ...]:
@@ -141,6 +148,8 @@ def parse(first: str, rest: Iterator[str]) -> Reply:
             return Found(int(changes), read_entries(entries))
         case ["ceiling", changes, height, _, *entries]:
             return Ceiling(int(changes), None if height == NONE else int(height), read_entries(entries))
+        case ["asof", number, _, *entries]:
+            return AsOf(int(number), read_entries(entries))
         case ["verdict", changes, required, obstruction, count]:
             return Verdict(int(changes), required == "yes", obstruction == "yes", int(count))
         case ["ok", number, _, form, *values]:
@@ -179,5 +188,6 @@ def answers(form: str, reply: Reply) -> bool:
         case Accepted():
             return reply.form == {"file": "case"}.get(form, form)
         case _:
-            kinds = {"screen": (Found, Ceiling), "verdict": Verdict, "case": CaseState, "airfield": AirfieldRow, "review": Review, "sync": Sync, "report": Report}
+            kinds = {"screen": (Found, Ceiling), "asof": AsOf, "verdict": Verdict, "case": CaseState, "airfield": AirfieldRow, "review": Review, "sync": Sync,
+                     "report": Report}
             return isinstance(reply, kinds.get(form, ()))

@@ -4,7 +4,7 @@ from collections.abc import Iterable
 from office import forms
 from office.desk import Pair
 from office.records import TENTHS, Record, feet, show
-from office.replies import (NONE, Accepted, AirfieldRow, CaseState, Ceiling, Entry, Found, Refusal, Report, Review, Sync, Verdict, read_entries)
+from office.replies import (NONE, Accepted, AirfieldRow, AsOf, CaseState, Ceiling, Entry, Found, Refusal, Report, Review, Sync, Verdict, read_entries)
 from office.structures import ENTRIES_OF_DETERMINATION
 
 MALFORMED = 13
@@ -43,6 +43,7 @@ REFUSALS = {  # {0} and {1} are the values of the refusal
     36: "KIND, MOBILE, FLAGS and ON are those of the way's first station",
     37: "the way that ends here has no station",
     38: "a station is a point of a road, railroad or waterway, and no object or antenna",
+    39: "this run can tell lists as of entries {0} to {1} alone: for an older one run the records from the start",
 }
 
 
@@ -164,12 +165,19 @@ def say_accepted(record: Record, reply: Accepted) -> list[str]:
     return [f"entry {reply.number}: {out[0]}", *out[1:]]
 
 
+def say_foreign(form: str) -> str:
+    """Why a form that there is was refused at its own field."""
+    if form == forms.AS_OF:
+        return "`oe asof` alone answers it, and only where the line begins with just `asof,`, without a quote or a byte order mark"
+    return f"`oe ceiling` and `oe stations` read `screen` records, and this is `{form}`"
+
+
 def say_malformed(record: Record, number: int) -> list[str]:
     head = f"REFUSED ({MALFORMED})"
     if number == 0:
         return [f"{head}: the line is longer than 8,192 bytes, or it is not one record (a quote or a line's end is out of place)"]
     if number == 1 and record.form in forms.FORMS:
-        return [f"{head} at field 1: `oe ceiling` and `oe stations` read `screen` records, and this is `{record.form}`"]
+        return [f"{head} at field 1: {say_foreign(record.form)}"]
     if record.form not in forms.FORMS:
         why = forms.about_form(record.form)
         return [f"{head} at field 1: there is no form {forms.quoted(record.form)}" + (f" ({why})" if why else "")]
@@ -226,6 +234,8 @@ def say(pair: Pair) -> list[str]:
             return say_entries(entries)
         case Ceiling(_, height, entries):
             return say_ceiling(height, entries)
+        case AsOf(number, entries):
+            return [f"over the airfields after entry {number}:", *say_entries(entries)]
         case Verdict(_, notice, obstruction, count):
             return [f"notice required: {yes_or_no(notice)}; obstruction: {yes_or_no(obstruction)}; findings: {count} (`screen` lists them)"]
         case CaseState() as state:

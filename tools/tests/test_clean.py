@@ -40,7 +40,8 @@ class Clean(Trial):
                 ('screen,0,0,0,"200,1",object,0,-,-', "a comma: write tenths of a foot without one, so 200.1 ft are 2001"), ("screen,0,0,0,200 ft,object,0,-,-", "a unit: write"),
                 ("screen,0,0,0,61m,object,0,-,-", '"61m" (a unit'), (",x,y", '"": the first cell is empty'), ("airport,a,1,M\u00dcN,public,0,0,0", 'ID: "M\u00dcN"; wanted is 1 to 8'),
                 ("screen,0,0,0,1,object,0,-," + "A" * 20000, f'ON: "{"A" * 60}.."; wanted'), ("screen;0;0;0;200,1;object;0;-;-", "a comma: write tenths"),
-                ("X,Y,GROUND", "begin a row of headings or remarks with #"), ("what,id,name,lat", '"what": a table of points: oe-from-points makes'), ("screen,20000001,0,0,1,object,0,-,-", 'X: "20000001"')):
+                ("asof,01,0,0,0,1,object,0,-,-", 'line 2: field 2, N: "01" (a sign or zeros before the number)'),
+                ("asof,1,0,0,0,1,tower,0,-,-", 'field 7, KIND: "tower"'), ("X,Y,GROUND", "begin a row of headings or remarks with #"), ("what,id,name,lat", '"what": a table of points: oe-from-points makes'), ("screen,20000001,0,0,1,object,0,-,-", 'X: "20000001"')):
             self.fault(words, "oe-clean", self.write("sheet.csv", f"# remark\n{row}\nreview\n"))
 
     def test_other_separators(self) -> None:
@@ -54,6 +55,11 @@ class Clean(Trial):
     def test_the_end_of_a_way(self) -> None:
         way = "screen,0,0,1000,850,interstate,0,-,-\n-\n"
         self.assertEqual(self.good("oe-clean", self.write("sheet.csv", way.replace("-\n", "-,,\n"))).out, way)
+
+    def test_a_question_of_an_earlier_entry(self) -> None:
+        """It goes out without the quotes of a spreadsheet: its word has none."""
+        sheet = '"asof","2",0,0,1000,"850",object,0,-,-,,\n'
+        self.assertEqual(self.good("oe-clean", self.write("sheet.csv", sheet)).out, "asof,2,0,0,1000,850,object,0,-,-\n")
 
     def test_a_sheet_without_a_record(self) -> None:
         for sheet in ("", "\r\n", "# remark\n,,,,\n"):

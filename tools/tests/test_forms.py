@@ -31,6 +31,20 @@ class Forms(unittest.TestCase):
                 refused += said is not None
         self.assertGreater(refused, 200)
 
+    def test_the_field_of_a_structure_as_of_an_entry(self) -> None:
+        """A structure stands one field later than in `screen`, and so does what is refused in it: by the stored refusals of `screen`."""
+        refused = 0
+        for session in stored.known():
+            for pair in session.pairs():
+                if pair.record.form == "screen":
+                    said = int(pair.reply.values[0]) + 1 if isinstance(pair.reply, Refusal) and pair.reply.number == words.MALFORMED else None
+                    self.assertEqual(forms.first_bad_field(["asof", "7", *pair.record.fields[1:]]), said, pair.record.text)
+                    self.assertEqual(forms.first_bad_field(["asof", "07", *pair.record.fields[1:]]), 2, pair.record.text)
+                    refused += said is not None
+        self.assertGreater(refused, 50)
+        for number, bad in (("0", None), ("999999999", None), ("1000000000", 2), ("-1", 2), ("", 2), ("1.0", 2)):
+            self.assertEqual(forms.first_bad_field(["asof", number, "0", "0", "0", "1", "object", "0", "-", "-"]), bad, number)
+
     def test_a_line_is_cut_as_the_desk_cuts_it(self) -> None:
         self.assertEqual(lines(b"a\r\n\n\r\nb\r\r\nc\r"), ["a", "", "", "b\r", "c\r"])
         self.assertEqual(forms.cut('\ufeff"screen","0"'), ["screen", "0"])
@@ -53,8 +67,8 @@ class Replies(unittest.TestCase):
                 self.assertTrue(all(words.say(pair)), pair)
                 kinds.add(type(pair.reply))
                 rules |= {entry.rule.name for entry in pair.reply.entries} if isinstance(pair.reply, Found) else set()
-        # the stored sessions are those of `oe desk`, which has no ceilings; test_say has them, and the last entry
-        self.assertEqual(kinds | {replies.Ceiling, replies.Sync}, set(replies.Reply.__args__))
+        # the stored sessions are those of `oe desk`, which has no ceilings and no earlier lists; test_say has them, and the last entry
+        self.assertEqual(kinds | {replies.AsOf, replies.Ceiling, replies.Sync}, set(replies.Reply.__args__))
         self.assertEqual(rules, set(replies.RULES))
 
     def test_each_rule_is_said_by_its_paragraph(self) -> None:
@@ -85,7 +99,7 @@ class Replies(unittest.TestCase):
         for name, form in forms.FORMS.items():
             names = [field.name for field in form]
             self.assertEqual(len(names), len(set(names)), name)
-            self.assertEqual("CALLER" in names, name not in ("screen", "verdict", "airfield", "case", "review", "sync", "report"), name)
+            self.assertEqual("CALLER" in names, name not in ("screen", "verdict", "asof", "airfield", "case", "review", "sync", "report"), name)
 
     def test_fields_are_found_by_name(self) -> None:
         self.assertEqual(record(1, "fcc,a,b,7,granted,2026-01-31").values["DATE"], "2026-01-31")

@@ -1,8 +1,16 @@
 """oe-say: words of replies, cautions, and files that do not belong together."""
+import sqlite3
+import unittest
+from contextlib import closing
+
 from tests import stored
-from tests.trial import Trial
+from tests.trial import PROGRAM, Trial
 
 EMPTY = "no airfield is registered"
+THEN = ("airport,u,1,AAA,public,0,0,1000\nrunway,u,2,AAA,09/27,other,hard,-50000,0,1000,P,50000,0,1000,NA\n"
+        "asof,1,-152000,0,1000,2001,object,0,-,-\nasof,2,-152000,0,1000,2001,object,0,-,-\nasof,3,-152000,0,1000,2001,object,0,-,-\n")
+THEN_TOLD = ("ok,1,published,airport\nok,2,published,runway\nasof,1,1,9a - - 1\n"
+             "asof,2,5,17a2 AAA - 1,19a AAA - 501,19d AAA 09/27.1 1,9a - - 1,9b1 AAA 09/27 981\nno,39,NotKept,0,2\n")
 TWO = "airport,a,1,AAA,public,0,0,0\nrunway,a,2,AAA,09/27,other,hard,-30000,0,0,V,30000,0,0,V\n"
 
 
@@ -89,6 +97,50 @@ class Say(Trial):
                       "read `screen` records, and this is `review`\n"):
             self.assertIn(words, out)
 
+    def test_as_of_an_earlier_entry(self) -> None:
+        """The replies of `oe asof`: before the runway was there, with it, and as of an entry that is not there."""
+        out = self.said(THEN, THEN_TOLD)
+        for words in ("line 3: asof 1: 200.1 ft on ground of 100.0 ft, top 300.1 ft\n    over the airfields after entry 1:\n"
+                      "    NOTICE to the FAA is required (Form 7460-1), it meets:\n"
+                      "      77.9(a)         200 ft above the ground  by 0.1 ft\n",
+                      "line 4: asof 2: 200.1 ft on ground of 100.0 ft, top 300.1 ft\n    over the airfields after entry 2:\n    OBSTRUCTION, it exceeds:\n"
+                      "      77.17(a)(2)     the height near AAA                               by 0.1 ft\n"
+                      "      77.19(a)        horizontal surface of AAA                         by 50.1 ft\n"
+                      "      77.19(d)        approach surface of AAA runway 09/27, end 1 (09)  by 0.1 ft\n",
+                      "      77.9(b)(1)      100 to 1 slope from AAA runway 09/27              by 98.1 ft\n",
+                      "line 5: asof,3,-152000,0,1000,2001,object,0,-,-\n    REFUSED (39): this run can tell lists as of entries 0 to 2 alone: ",
+                      "screened: obstructions 0, notice only 0, without a finding 0; records refused 1; with a caution 0\n"):
+            self.assertIn(words, out)
+
+    def test_refused_as_of(self) -> None:
+        """A number that is none, a word that is no KIND, and a desk that does not answer it."""
+        site = "-152000,0,1000,2001"
+        out = self.said(f"asof,01,{site},object,0,-,-\nasof,1,{site},tower,0,-,-\nasof,1,{site},object,0,-,-\n",
+                        "no,13,Malformed,2\nno,13,Malformed,7\nno,13,Malformed,1\n")
+        for words in ('REFUSED (13) at field 2, N: "01" (a sign or zeros before the number); wanted is the number of an entry',
+                      'REFUSED (13) at field 7, KIND: "tower"; wanted is object', "REFUSED (13) at field 1: `oe asof` alone answers it"):
+            self.assertIn(words, out)
+        self.fault("another sort", "oe-say", self.write("in", f"asof,1,{site},object,0,-,-\n"), self.write("out", "found,1,1,9a - - 1\n"))
+
+    def test_the_command_that_is_asked(self) -> None:
+        """Where a record asks as of an earlier entry, `oe asof` is asked, and a desk that begins with an office's airfields is not."""
+        program = self.folder / "oe"
+        program.write_text(f'#!/bin/sh\ncat > /dev/null\n[ "$*" = asof ] && printf %s "{THEN_TOLD}"\n')
+        program.chmod(0o755)
+        self.assertIn("over the airfields after entry 2:", self.good("oe-say", self.write("in", THEN), desk=str(program)).out)
+        self.fault("oe desk ended with status 1", "oe-say", self.write("in", TWO), desk=str(program))
+        with closing(sqlite3.connect(self.folder / "office.db")) as office:
+            office.execute("CREATE TABLE kept (t, k, v)")
+            office.execute("INSERT INTO kept VALUES (0, 'AAA', 'airport,public,0,0,1000')")
+            office.commit()
+        self.fault("does not have the office's entries", "oe-say", self.write("in", THEN), "--over", "office.db", desk=str(program))
+
+    @unittest.skipUnless(PROGRAM, "no program is named")
+    def test_the_program_as_of_an_earlier_entry(self) -> None:
+        records = self.write("in", THEN)
+        told = self.good("oe-say", records, self.write("out", THEN_TOLD)).out
+        self.assertEqual(self.good("oe-say", records, desk=PROGRAM).out, told)
+
     def test_the_last_entry(self) -> None:
         out = self.said("sync\n" + TWO + "sync\nsync,\n", "sync,0\nok,1,published,airport\nok,2,published,runway\nsync,2\nno,13,Malformed,2\n")
         for words in ("line 1: sync\n    no change was accepted yet: was --db forgotten, or another file named?\n",
@@ -129,6 +181,17 @@ class Cautions(Trial):
         self.assertNotIn("CAUTION", self.said(f"{site}-,AAA\n", "ceiling,2,-,1,9d AAA - 0\n"))
         self.assertIn("is AAB registered", self.said(f"{site}-,AAB\n", "ceiling,2,1020,1,9b1 AAA 09/27 1\n"))
         self.assertIn("flag S, D or R", self.said(f"{site}S,-\n", "ceiling,2,1500,1,19a AAA - 1\n"))
+
+    def test_as_of_an_earlier_entry(self) -> None:
+        """Entry 0 has no airfield; an airfield may not have been there yet; a flag, and numbers in the wrong place, are as now."""
+        for record, reply, words in (("asof,0,0,0,1000,2500,object,0,-,AAA", "asof,0,1,9a - - 500", "entry 0 stands before every change"),
+                                     ("asof,3,0,0,1000,2500,object,0,-,AAB", "asof,3,1,9a - - 500", "was AAB registered by entry 3, not misspelt"),
+                                     ("asof,3,0,0,1000,2500,object,0,S,AAB", "asof,3,0", "flag S, D or R"),
+                                     ("asof,3,0,0,2500,0,object,0,-,-", "asof,3,0", "its height is 0")):
+            out = self.said(record + "\n", reply + "\n")
+            self.assertIn(words, out)
+            self.assertEqual(out.count("CAUTION"), 1, out)
+        self.assertNotIn("CAUTION", self.said("asof,3,0,0,1000,2500,object,0,-,AAA\n", "asof,3,2,9a - - 500,9d AAA - 0\n"))
 
     def test_airfields_of_a_file_before(self) -> None:
         """Where the desk has changes that this file does not have, nothing is said of an empty one."""

@@ -29,22 +29,31 @@ pub tells_service : (s t : Service) → word_of s ≡ word_of t → s ≡ t
 tells_service services.Desk services.Desk e = refl
 tells_service services.Desk services.Ceiling e = absurd (cc (e))
 tells_service services.Desk services.Stations e = absurd (cc (e))
+tells_service services.Desk services.AsOf e = absurd (omega (arith, ap (λ word. get_or word 0 0) e))
 tells_service services.Ceiling services.Desk e = absurd (cc (e))
 tells_service services.Ceiling services.Ceiling e = refl
 tells_service services.Ceiling services.Stations e = absurd (cc (e))
+tells_service services.Ceiling services.AsOf e = absurd (omega (arith, ap (λ word. get_or word 0 0) e))
 tells_service services.Stations services.Desk e = absurd (cc (e))
 tells_service services.Stations services.Ceiling e = absurd (cc (e))
 tells_service services.Stations services.Stations e = refl
+tells_service services.Stations services.AsOf e = absurd (omega (arith, ap (λ word. get_or word 0 0) e))
+tells_service services.AsOf services.Desk e = absurd (omega (arith, ap (λ word. get_or word 0 0) e))
+tells_service services.AsOf services.Ceiling e = absurd (omega (arith, ap (λ word. get_or word 0 0) e))
+tells_service services.AsOf services.Stations e = absurd (omega (arith, ap (λ word. get_or word 0 0) e))
+tells_service services.AsOf services.AsOf e = refl
 
 pub no_draws : (s : Service) → word_of s ≡ codes "generate" → ⊥
 no_draws services.Desk e = cc e
 no_draws services.Ceiling e = cc e
 no_draws services.Stations e = omega (arith, ap (λ word. get_or word 0 0) e)
+no_draws services.AsOf e = omega (arith, ap (λ word. get_or word 0 0) e)
 
 pub no_serve : (s : Service) → word_of s ≡ codes "serve" → ⊥
 no_serve services.Desk e = omega (arith, ap (λ word. get_or word 0 0) e)
 no_serve services.Ceiling e = omega (arith, ap (λ word. get_or word 0 0) e)
 no_serve services.Stations e = omega (arith, ap (λ word. get_or word 1 0) e)
+no_serve services.AsOf e = omega (arith, ap (λ word. get_or word 0 0) e)
 
 pub serve_or_generate : codes "serve" ≡ codes "generate" → ⊥
 serve_or_generate e = omega (arith, ap (λ word. get_or word 0 0) e)

@@ -19,6 +19,7 @@ abbrev pub word_of : Service → List ℕ
 word_of services.Desk = codes "desk"
 word_of services.Ceiling = codes "ceiling"
 word_of services.Stations = codes "stations"
+word_of services.AsOf = codes "asof"
 
 -- no option but the file of the tables
 abbrev pub file_alone : Option (List ℕ) → Values

@@ -29,12 +29,14 @@ pub enum Service {
     Ceiling,
     /// `stations`: it replies to each way, a structure a station, with one list of findings. It accepts nothing.
     Stations,
+    /// `asof`: it answers as `desk` does, and replies to lines that ask what a list was after an earlier entry.
+    AsOf,
 }
 
 /// The command of a run.
 #[derive(Clone, Copy, Debug, PartialEq, Eq)]
 pub enum Command<'a> {
-    /// `desk`, `ceiling` or `stations`: a desk is opened, and answers the input. With `--db FILE` its tables are those that are stored in
+    /// `desk`, `ceiling`, `stations` or `asof`: a desk is opened, and answers the input. With `--db FILE` its tables are those that are stored in
     /// that file.
     Answer {
         service: Service,
@@ -97,6 +99,8 @@ fn service_of(word: &str) -> Option<Service>
         Some(Service::Ceiling)
     } else if word == "stations" {
         Some(Service::Stations)
+    } else if word == "asof" {
+        Some(Service::AsOf)
     } else {
         None
     }

@@ -125,3 +125,21 @@ fn a_way_near_an_airport(rt: HostRuntime) -> Result<(), Fail> {
     assert!(rt; writes(&rt, alloc, &list, keeper, input, text)?);
     Ok(())
 }
+
+/// What the list of a structure was after each of two entries: by its height alone (77.9(a)) before the runway was there.
+#[test]
+fn lists_as_of_earlier_entries(rt: HostRuntime) -> Result<(), Fail> {
+    let alloc = rt.alloc();
+    let input =
+        b"airport,u,1,AAA,public,0,0,1000\nrunway,u,2,AAA,09/27,other,hard,-50000,0,1000,P,50000,0,1000,NA\nasof,1,-152000,0,1000,2001,object,0,-,-\nasof,2,-152000,0,1000,2001,object,0,-,-\nasof,3,-152000,0,1000,2001,object,0,-,-\n";
+    let text =
+        b"ok,1,published,airport\nok,2,published,runway\nasof,1,1,9a - - 1\nasof,2,5,17a2 AAA - 1,19a AAA - 501,19d AAA 09/27.1 1,9a - - 1,9b1 AAA 09/27 981\nno,39,NotKept,0,2\n";
+    assert!(rt; writes(&rt, alloc, &["asof"], NoKeeper, input, text)?);
+    let keeper = keeper_of_an_airport(alloc)?;
+    let input =
+        b"asof,1,-152000,0,1000,2001,object,0,-,-\nasof,2,-152000,0,1000,2001,object,0,-,-\nasof,1\rx\nasof,01,-152000,0,1000,2001,object,0,-,-\nasof,2,-152000,0,1000,2001,tower,0,-,-\n";
+    let text =
+        b"no,39,NotKept,2,2\nasof,2,5,17a2 AAA - 1,19a AAA - 501,19d AAA 09/27.1 1,9a - - 1,9b1 AAA 09/27 981\nno,13,Malformed,0\nno,13,Malformed,2\nno,13,Malformed,7\n";
+    assert!(rt; writes(&rt, alloc, &["asof", "--db", "x"], keeper, input, text)?);
+    Ok(())
+}

@@ -40,6 +40,8 @@ fn workers_serve_connections_on_loopback(rt: HostRuntime) -> Result<(), Fail> {
     let Some(address) = gate.address() else {
         return Err(Fail::from("no address"));
     };
+    let taken = format!(in alloc; "{address}")?;
+    assert!(rt; TcpGate::new(&rt).listen(taken.as_str()).is_err());
     let Ok(ports) = open_ports(alloc, &mut gate, 2) else {
         return Err(Fail::from("no ports"));
     };

@@ -1,4 +1,5 @@
 pub mod ChangeFacts
 pub mod QueryFacts
 pub mod StepFacts
+pub mod SeenFacts
 pub mod PlainFacts

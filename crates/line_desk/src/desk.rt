@@ -34,8 +34,13 @@ impl<K: Keeper, L: Ledger> Model for LineDesk<K, L> {
     ghost view = { λ d. serving d.clerk };
 }
 
-/// Appends the reply to a line; an empty line has none.
-fn append_answer<K: Keeper, L: Ledger>(
+/// Makes the change that a line asks for, if it asks for one, and appends the reply to the line; an empty line has none. `records` and `list`
+/// are buffers that are reused.
+///
+/// # Errors
+///
+/// `NoMemory` where memory was refused for the text; a part of the reply may then have been appended, and the change may have been made.
+pub fn append_answer<K: Keeper, L: Ledger>(
     alloc: Global,
     clerk: &mut Clerk<K>,
     records: &mut RecordReader,

@@ -5,5 +5,5 @@ mod desk;
 mod fulfil;
 mod laws;
 
-pub use desk::LineDesk;
+pub use desk::{LineDesk, append_answer};
 pub use laws::{steady_never_fails, steady_sessions};

@@ -7,3 +7,4 @@ pub mod CurrentFacts
 pub mod ThenFacts
 pub mod ServeFacts
 pub mod OpeningFacts
+pub mod SteadyFacts

@@ -4,26 +4,17 @@ use Rattle.airfields.specs.declared.airfield.Airfield.{Airfield}
 use Rattle.desk_machine.specs.States.{State, last_number}
 use Rattle.grid_exact.specs.declared.text.TheConstants.{LINE_LIMIT}
 use Rattle.oe_keeper.specs.Kept.{Kept}
-use Rattle.wire_requests.specs.Requests.{IsRefusal}
-use Rattle.wire_requests.specs.declared.request.ReadRefusal.{ReadRefusal}
-use Rattle.wire_requests.specs.declared.request.ReadRefusal.TheVariants as reading
 use Rattle.filing_desk.specs.Handed.{Told as ToldRows}
 use Rattle.line_desk.specs.Desk.{Answers, Serving}
-use Rattle.line_desk.proofs.StepFacts.{refused, refused_long, wanting}
+use Rattle.line_desk.proofs.StepFacts.{refused_long}
 use Rattle.oe_asof.specs.Lines.{Long, asks}
-use Rattle.oe_asof.specs.Replies.{IsToldOf, malformed_text, refusal_text}
+use Rattle.oe_asof.specs.Replies.{IsToldOf, malformed_text}
 use Rattle.oe_asof.specs.Sessions.{DatedOver, DatedStep, Dating}
 use Rattle.oe_asof.specs.Versions.{Version, latest, version, with_version}
 use Rattle.oe_asof.specs.Histories.{Appended, HasAll, IsCurrent, IsToldBy, base_in, opening_in}
 use Rattle.oe_asof.proofs.CurrentFacts.{goes_on, in_order}
 use Rattle.oe_asof.proofs.MoveFacts.{moved}
 use Rattle.oe_asof.proofs.ThenFacts.{told_then}
-
--- a line that is no record is refused
-pub unread : {K : Type 0} (IsSteady : K → Type 0) (faults : K → ℕ) (s : Serving K) (line old new : List ℕ) (why : ReadRefusal) → 0 < length line → IsRefusal line why
-    → new ≡ old ++ refusal_text why → Answers IsSteady faults s line old new s
-unread IsSteady faults s line old new (reading.Malformed field) some is t = refused IsSteady faults s line old new field some is t
-unread IsSteady faults s line old new reading.NoMemory some is t = wanting IsSteady faults s line old new some t
 
 -- ---- lines that are too long
 

@@ -40,6 +40,7 @@ pub data IsWrong (fields : List (List ℕ)) (field : ℕ) : Type 0 where
 
 -- the line asks for the list of this structure as of the entry of this number
 pub record Asks (line : List ℕ) (number : ℕ) (site : Site) : Type 0 where
+  pub short : length line ≤ LINE_LIMIT
   pub fields : List (List ℕ)
   pub one : one_record line ≡ Some fields
   pub question : IsQuestion fields number site

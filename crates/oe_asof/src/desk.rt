@@ -8,7 +8,6 @@ ghost use Rattle.oe_asof.specs.Versions.{latest, version, with_version};
 ghost use Rattle.oe_asof.specs.Histories.{HasAll, IsCurrent, base_in, opening_in};
 ghost use Rattle.oe_asof.specs.Sessions.{DatedOver, opened_over};
 
-use crate::fulfil::append_served;
 use crate::history::History;
 use crate::listing::append_told;
 use crate::question::asks_as_of;
@@ -16,7 +15,9 @@ use crate::told::append_refused;
 use csv::ByteRecord;
 use filing_desk::Clerk;
 use grid_exact::{LINE_LIMIT, NoMemory, Steps};
+use line_desk::append_answer;
 use line_session::Answering;
+use oe_findings::Findings;
 use oe_keeper::Keeper;
 use std::alloc::Global;
 use std::marker::Model;
@@ -33,6 +34,7 @@ pub struct DatedDesk<K: Keeper, L: Ledger> {
     /// Whether the history has each version. Where memory was wanting for one, the desk answers no more.
     whole: bool,
     records: RecordReader,
+    list: Findings,
     row: ByteRecord,
     steps: Steps<L>,
 }
@@ -92,6 +94,7 @@ fn serve<K: Keeper, L: Ledger>(
     clerk: &mut Clerk<K>,
     history: &mut History,
     records: &mut RecordReader,
+    list: &mut Findings,
     steps: &mut Steps<L>,
     line: &[u8],
     text: &mut String,
@@ -110,7 +113,7 @@ fn serve<K: Keeper, L: Ledger>(
         Ok(()) => {}
         Err(_) => return append_refused(text, ReadRefusal::NoMemory),
     }
-    append_served(alloc, clerk, records, steps, line, text)?;
+    append_answer(alloc, clerk, records, list, steps, line, text)?;
     keep_version(alloc, clerk, history)
 }
 
@@ -131,6 +134,7 @@ impl<K: Keeper, L: Ledger> DatedDesk<K, L> {
             history,
             whole: true,
             records: RecordReader::new(alloc),
+            list: Findings::new(alloc),
             row: ByteRecord::new(alloc),
             steps: Steps::new(blank),
         }
@@ -162,6 +166,7 @@ impl<K: Keeper, L: Ledger> Answering for DatedDesk<K, L> {
             &mut self.clerk,
             &mut self.history,
             &mut self.records,
+            &mut self.list,
             &mut self.steps,
             line,
             text,

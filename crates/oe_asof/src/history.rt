@@ -4,7 +4,7 @@ ghost use Rattle.std.specs.Prelude.{◌≡◌, ◌≤◌, [], length, IfSome, On
 ghost use Rattle.std.specs.Arc.{arc_value};
 ghost use Rattle.std.specs.Ordering.{nat_cmp};
 ghost use Rattle.std.specs.List.Sorted.{IsBinarySearchResult, IsSearchInRange};
-ghost use Rattle.oe_asof.specs.Versions.{airfields_at, latest, number_of, version, with_version};
+ghost use Rattle.oe_asof.specs.Versions.{AreRising, airfields_at, latest, number_of, version, with_version};
 
 use crate::version::KeptSky;
 use grid_exact::NoMemory;
@@ -84,6 +84,13 @@ impl History {
             Some(kept) => Some(kept.number()),
             None => None,
         }
+    }
+
+    /// For proofs: the numbers rise.
+    pub fn rising(&self)
+        ensures { AreRising self.now.versions }
+    {
+        let _ = &self.versions; // a proof knows the invariant of a value where it reads a field
     }
 
     /// Keeps the airfields under a number that is at least the last one; where it is the last one, nothing changes. It allocates nothing.

@@ -4,8 +4,8 @@
 
 mod answer;
 mod desk;
-mod fulfil;
 mod history;
+mod laws;
 mod listing;
 mod lookup;
 mod question;
@@ -15,5 +15,6 @@ mod version;
 
 pub use answer::Dated;
 pub use history::History;
+pub use laws::field_of_the_number;
 pub use lookup::dated;
 pub use session::dated_records;

@@ -20,6 +20,9 @@ use wire_values::number_within;
 /// The field of the number, counted from 1.
 pub const NUMBER_FIELD: u32 = 2;
 
+/// The first field of the structure.
+const SITE_FIELD: u32 = NUMBER_FIELD + 1;
+
 /// What a line asks: the list of a structure as of the entry of a number.
 #[derive(Drop)]
 pub(crate) struct AsOf {
@@ -77,7 +80,7 @@ fn as_of(fields: Fields<'_>) -> Result<AsOf, u32>
     };
     match site(fields) {
         Ok(filing) => Ok(AsOf { number, filing }),
-        Err(bad) => Err(bad.before as u32 + 3),
+        Err(bad) => Err(bad.before as u32 + SITE_FIELD),
     }
 }
 

@@ -1,8 +1,9 @@
 //! Laws of the definitions, and the numbers of a search.
 
-ghost use Rattle.std.specs.Prelude.{◌≡◌, List, ℤ, ◌≤ℤ◌};
+ghost use Rattle.std.specs.Prelude.{◌≡◌, ◌+◌, List, ℤ, ◌≤ℤ◌};
 ghost use Rattle.airfields.specs.Sites.{Site};
 ghost use Rattle.airfields.specs.declared.airfield.Airfield.{Airfield};
+ghost use Rattle.surface_tree.specs.declared.square.TheConstants.{TOP_LEVEL};
 ghost use Rattle.oe_ceiling.specs.Ceilings.{IsClear};
 
 use crate::search::{HALVINGS, LISTS};
@@ -14,8 +15,9 @@ pub fn lower_is_clear()
         → IsClear airfields site higher → IsClear airfields site lower }
 {}
 
-/// A lemma, never run: a search for a ceiling halves 13 times, and looks at 14 lists at most.
+/// A lemma, never run: a search for a ceiling halves 13 times, and looks at 14 lists at most; for each, at 15 squares of the tree.
 pub fn numbers()
     ensures halvings { HALVINGS ≡ 13 }
     ensures lists { LISTS ≡ 14 }
+    ensures squares { TOP_LEVEL + 1 ≡ 15 }
 {}

@@ -1,5 +1,5 @@
 -- What the end of a session says of the status.
-use Rattle.std.proofs.Common.{ℕ, List, [], Option, None, Some, refl, subst, sym, ap, ◌≡◌, ◌≢◌, ◌∙◌, ◌⊎◌, inl, inr}
+use Rattle.std.proofs.Common.{ℕ, List, [], Option, refl, subst, sym, ap, ◌≡◌, ◌≢◌, ◌∙◌, ◌⊎◌, inl, inr}
 use Rattle.line_session.specs.Session.{Answered, Begun, HasCauses, IsOfLines, WritesWhole}
 use Rattle.line_session.specs.declared.session.Ended.{Ended}
 use Rattle.line_session.specs.declared.session.Ended.TheVariants as endings
@@ -12,19 +12,18 @@ use Rattle.line_session.specs.Machine.{Step}
 use Rattle.oe_keeper.specs.Kept.{Kept}
 use Rattle.oe_keeper.specs.declared.change.Table.{Table}
 use Rattle.line_desk.specs.Desk.{Plain, Serving, StepOver}
-use Rattle.line_desk.proofs.PlainFacts.{answered, front, read, begun}
+use Rattle.line_desk.proofs.PlainFacts.{plain, steady_on}
+use Rattle.line_desk.proofs.SeenFacts.{answered, front, read, begun}
+use Rattle.oe_asof.specs.Sessions.{DatedOver, DatedPlain, DatedSession, opened_over, opened_plain}
+use Rattle.oe_asof.proofs.SteadyFacts.{IsSteadyIn, plain_step, steady_after, unkept}
 use Rattle.oe_commands.specs.Generating.{IsGenerateEnd}
 use Rattle.oe_http.specs.Causes.{Rose}
-use Rattle.airfields.specs.declared.airfield.Airfield.{Airfield}
 use Rattle.desk_machine.specs.States.{last_number}
-use Rattle.site_questions.specs.Charts.{Chart, chart}
+use Rattle.site_questions.specs.Charts.{chart}
 use Rattle.site_questions.specs.Ceilings.{CeilingStep}
 use Rattle.site_questions.specs.Ways.{Survey, WayStep, survey}
 use Rattle.site_questions.specs.WaySessions.{WaysAnswered, WaysBegun}
-use Rattle.site_questions.specs.Questions.{CeilingSession, QuestionSession, WaySession}
-use Rattle.site_questions.specs.declared.kinds.Question.{Question}
-use Rattle.site_questions.specs.declared.kinds.Question.TheVariants as asked
-use Rattle.oe_commands.specs.Commands.{question_in}
+use Rattle.site_questions.specs.Questions.{CeilingSession, WaySession}
 use Rattle.oe_commands.specs.Runs.{IsSessionEnd, IsUntouched, PlainRun, RunCauses, RunOver, SessionRun, WaysRun}
 
 -- the end of the session that a status tells of
@@ -75,15 +74,17 @@ ways_run opened e x y h k l closed b (after, w) = record {
   memory = λ s. w.memory (told_by e statuses.NoMemory l s);
 }
 
--- over a keeper that never fails no line is refused as not kept
-pub steady_run : {K : Type 0} (Tells : K → Kept → Type 0) (IsSteady : K → Type 0) (faults : K → ℕ) (s : Serving K) (status : Status) (x y h k : Option (List ℕ)) → IsSteady s.keeper
-    → SessionRun (StepOver Tells IsSteady faults) s status x y h k → SessionRun Plain s.state status x y h k
-steady_run Tells IsSteady faults s status x y h k steady r = record {
-  done = λ e. ((r.done e).0.state, answered Tells IsSteady faults s (r.done e).0 x h k steady (r.done e).1);
-  begun = begun Tells IsSteady faults s x h k steady r.begun;
+-- a run whose steps are seen as others is a run of those
+pub seen_run : {S T : Type 0} (step : Step S) (outer : Step T) (seen : S → T) (Holds : S → Type 0)
+    → ((s t : S) (line text : List ℕ) → Holds s → step s line text t → outer (seen s) line text (seen t))
+    → ((s t : S) (line text : List ℕ) → Holds s → step s line text t → Holds t)
+    → (s : S) (status : Status) (x y h k : Option (List ℕ)) → Holds s → SessionRun step s status x y h k → SessionRun outer (seen s) status x y h k
+seen_run step outer seen Holds is_seen holds_on s status x y h k holds r = record {
+  done = λ e. (seen (r.done e).0, answered step outer seen Holds is_seen holds_on s (r.done e).0 x h k holds (r.done e).1);
+  begun = begun step outer seen Holds is_seen holds_on s x h k holds r.begun;
   read_to_end = r.read_to_end;
-  whole = λ e. ((r.whole e).0.state, read Tells IsSteady faults s (r.whole e).0 x y h k steady (r.whole e).1);
-  memory = λ e. front Tells IsSteady faults s x h k steady (r.memory e);
+  whole = λ e. (seen (r.whole e).0, read step outer seen Holds is_seen holds_on s (r.whole e).0 x y h k holds (r.whole e).1);
+  memory = λ e. front step outer seen Holds is_seen holds_on s x h k holds (r.memory e);
 }
 
 -- what each service has read and written once its session has ended so
@@ -99,44 +100,28 @@ module _ {K : Type 0} (Tells : K → Kept → Type 0) (IsSteady : K → Type 0) 
       → ((after : Serving K) × WritesWhole (StepOver Tells IsSteady faults) s after e x y h k) → HasRun service status
   desk_run service status served is l closed b w =
       let run : SessionRun (StepOver Tells IsSteady faults) s (status_of e) x y h k = session_run (StepOver Tells IsSteady faults) s e x y h k l closed b w in
-      ended_so service services.Desk status served is (run, λ steady. steady_run Tells IsSteady faults s (status_of e) x y h k steady run)
+      let plain_run : IsSteady s.keeper → SessionRun Plain s.state (status_of e) x y h k =
+      (λ steady. seen_run (StepOver Tells IsSteady faults) Plain (λ (v : Serving K). v.state) (λ (v : Serving K). IsSteady v.keeper) (plain Tells IsSteady faults) (steady_on Tells IsSteady faults) s (status_of e) x y h k steady run) in
+      ended_so service services.Desk status served is (run, plain_run)
 
-  pub ceiling_run : (service : Service) (status : Status) (airfields : List Airfield) (last : ℕ) → service ≡ services.Ceiling → status ≡ status_of e → airfields ≡ s.state.register → last ≡ last_number s.state → IsOfLines e
-      → (e ≡ endings.Closed → (after : Chart) × Answered CeilingStep (chart airfields last) after x h k) → Begun CeilingStep (chart airfields last) x h k
-      → ((after : Chart) × WritesWhole CeilingStep (chart airfields last) after e x y h k) → HasRun service status
-  ceiling_run service status airfields last served is fields number l closed b w =
-      let run : PlainRun services.Ceiling s.state (status_of e) x y h k =
-      subst (λ n. SessionRun CeilingStep (chart s.state.register n) (status_of e) x y h k) number
-      (subst (λ a. SessionRun CeilingStep (chart a last) (status_of e) x y h k) fields (session_run CeilingStep (chart airfields last) e x y h k l closed b w)) in
+  pub dated_run : (service : Service) (status : Status) → service ≡ services.AsOf → status ≡ status_of e → IsOfLines e → DatedSession Tells IsSteady faults s e x y h k → HasRun service status
+  dated_run service status served is l told =
+      let run : SessionRun (DatedOver Tells IsSteady faults) (opened_over s) (status_of e) x y h k = session_run (DatedOver Tells IsSteady faults) (opened_over s) e x y h k l told.closed told.begun told.written in
+      let plain_run : IsSteady s.keeper → SessionRun DatedPlain (opened_plain s.state) (status_of e) x y h k =
+      (λ steady. seen_run (DatedOver Tells IsSteady faults) DatedPlain unkept (IsSteadyIn Tells IsSteady faults) (plain_step Tells IsSteady faults) (steady_after Tells IsSteady faults) (opened_over s) (status_of e) x y h k steady run) in
+      ended_so service services.AsOf status served is (run, plain_run)
+
+  pub ceiling_run : (service : Service) (status : Status) → service ≡ services.Ceiling → status ≡ status_of e → IsOfLines e → CeilingSession (chart s.state.register (last_number s.state)) e x y h k
+      → HasRun service status
+  ceiling_run service status served is l told =
+      let run : PlainRun services.Ceiling s.state (status_of e) x y h k = session_run CeilingStep (chart s.state.register (last_number s.state)) e x y h k l told.closed told.begun told.written in
       ended_so service services.Ceiling status served is (run, λ steady. run)
 
-  pub stations_run : (service : Service) (status : Status) (airfields : List Airfield) (last : ℕ) → service ≡ services.Stations → status ≡ status_of e → airfields ≡ s.state.register → last ≡ last_number s.state → IsOfLines e
-      → (e ≡ endings.Closed → WaysAnswered (survey airfields last []) x h k) → WaysBegun (survey airfields last []) x h k
-      → ((after : Survey) × WritesWhole WayStep (survey airfields last []) after e x y h k) → HasRun service status
-  stations_run service status airfields last served is fields number l closed b w =
-      let run : PlainRun services.Stations s.state (status_of e) x y h k =
-      subst (λ n. WaysRun (survey s.state.register n []) (status_of e) x y h k) number
-      (subst (λ a. WaysRun (survey a last []) (status_of e) x y h k) fields (ways_run (survey airfields last []) e x y h k l closed b w)) in
+  pub stations_run : (service : Service) (status : Status) → service ≡ services.Stations → status ≡ status_of e → IsOfLines e → WaySession (survey s.state.register (last_number s.state) []) e x y h k
+      → HasRun service status
+  stations_run service status served is l told =
+      let run : PlainRun services.Stations s.state (status_of e) x y h k = ways_run (survey s.state.register (last_number s.state) []) e x y h k l told.closed told.begun told.written in
       ended_so service services.Stations status served is (run, λ steady. run)
-
-  -- by the question that a service asks
-  pub question_run : (service : Service) (question : Question) (status : Status) (airfields : List Airfield) (last : ℕ) → question_in service ≡ Some question → status ≡ status_of e → airfields ≡ s.state.register
-      → last ≡ last_number s.state → IsOfLines e → QuestionSession question airfields last e x y h k → HasRun service status
-  question_run services.Desk question status airfields last asks is fields number l told = absurd (cc asks)
-  question_run services.Ceiling question status airfields last asks is fields number l told =
-      let same : question ≡ asked.Ceilings = cc asks in
-      let t : CeilingSession (chart airfields last) e x y h k = subst (λ (q : Question). QuestionSession q airfields last e x y h k) same told in
-      ceiling_run services.Ceiling status airfields last refl is fields number l t.closed t.begun t.written
-  question_run services.Stations question status airfields last asks is fields number l told =
-      let same : question ≡ asked.Ways = cc asks in
-      let t : WaySession (survey airfields last []) e x y h k = subst (λ (q : Question). QuestionSession q airfields last e x y h k) same told in
-      stations_run services.Stations status airfields last refl is fields number l t.closed t.begun t.written
-
--- the desk alone asks no question
-pub desk_alone : (service : Service) → question_in service ≡ None → service ≡ services.Desk
-desk_alone services.Desk e = refl
-desk_alone services.Ceiling e = absurd (cc e)
-desk_alone services.Stations e = absurd (cc e)
 
 pub session_end : (e : Ended) → IsOfLines e → IsSessionEnd (status_of e)
 session_end endings.Closed l = tt

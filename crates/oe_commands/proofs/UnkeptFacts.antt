@@ -13,6 +13,7 @@ use Rattle.desk_tables.specs.Opening.{Opens, IsFirstBad, count_of, is_in, with_f
 use Rattle.oe_keeper.specs.contracts.no_keeper.NoKeeperKeeper.TheImpl as unkept
 use Rattle.oe_keeper.specs.declared.no_keeper.NoKeeper.{NoKeeper}
 use Rattle.line_desk.specs.Desk.{Plain}
+use Rattle.oe_asof.specs.Sessions.{DatedPlain, opened_plain}
 use Rattle.oe_commands.specs.declared.status.Status.{Status}
 use Rattle.oe_commands.specs.declared.status.Status.TheVariants as statuses
 use Rattle.site_questions.specs.Charts.{chart}
@@ -78,6 +79,7 @@ ways_begun_nothing s (Some input) h = ([], appends_nothing h, inl (starts_nothin
 nothing_told : (service : Service) (s : State) (x h : Option (List ℕ)) → PlainRun service s statuses.NoMemory x x h h
 nothing_told services.Desk s x h = nothing_run Plain s x h
 nothing_told services.Ceiling s x h = nothing_run CeilingStep (chart s.register (last_number s)) x h
+nothing_told services.AsOf s x h = nothing_run DatedPlain (opened_plain s) x h
 nothing_told services.Stations s x h = record {
   done = λ e. absurd (cc (e));
   begun = ways_begun_nothing (survey s.register (last_number s) []) x h;

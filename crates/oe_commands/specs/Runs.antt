@@ -14,6 +14,7 @@ use Rattle.site_questions.specs.Charts.{chart}
 use Rattle.site_questions.specs.Ceilings.{CeilingStep}
 use Rattle.site_questions.specs.Ways.{Survey, WayStep, survey}
 use Rattle.site_questions.specs.WaySessions.{WaysAnswered, WaysBegun}
+use Rattle.oe_asof.specs.Sessions.{DatedOver, DatedPlain, opened_over, opened_plain}
 use Rattle.command_words.specs.declared.commands.Service.{Service}
 use Rattle.command_words.specs.declared.commands.Service.TheVariants as services
 use Rattle.desk_service.specs.Services.{Serves}
@@ -46,18 +47,21 @@ pub record WaysRun (opened : Survey) (status : Status) (input left held_old held
   pub memory : status ≡ statuses.NoMemory → AnsweredFront WayStep opened input held_old held_new
 
 -- what each service of a desk in this state reads and writes, where no keeper fails: the desk answers each line in the state of those
--- before; ceilings and ways are told over the airfields that it was opened with, and carry the number of its last accepted change
+-- before, and may tell what a list was after an earlier entry; ceilings and ways are told over the airfields that it was opened with, and
+-- carry the number of its last accepted change
 abbrev pub PlainRun : Service → State → Status → Option (List ℕ) → Option (List ℕ) → Option (List ℕ) → Option (List ℕ) → Type 0
 PlainRun services.Desk opened = SessionRun Plain opened
 PlainRun services.Ceiling opened = SessionRun CeilingStep (chart opened.register (last_number opened))
 PlainRun services.Stations opened = WaysRun (survey opened.register (last_number opened) [])
+PlainRun services.AsOf opened = SessionRun DatedPlain (opened_plain opened)
 
--- the same over a keeper, which the desk alone asks once it is opened
+-- the same over a keeper, which is asked after the opening only by the services that accept changes
 abbrev pub RunOver : {K : Type 0} → (K → Kept → Type 0) → (K → Type 0) → (K → ℕ) → Service
     → Serving K → Status → Option (List ℕ) → Option (List ℕ) → Option (List ℕ) → Option (List ℕ) → Type 0
 RunOver Tells IsSteady faults services.Desk opened = SessionRun (StepOver Tells IsSteady faults) opened
 RunOver Tells IsSteady faults services.Ceiling opened = PlainRun services.Ceiling opened.state
 RunOver Tells IsSteady faults services.Stations opened = PlainRun services.Stations opened.state
+RunOver Tells IsSteady faults services.AsOf opened = SessionRun (DatedOver Tells IsSteady faults) (opened_over opened)
 
 -- the statuses of a run after a session
 abbrev pub IsSessionEnd : Status → Type 0
@@ -86,7 +90,8 @@ pub record Served {K : Type 0} (Tells : K → Kept → Type 0) (Finds : K → Op
   pub steady : IsSteady keeper → PlainRun service opened.state status input left held_old held_new
   pub ended : IsSessionEnd status
 
--- a desk was opened in the state of the rows that a load of the keeper may find at the path, and its links were served by HTTP
+-- a desk was opened in the state of the rows that a load of the keeper may find at the path, and a service of links ended and told so; that
+-- it was the service of this desk is by reading
 pub record ServedLinks {K : Type 0} {Link : Type 0} (Tells : K → Kept → Type 0) (Finds : K → Option (List ℕ) → Kept → Type 0) (IsSteady : K → Type 0) (faults : K → ℕ)
     (workers turns : ℕ) (lists : Option (List (List Link))) (keeper : K) (path : Option (List ℕ)) (status : Status) (held_old held_new : Option (List ℕ)) : Type 0 where
   pub opened : Serving K

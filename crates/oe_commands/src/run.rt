@@ -7,8 +7,10 @@ ghost use Rattle.desk_tables.specs.Opening.{IsFirstBad};
 ghost use Rattle.line_session.specs.Session.{Answered, Begun, HasCauses, IsOfLines, WritesWhole};
 ghost use Rattle.filing_desk.specs.Handed.{Told};
 ghost use Rattle.line_desk.specs.Desk.{Serving, StepOver, serving};
-ghost use Rattle.command_words.specs.Commands.{AskFor, AsksToServe, IsGenerate};
-ghost use Rattle.oe_commands.specs.Commands.{AskToOpen, TellsUsage, question_in};
+ghost use Rattle.desk_machine.specs.States.{last_number};
+ghost use Rattle.site_questions.specs.Questions.{QuestionSession};
+ghost use Rattle.command_words.specs.Commands.{AskFor, AsksToServe, IsCommand, IsGenerate};
+ghost use Rattle.oe_commands.specs.Commands.{AskToOpen, TellsUsage};
 ghost use Rattle.oe_commands.specs.Generating.{GenerateWrites, IsGenerateEnd};
 ghost use Rattle.oe_commands.specs.Runs.{IsSessionEnd, IsUnopened, IsUntouched, PlainRun, RunCauses, RunOver, Served, ServedLinks};
 ghost use Rattle.oe_http.specs.Causes.{Rose};
@@ -24,6 +26,7 @@ use filing_desk::Clerk;
 use line_desk::LineDesk;
 use line_session::{Ended, records};
 use link_gates::Gate;
+use oe_asof::dated_records;
 use oe_http::{Sink, Source};
 use oe_keeper::Keeper;
 use site_questions::{Question, questions};
@@ -64,15 +67,22 @@ fn session<K: Keeper + Drop, L: Ledger, S: Source, O: Sink>(
     )
 }
 
-/// What the lines of a service ask of the airfields; `None` for a desk.
-fn question_of(service: Service) -> Option<Question>
-    ensures { result ≡ question_in service }
+/// Replies to questions over the airfields of this clerk.
+fn ask<K: Keeper, S: Source, O: Sink>(
+    alloc: Global,
+    clerk: &Clerk<K>,
+    question: Question,
+    input: &mut S,
+    output: &mut O,
+) -> Ended
+    ensures told { QuestionSession question clerk.now.state.register (last_number clerk.now.state)
+        result (S.left input.old) (S.left input.new) (O.held output.old) (O.held output.new) }
+    ensures lines { IsOfLines result }
+    ensures causes { HasCauses result (S.left input.old) (S.left input.new)
+        (S.faults input.old) (S.faults input.new) (O.faults output.old) (O.faults output.new) }
 {
-    match service {
-        Service::Desk => None,
-        Service::Ceiling => Some(Question::Ceilings),
-        Service::Stations => Some(Question::Ways),
-    }
+    let sky = clerk.sky();
+    questions(alloc, question, sky, clerk.accepted(), input, output)
 }
 
 /// Serves the input from the desk of this clerk, and returns the status of the run.
@@ -95,14 +105,13 @@ fn serve<K: Keeper + Drop, S: Source, O: Sink>(
 {
     // what the keeper tells are the rows of the clerk
     clerk.keeper();
-    match question_of(service) {
-        None => {
+    match service {
+        Service::Desk => {
             ended_status(session::<K, Brand, S, O>(alloc, clerk, Blank::new(1), input, output))
         }
-        Some(question) => {
-            let sky = clerk.sky();
-            ended_status(questions(alloc, question, sky, clerk.accepted(), input, output))
-        }
+        Service::AsOf => ended_status(dated_records(alloc, clerk, input, output)),
+        Service::Ceiling => ended_status(ask(alloc, &clerk, Question::Ceilings, input, output)),
+        Service::Stations => ended_status(ask(alloc, &clerk, Question::Ways, input, output)),
     }
 }
 
@@ -173,11 +182,12 @@ fn serve_links<R: Threads + Wait + Sync, K: Keeper + Drop + Send, G: Gate, O: Si
     }
 }
 
-/// Runs the program. With the words `desk`, `serve`, `ceiling` and `stations` a desk is opened from the tables that its keeper has at the path
-/// of `--db`, or at none. With `desk` it answers each line of the input, in order. With `serve` it answers requests by HTTP on the links of the
-/// gate, many at a time, and writes the number of links. With `ceiling` each structure of the input is told its greatest height without a
-/// finding, and with `stations` each way of the input its list, over the airfields that the desk was opened with. With `generate SEED COUNT` a
-/// desk is generated, and its counts are written in one line.
+/// Runs the program. With the words `desk`, `serve`, `ceiling`, `stations` and `asof` a desk is opened from the tables that its keeper has at
+/// the path of `--db`, or at none. With `desk` it answers each line of the input, in order. With `asof` it does so too, and replies to lines
+/// that ask what the list of a structure was after an earlier entry. With `serve` it answers requests by HTTP on the links of the gate, many at
+/// a time, and writes the number of links. With `ceiling` each structure of the input is told its greatest height without a finding, and with
+/// `stations` each way of the input its list, over the airfields that the desk was opened with. With `generate SEED COUNT` a desk is generated,
+/// and its counts are written in one line.
 ///
 /// Where the bytes of the input or the output are not known, as with the system's streams, the clauses on bytes say nothing.
 #[tactic(auto, using(crate::proofs::RunFacts::generate_causes))]
@@ -197,7 +207,7 @@ pub fn run<R: Threads + Wait + Sync, S: Source, O: Sink, K: Keeper + Drop + Send
         (S.left input.old) (S.left input.new) (O.held output.old) (O.held output.new)
         ⊎ (IsUnopened K.Finds K.IsSteady keeper path result
         × (input.new ≡ input.old) × (output.new ≡ output.old)) }
-    // The same of a desk whose links were served, and how many they were.
+    // The same of a desk that is opened to serve links, and the line that tells how many were served.
     ensures links { (address : List ℕ) (workers turns : ℕ) (path : Option (List ℕ))
         → AsksToServe words.now address workers turns path
         → ServedLinks K.Tells K.Finds K.IsSteady K.faults workers turns (G.lists gate.old) keeper path
@@ -221,6 +231,9 @@ pub fn run<R: Threads + Wait + Sync, S: Source, O: Sink, K: Keeper + Drop + Send
     ensures ended { (seed count : ℕ) → IsGenerate words.now seed count → IsGenerateEnd result }
     // Usage is the status exactly where the words are no command, if memory sufficed to read them.
     ensures usage { TellsUsage words.now result }
+    // Words that are no command touch neither stream nor the gate, whatever the status.
+    ensures no_command { (IsCommand words.now → ⊥) → (input.new ≡ input.old) × (output.new ≡ output.old)
+        × (gate.new ≡ gate.old) }
     // At `Usage`, and where a keeper failed or a row is bad, both streams and the gate are unchanged, known or not: nothing was read, nothing
     // written, and no link waited for.
     ensures untouched { IsUntouched result → (input.new ≡ input.old) × (output.new ≡ output.old)

@@ -21,8 +21,20 @@ use tree_versions::{Seat, Seats, Unnamed};
 
 type Shared<J> = Mutex<PublishingClerk<NoKeeper, J>>;
 
-/// The second session sees the airfields that the first has put, once it has asked for what is published.
-const SYNC: [Turn<'static>; 2] = [
+/// The second session sees no airfields before the first has put one.
+const NONE_YET: [Turn<'static>; 1] = [(
+    Second,
+    "screen,-152000,0,1000,2000,object,0,-,-",
+    "found,0,0\n",
+)];
+
+/// Then it sees them, before and after it has asked for what is published.
+const SYNC: [Turn<'static>; 3] = [
+    (
+        Second,
+        "screen,-152000,0,1000,2000,object,0,-,-",
+        "found,2,2,19a AAA - 500,9b1 AAA 09/27 980\n",
+    ),
     (Second, "sync", "sync,2\n"),
     (
         Second,
@@ -194,11 +206,11 @@ fn look_on_one_clerk<J: Opening, R: Wait + Abort>(
     result
 }
 
-// What one session has changed, the other sees: its lists after `sync`, the cases and their marks at once.
+// What one session has changed, the other sees: its airfields, the cases and their marks.
 #[test]
 fn a_session_sees_what_another_changed(rt: HostRuntime) -> Result<(), Fail> {
     let alloc = rt.alloc();
-    let said: [&[Turn<'static>]; 4] = [&AIRPORT, &SYNC, &CASE, &REVIEW];
+    let said: [&[Turn<'static>]; 5] = [&NONE_YET, &AIRPORT, &SYNC, &CASE, &REVIEW];
     look_on_one_clerk::<Brand, _>(&rt, alloc, Unnamed::new(), &said)
 }
 

@@ -1,10 +1,14 @@
 //! What sessions are told.
 
-use grid_exact::LINE_LIMIT;
-use line_session::Answering;
+use grid_exact::Bytes;
+use line_session::{Answering, Ended, records};
+use oe_http::{FakeSink, FakeSource};
 use std::alloc::Global;
 use std::process::Abort;
 use std::test::Fail;
+
+/// There is room for so many bytes of a reply.
+const ROOM: usize = 4_096;
 
 /// One of two sessions.
 #[derive(Clone, Copy, Debug, PartialEq, Eq)]
@@ -43,7 +47,7 @@ pub(crate) const CASE: [Turn<'static>; 2] = [
     ),
 ];
 
-/// Checks that a session tells this reply to this line.
+/// Checks that a session over a line alone writes this reply.
 pub(crate) fn check_reply<A: Answering, R: Abort>(
     rt: &R,
     alloc: Global,
@@ -51,12 +55,14 @@ pub(crate) fn check_reply<A: Answering, R: Abort>(
     line: &str,
     reply: &str,
 ) -> Result<(), Fail> {
-    if line.len() > LINE_LIMIT {
-        return Err(Fail::from("the line is too long"));
-    }
-    let mut text = String::new(alloc);
-    desk.answer(line.as_bytes(), &mut text)?;
-    assert_eq!(rt; text.as_str(), reply);
+    let line = Bytes::from_slice(alloc, line.as_bytes())?;
+    let mut input = FakeSource::new(line, ROOM, Vec::new(alloc));
+    let mut output = FakeSink::new(alloc, ROOM, Vec::new(alloc))?;
+    assert_eq!(rt;
+        records(alloc, desk, &mut input, &mut output),
+        Ended::Closed
+    );
+    assert_eq!(rt; output.bytes(), reply.as_bytes());
     Ok(())
 }
 

@@ -29,7 +29,7 @@ struct Shown {
     sum: u64,
 }
 
-// Before a publication a seat shows the first value; once it learned the note of one, the published value.
+// Before a publication both seats show the first value; then both show the published one, also that which was told of nothing.
 #[test]
 fn a_seat_shows_what_it_was_told(rt: HostRuntime) -> Result<(), Fail> {
     let alloc = rt.alloc();
@@ -72,7 +72,7 @@ fn publish_once<J: Naming<Total> + Send + Sync, R: Threads + Wait + Abort + Sync
     let mut noted = None;
     let mut after = None;
     if let (Some(mut one), Some(mut two)) = (one, two) {
-        before = show(&mut two);
+        before = Some((show(&mut one), show(&mut two)));
         if let Ok(note) = publisher.publish(rt) {
             noted = Some(note.number());
             two.learn(note);
@@ -95,7 +95,7 @@ fn publish_once<J: Naming<Total> + Send + Sync, R: Threads + Wait + Abort + Sync
     };
     assert!(rt; offered.is_ok());
     assert!(rt; none.is_none());
-    assert_eq!(rt; before, Some(first));
+    assert_eq!(rt; before, Some((Some(first), Some(first))));
     assert_eq!(rt; noted, Some(1));
     assert_eq!(rt; after, Some((Some(second), Some(second))));
     assert_eq!(rt; told, 1);

@@ -23,6 +23,7 @@ fn commands_whose_desk_answers_the_input(rt: HostRuntime) -> Result<(), Fail> {
         ("desk --db f", Service::Desk, Some("f")),
         ("ceiling --db=f=g", Service::Ceiling, Some("f=g")),
         ("stations --db a-b", Service::Stations, Some("a-b")),
+        ("asof --db=f", Service::AsOf, Some("f")),
     ];
     for (line, service, file) in table {
         let words = listed(alloc, line)?;

@@ -8,11 +8,11 @@ use Rattle.oe_asof.proofs.desk.serve.Goals as goal
 pub keep_version-requires-clause-order : goal.keep_version-requires-clause-order
 keep_version-requires-clause-order g c =
     rw c.in-Ok.ensures.same
-    (order_kept g.K.Keeper.Tells g.K.Keeper.IsSteady g.K.Keeper.faults c.args.history.now.versions _ _ _ _ _ c.requires.all c.in_ok-append_served.ensures.ok)
+    (order_kept g.K.Keeper.Tells g.K.Keeper.IsSteady g.K.Keeper.faults c.args.history.now.versions _ _ _ _ _ c.requires.all c.in_ok-append_answer.ensures.ok)
 
 pub returns-clause-all : goal.returns-clause-all
 returns-clause-all g c =
     where_ok c.keep_version.result
-    (λ e. all_kept g.K.Keeper.Tells g.K.Keeper.IsSteady g.K.Keeper.faults c.args.history.now.versions _ _ _ _ _ _ c.requires.all c.in_ok-append_served.ensures.ok
-    (e ∙ ap (λ (vs : List Version). with_version vs (version (last_number c.append_served.new.clerk.state) c.append_served.new.clerk.state.register)) c.in-Ok.ensures.same))
+    (λ e. all_kept g.K.Keeper.Tells g.K.Keeper.IsSteady g.K.Keeper.faults c.args.history.now.versions _ _ _ _ _ _ c.requires.all c.in_ok-append_answer.ensures.ok
+    (e ∙ ap (λ (vs : List Version). with_version vs (version (last_number c.append_answer.new.clerk.state) c.append_answer.new.clerk.state.register)) c.in-Ok.ensures.same))
     c.keep_version.ensures

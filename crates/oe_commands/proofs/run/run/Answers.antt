@@ -48,3 +48,22 @@ returns-in-Some-Generate-clause-usage g c =
     let says = subst (λ (o : Option Command). IfSome o (λ x. Says c.args.words.now x)) c.in-Some-Generate.is c.in-Ok.ensures.some in
     let said : IsGenerate c.args.words.now c.in-Some-Generate.seed c.in-Some-Generate.count = subst (λ (a : Command). Says c.args.words.now a) (rw c.in-Some-Generate.is at c.in-Some-Generate.field-0-is) says in
     record { usage = λ f. absurd (f (inr (inr (_, _, said)))); command = λ is. made_no_usage _ c.generate.ensures.ends }
+
+pub returns-in-Some-Answer-clause-no_command : goal.returns-in-Some-Answer-clause-no_command
+returns-in-Some-Answer-clause-no_command g c = λ none.
+    let says = subst (λ (o : Option Command). IfSome o (λ x. Says c.args.words.now x)) c.in-Some-Answer.is c.in-Ok.ensures.some in
+    let said : AskFor c.in-Some-Answer.service c.args.words.now (option_copied c.in-Some-Answer.file) = subst (λ (a : Command). Says c.args.words.now a) (rw c.in-Some-Answer.is at c.in-Some-Answer.field-0-is) says in
+    absurd (none (inl (_, _, said)))
+
+pub returns-in-Some-Serve-clause-no_command : goal.returns-in-Some-Serve-clause-no_command
+returns-in-Some-Serve-clause-no_command g c = λ none.
+    let says = subst (λ (o : Option Command). IfSome o (λ x. Says c.args.words.now x)) c.in-Some-Serve.is c.in-Ok.ensures.some in
+    let said : AsksToServe c.args.words.now c.in-Some-Serve.address.now c.in-Some-Serve.workers c.in-Some-Serve.turns (option_copied c.in-Some-Serve.file) =
+    subst (λ (a : Command). Says c.args.words.now a) (rw c.in-Some-Serve.is at c.in-Some-Serve.field-0-is) says in
+    absurd (none (inr (inl (_, _, _, _, said))))
+
+pub returns-in-Some-Generate-clause-no_command : goal.returns-in-Some-Generate-clause-no_command
+returns-in-Some-Generate-clause-no_command g c = λ none.
+    let says = subst (λ (o : Option Command). IfSome o (λ x. Says c.args.words.now x)) c.in-Some-Generate.is c.in-Ok.ensures.some in
+    let said : IsGenerate c.args.words.now c.in-Some-Generate.seed c.in-Some-Generate.count = subst (λ (a : Command). Says c.args.words.now a) (rw c.in-Some-Generate.is at c.in-Some-Generate.field-0-is) says in
+    absurd (none (inr (inr (_, _, said))))
