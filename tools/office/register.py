@@ -12,13 +12,14 @@ CIVIL = ("public", "building", "federal", "procedure")  # categories with the su
 MILITARY = ("military", "dod")
 AIRFIELD_FORMS = ("airport", "heliport", "runway", "drop", "droprunway")
 NOT_DESCRIBED = "private"  # the one category that 77.9(d) does not list
+KINDS = ("V", "NA", "NL", "P")  # of approaches, the most precise last
 
 
 @dataclass(frozen=True)
 class RunwayEnd:
     at: Point
     elevation: float
-    kind: str
+    kind: str  # of the approach that its surfaces follow
 
 
 @dataclass(frozen=True)
@@ -72,8 +73,13 @@ def point(values: Mapping[str, str], number: str = "") -> Point:
     return feet(values["X" + number]), feet(values["Y" + number])
 
 
+def effective(approaches: str) -> str:
+    """The more precise of the approaches that an end has and is planned for, of a field as V or V/P."""
+    return max(approaches.split("/"), key=KINDS.index)
+
+
 def runway(values: Mapping[str, str]) -> Runway:
-    first, second = (RunwayEnd(point(values, n), feet(values["ELEVATION" + n]), values["KIND" + n]) for n in "12")
+    first, second = (RunwayEnd(point(values, n), feet(values["ELEVATION" + n]), effective(values["KIND" + n])) for n in "12")
     return Runway(values["NAME"], values["USE"], values["SURFACE"], (first, second))
 
 

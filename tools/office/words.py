@@ -9,7 +9,7 @@ from office.structures import ENTRIES_OF_DETERMINATION
 
 MALFORMED = 13
 REFUSALS = {  # {0} and {1} are the values of the refusal
-    2: "a utility runway cannot have a precision approach",
+    2: "a utility runway cannot have a precision approach, nor be planned for one",
     3: "no airfield of this ID is registered: register it first, or look for a misspelt ID",
     4: "the airport has no runway of this name",
     5: "a runway is 100 to 20,000 ft long: are the coordinates tenths of a foot?",

@@ -8,8 +8,8 @@ from office import journals, stores
 from tests.trial import PROGRAM, Trial
 
 # The example of docs/TABLES.md: the row of the format alone.
-EXAMPLE = bytes.fromhex("01 0000000000000019 5002 0000000000000006 666f726d6174 0000000000000001 31 00")
-ROWS = {(0, "AAA"): "airport,public,0,0,1000", (2, "format"): "1", (2, "now"): "2026-01-15"}
+EXAMPLE = bytes.fromhex("01 0000000000000019 5002 0000000000000006 666f726d6174 0000000000000001 32 00")
+ROWS = {(0, "AAA"): "airport,public,0,0,1000", (2, "format"): "2", (2, "now"): "2026-01-15"}
 
 
 class Convert(Trial):
@@ -17,8 +17,8 @@ class Convert(Trial):
         return str(self.folder / name)
 
     def test_bytes_of_a_journal(self) -> None:
-        self.assertEqual(journals.rows_of(EXAMPLE), {(2, "format"): "1"})
-        self.assertEqual(journals.journal_of({(2, "format"): "1"}), EXAMPLE)
+        self.assertEqual(journals.rows_of(EXAMPLE), {(2, "format"): "2"})
+        self.assertEqual(journals.journal_of({(2, "format"): "2"}), EXAMPLE)
         self.assertEqual(journals.rows_of(journals.journal_of({})), {})
         removal = b"R\2" + (6).to_bytes(8, "big") + b"format"
         self.assertEqual(journals.rows_of(EXAMPLE[:-1] + b"\1" + len(removal).to_bytes(8, "big") + removal + b"\0"), {})

@@ -2,7 +2,7 @@
 import re
 import unittest
 
-from office import forms, replies, words
+from office import forms, register, replies, words
 from office.records import lines, record
 from office.replies import Found, Refusal
 from tests import stored
@@ -50,6 +50,13 @@ class Forms(unittest.TestCase):
         self.assertEqual(forms.cut('\ufeff"screen","0"'), ["screen", "0"])
         self.assertIsNone(forms.cut("a\rb"))
         self.assertIsNone(forms.cut("\ufeff"))
+
+    def test_planned_approaches(self) -> None:
+        field = next(one for one in forms.FORMS["runway"] if one.name == "KIND2")
+        for text, fits in (("NA", True), ("V/P", True), ("P/P", True), ("", False), ("/P", False), ("V/", False), ("V/P/P", False), ("V/X", False), ("v", False)):
+            self.assertEqual(field.value.fits(text, {}), fits, text)
+        for text, effective in (("V", "V"), ("V/NA", "NA"), ("NL/NA", "NL"), ("P/V", "P"), ("NL/P", "P")):
+            self.assertEqual(register.effective(text), effective, text)
 
     def test_causes(self) -> None:
         field = forms.FORMS["airport"][2]

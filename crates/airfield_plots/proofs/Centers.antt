@@ -8,7 +8,7 @@ use Rattle.runway_classes.specs.declared.ApproachKind.TheVariants.{Visual, Nonpr
 use Rattle.runway_classes.specs.declared.class.EndClass.{EndClass}
 use Rattle.runway_classes.specs.declared.class.RunwayClass.{RunwayClass}
 use Rattle.runway_classes.specs.Class.{more_precise, radius, runway_class}
-use Rattle.airfields.specs.Runways.{HasNearEnds, IsNear, is_precision, length_square}
+use Rattle.airfields.specs.Runways.{HasNearEnds, IsNear, effective, is_precision, length_square}
 use Rattle.airfields.specs.declared.runway.Runway.{Runway}
 use Rattle.runway_lines.specs.Centers.{center}
 use Rattle.runway_lines.specs.Ends.{center_x, center_y, class_of, end_class_of, end_of}
@@ -57,7 +57,7 @@ radius_least false NonprecisionLow = omega arith
 radius_least false Precision = omega arith
 
 pub reach_least : (r : Runway) → pos 90000 ≤ℤ conical_reach r
-reach_least r = omega (arith, ints, radius_least r.utility (more_precise r.end1.kind r.end2.kind))
+reach_least r = omega (arith, ints, radius_least r.utility (more_precise (effective r.end1) (effective r.end2)))
 
 -- ---- an approach surface that is no precision one reaches no farther
 abbrev fits : RunwayClass → EndClass → Bool
@@ -106,6 +106,6 @@ ends_fit false Precision Precision = (refl, refl)
 either : (p t : Bool) → p ≡ false → (p || t) ≡ true → t ≡ true
 either p t e h = rw e at h
 
-pub plain_reach : (r : Runway) (end : End) → is_precision (end_of r end).kind ≡ false → (pos 40 *ℤ (end_class_of r end).length +ℤ pos 20 *ℤ (end_class_of r end).outer) ≤ℤ (pos 40 *ℤ conical_reach r)
-plain_reach r One e = le_in _ _ (either (is_precision r.end1.kind) _ e (ends_fit r.utility r.end1.kind r.end2.kind).0)
-plain_reach r Two e = le_in _ _ (either (is_precision r.end2.kind) _ e (ends_fit r.utility r.end1.kind r.end2.kind).1)
+pub plain_reach : (r : Runway) (end : End) → is_precision (effective (end_of r end)) ≡ false → (pos 40 *ℤ (end_class_of r end).length +ℤ pos 20 *ℤ (end_class_of r end).outer) ≤ℤ (pos 40 *ℤ conical_reach r)
+plain_reach r One e = le_in _ _ (either (is_precision (effective r.end1)) _ e (ends_fit r.utility (effective r.end1) (effective r.end2)).0)
+plain_reach r Two e = le_in _ _ (either (is_precision (effective r.end2)) _ e (ends_fit r.utility (effective r.end1) (effective r.end2)).1)

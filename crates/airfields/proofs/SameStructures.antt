@@ -8,6 +8,8 @@ use Rattle.std.proofs.lemmas.Bool.Decides.{Decides-and, Decides-int_eq, Decides-
 use denote.Enum.Bare.{same_true, true_same}
 use Rattle.grid_exact.proofs.SamePoints.{same_point}
 use Rattle.runway_classes.specs.contracts.ApproachKind.{the_type as approach_type}
+use Rattle.runway_classes.specs.contracts.ApproachKindPartialEq.TheImpl.{eq-value as approach_eq}
+use Rattle.runway_classes.specs.declared.ApproachKind.{ApproachKind}
 use Rattle.airfields.specs.contracts.category.Category.{the_type as category_type}
 use Rattle.airfields.specs.contracts.category.CategoryPartialEq.TheImpl.{eq-value as category_eq}
 use Rattle.airfields.specs.contracts.structure.StructureKind.{the_type as kind_type}
@@ -59,13 +61,17 @@ same_site a b =
 
 -- ---- runways and heliports
 
-one_end : (a b : RunwayEnd) → a.at ≡ b.at → a.z ≡ b.z → a.kind ≡ b.kind → a ≡ b
-one_end a b p z k = λ i. record { at = p i; z = z i; kind = k i }
+one_end : (a b : RunwayEnd) → a.at ≡ b.at → a.z ≡ b.z → a.kind ≡ b.kind → a.planned ≡ b.planned → a ≡ b
+one_end a b p z k l = λ i. record { at = p i; z = z i; kind = k i; planned = l i }
+
+same_kind : (a b : ApproachKind) → Decides (approach_eq.it a b) (a ≡ b)
+same_kind a b = (same_true approach_type tt a b, true_same approach_type a b)
 
 same_end : (a b : RunwayEnd) → Decides (end_eq.it a b) (a ≡ b)
 same_end a b =
-    Decides-like _ (λ h. one_end a b h.0 h.1.0 h.1.1) (λ e. (ap (λ x. x.at) e, (ap (λ x. x.z) e, ap (λ x. x.kind) e)))
-    (Decides-and _ _ (same_point a.at b.at) (Decides-and _ _ (Decides-int_eq a.z b.z) (same_true approach_type tt a.kind b.kind, true_same approach_type a.kind b.kind)))
+    Decides-like _ (λ h. one_end a b h.0 h.1.0 h.1.1.0 h.1.1.1) (λ e. (ap (λ x. x.at) e, (ap (λ x. x.z) e, (ap (λ x. x.kind) e, ap (λ x. x.planned) e))))
+    (Decides-and _ _ (same_point a.at b.at) (Decides-and _ _ (Decides-int_eq a.z b.z)
+    (Decides-and _ _ (same_kind a.kind b.kind) (option_same {E = approach_eq.it} same_kind a.planned b.planned))))
 
 one_runway : (a b : Runway) → a.name ≡ b.name → a.utility ≡ b.utility → a.hard ≡ b.hard → a.end1 ≡ b.end1 → a.end2 ≡ b.end2 → a ≡ b
 one_runway a b n u h p q = λ i. record { name = n i; utility = u i; hard = h i; end1 = p i; end2 = q i }

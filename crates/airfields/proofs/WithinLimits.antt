@@ -10,7 +10,7 @@ use Rattle.std.proofs.lemmas.List.Sums.{AllPass-from_list_all}
 use Rattle.runway_classes.specs.declared.ApproachKind.{ApproachKind}
 use Rattle.runway_classes.specs.declared.ApproachKind.TheVariants.{Precision}
 use Rattle.grid_exact.specs.declared.point.Point.{Point}
-use Rattle.airfields.specs.Runways.{length_square, IsWithinLength, is_within_length, IsElevation, is_elevation, has_elevations, is_precision, is_precision_on_utility, IsProper, distance_apart, IsNear, is_near, HasNearEnds, has_near_ends}
+use Rattle.airfields.specs.Runways.{length_square, IsWithinLength, is_within_length, IsElevation, is_elevation, has_elevations, effective, is_precision, is_precision_on_utility, IsProper, distance_apart, IsNear, is_near, HasNearEnds, has_near_ends}
 use Rattle.airfields.specs.Airfields.{axis_square, is_axis, is_width, has_heliport_shape, IsHeldHeliport}
 use Rattle.airfields.specs.declared.airfield.Heliport.{Heliport}
 use Rattle.airfields.specs.declared.runway.Runway.{Runway}
@@ -52,8 +52,8 @@ proper_told r p e l =
       within_length = within_length_told r l;
       elevation1 = elevation_told r.end1.z z.0;
       elevation2 = elevation_told r.end2.z z.1;
-      no_precision1 = λ u. (no_precision_told r.utility r.end1.kind r.end2.kind p u).0;
-      no_precision2 = λ u. (no_precision_told r.utility r.end1.kind r.end2.kind p u).1;
+      no_precision1 = λ u. (no_precision_told r.utility (effective r.end1) (effective r.end2) p u).0;
+      no_precision2 = λ u. (no_precision_told r.utility (effective r.end1) (effective r.end2) p u).1;
     }
 
 near_told : (arp at : Point) → is_near arp at ≡ true → IsNear arp at

@@ -1,11 +1,13 @@
 -- Runways, and the limits of one runway.
-use Rattle.std.specs.Prelude.{ℕ, ◌+◌, ◌*◌, ◌≤◌, ◌≡◌, ◌≢◌, List, Option, ℤ, ◌-ℤ◌, ◌≤ℤ◌, int_le, unsigned_abs, Bool, true, false, ◌&&◌, ◌||◌, nat_le, nat_lt}
+use Rattle.std.specs.Prelude.{ℕ, ◌+◌, ◌*◌, ◌≤◌, ◌≡◌, ◌≢◌, List, Option, Some, None, is_some, ℤ, ◌-ℤ◌, ◌≤ℤ◌, int_le, unsigned_abs, Bool, true, false, ◌&&◌, ◌||◌, nat_le, nat_lt}
 use Rattle.runway_classes.specs.declared.ApproachKind.{ApproachKind}
 use Rattle.runway_classes.specs.declared.ApproachKind.TheVariants.{Visual, NonprecisionAbove, NonprecisionLow, Precision}
+use Rattle.runway_classes.specs.Class.{more_precise}
 use Rattle.grid_exact.specs.declared.point.Point.{Point}
 use Rattle.ordered_list.specs.Ordered.{found_by}
 use Rattle.airfields.specs.Names.{name_cmp}
 use Rattle.airfields.specs.declared.runway.Runway.{Runway}
+use Rattle.airfields.specs.declared.runway.RunwayEnd.{RunwayEnd}
 use Rattle.airfields.specs.declared.limits.TheConstants.{ELEVATION_LEAST, ELEVATION_MOST, RUNWAY_LEAST, RUNWAY_MOST, RUNWAY_REACH}
 use Rattle.airfields.specs.declared.runways.TheConstants.{LONG_RUNWAY}
 
@@ -15,6 +17,19 @@ name_of r = r.name
 -- the runway of this name
 abbrev pub runway_at : List Runway → List ℕ → Option Runway
 runway_at runways name = found_by name_cmp name_of name runways
+
+-- the more precise of a kind and a planned one, where one is planned
+abbrev pub more_precise_planned : ApproachKind → Option ApproachKind → ApproachKind
+more_precise_planned kind None = kind
+more_precise_planned kind (Some planned) = more_precise kind planned
+
+-- the kind of approach that the surfaces of an end follow: 77.19 speaks of approaches that exist or are planned
+abbrev pub effective : RunwayEnd → ApproachKind
+effective e = more_precise_planned e.kind e.planned
+
+-- an approach is planned for an end of the runway
+abbrev pub is_planned : Runway → Bool
+is_planned r = is_some r.end1.planned || is_some r.end2.planned
 
 -- the distance between two coordinates
 abbrev pub distance_apart : ℤ → ℤ → ℕ
@@ -39,13 +54,13 @@ pub record IsElevation (z : ℤ) : Type 0 where
   pub most : z ≤ℤ ELEVATION_MOST
 
 -- the limits of a runway that do not depend on its airport: its length, the elevations of both ends, and that no end of a utility
--- runway is a precision one, for which 77.19 has no class
+-- runway has or is planned for a precision approach, for which 77.19 has no class
 pub record IsProper (r : Runway) : Type 0 where
   pub within_length : IsWithinLength r
   pub elevation1 : IsElevation r.end1.z
   pub elevation2 : IsElevation r.end2.z
-  pub no_precision1 : r.utility ≡ true → r.end1.kind ≢ Precision
-  pub no_precision2 : r.utility ≡ true → r.end2.kind ≢ Precision
+  pub no_precision1 : r.utility ≡ true → effective r.end1 ≢ Precision
+  pub no_precision2 : r.utility ≡ true → effective r.end2 ≢ Precision
 
 -- a point is near enough to the reference point in each coordinate
 pub record IsNear (arp at : Point) : Type 0 where
@@ -74,9 +89,9 @@ is_precision NonprecisionAbove = false
 is_precision NonprecisionLow = false
 is_precision Precision = true
 
--- a utility runway has a precision end
+-- a utility runway has an end with a precision approach that it has or is planned for
 abbrev pub is_precision_on_utility : Runway → Bool
-is_precision_on_utility r = r.utility && (is_precision r.end1.kind || is_precision r.end2.kind)
+is_precision_on_utility r = r.utility && (is_precision (effective r.end1) || is_precision (effective r.end2))
 
 abbrev pub is_near : Point → Point → Bool
 is_near arp at = nat_le (distance_apart at.x arp.x) RUNWAY_REACH && nat_le (distance_apart at.y arp.y) RUNWAY_REACH

@@ -2,7 +2,7 @@
 
 ghost use Rattle.std.specs.Prelude.{◌≡◌, ◌≤◌, ◌↔◌, IsTrue};
 ghost use Rattle.airfields.specs.Runways.{distance_apart, length_square, is_within_length, is_elevation, has_elevations, IsProper};
-ghost use Rattle.airfields.specs.Runways.{is_precision, is_precision_on_utility, is_near, has_near_ends, HasNearEnds};
+ghost use Rattle.airfields.specs.Runways.{effective, is_planned, is_precision, is_precision_on_utility, is_near, has_near_ends, HasNearEnds};
 ghost use Rattle.airfields.specs.Airfields.{axis_square, is_axis, is_width, has_heliport_shape, IsHeldAirport, IsHeldHeliport};
 
 use crate::airfield::{Airport, Heliport};
@@ -67,9 +67,9 @@ pub fn is_allowed_elevation(z: &i64) -> bool
 impl RunwayEnd {
     /// Whether it has or is planned for precision instrument approaches.
     pub fn is_precision(&self) -> bool
-        ensures { result ≡ is_precision self.now.kind }
+        ensures { result ≡ is_precision (effective self.now) }
     {
-        matches!(self.kind, ApproachKind::Precision)
+        matches!(self.effective(), ApproachKind::Precision)
     }
 
     /// Whether the end is near enough to the reference point in each coordinate.
@@ -99,6 +99,13 @@ impl Runway {
         RUNWAY_LEAST * RUNWAY_LEAST <= square && square <= RUNWAY_MOST * RUNWAY_MOST
     }
 
+    /// Whether an approach is planned for one of its ends.
+    pub fn is_planned(&self) -> bool
+        ensures { result ≡ is_planned self.now }
+    {
+        self.end1.planned.is_some() || self.end2.planned.is_some()
+    }
+
     /// Whether the elevations of both ends are within their limits.
     pub fn has_elevations(&self) -> bool
         ensures { result ≡ has_elevations self.now }
@@ -106,7 +113,7 @@ impl Runway {
         is_allowed_elevation(&self.end1.z) && is_allowed_elevation(&self.end2.z)
     }
 
-    /// Whether it is a utility runway with a precision end.
+    /// Whether it is a utility runway with an end that has or is planned for precision approaches.
     pub fn is_precision_on_utility(&self) -> bool
         ensures { result ≡ is_precision_on_utility self.now }
     {

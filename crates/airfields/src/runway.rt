@@ -3,7 +3,7 @@
 use crate::names::RunwayName;
 use grid_exact::Point;
 use ordered_list::Keyed;
-use runway_classes::ApproachKind;
+use runway_classes::{ApproachKind, more_precise};
 
 /// An end of a runway.
 #[derive(Clone, Copy, Debug, PartialEq, Eq)]
@@ -12,8 +12,25 @@ pub struct RunwayEnd {
     pub at: Point,
     /// Its elevation, in tenths of a foot.
     pub z: i64,
-    /// The kind of approach that the end has or is planned for.
+    /// The kind of approach that the end has.
     pub kind: ApproachKind,
+    /// The kind of approach that is planned for the end, if there is one.
+    pub planned: Option<ApproachKind>,
+}
+
+impl RunwayEnd {
+    ghost use Rattle.std.specs.Prelude.{◌≡◌};
+    ghost use Rattle.airfields.specs.Runways.{effective};
+
+    /// The more precise of the approaches that the end has and is planned for (77.19). Its surfaces follow this kind.
+    pub fn effective(&self) -> ApproachKind
+        ensures { result ≡ effective self.now }
+    {
+        match self.planned {
+            Some(planned) => more_precise(self.kind, planned),
+            None => self.kind,
+        }
+    }
 }
 
 /// A runway of an airport.

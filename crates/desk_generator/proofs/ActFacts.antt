@@ -66,8 +66,8 @@ any_runway id r i n z1 z2 =
                   (
                     number_fits r.end1.z [] z1,
                     (
-                      (r.end1.kind, refl),
-                      (x_fits r.end2.at [], (y_fits r.end2.at [], (number_fits r.end2.z [] z2, ((r.end2.kind, refl), tt)))),
+                      (r.end1.kind, r.end1.planned, refl),
+                      (x_fits r.end2.at [], (y_fits r.end2.at [], (number_fits r.end2.z [] z2, ((r.end2.kind, r.end2.planned, refl), tt)))),
                     ),
                   ),
                 ),

@@ -51,9 +51,9 @@ airport_name i = 71 ∷ digit (i / 1000) ∷ digit (i / 100) ∷ digit (i / 10) 
 
 -- ---- airports and structures, by the draws after the number of a source
 
--- a runway through a point from west to east, with its ends at these distances
+-- a runway through a point from west to east, with its ends at these distances; nothing is planned
 abbrev pub runway_end : ℤ → ℤ → ℤ → ApproachKind → RunwayEnd
-runway_end x y z kind = record { at = point x y; z = z; kind = kind }
+runway_end x y z kind = record { at = point x y; z = z; kind = kind; planned = None }
 
 abbrev pub runway : ℤ → ℤ → ℤ → ℤ → ℤ → ApproachKind → ApproachKind → Runway
 runway x y z west east kind1 kind2 =

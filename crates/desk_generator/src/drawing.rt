@@ -66,6 +66,7 @@ fn end_at(x: i64, y: i64, elevation: i64, kind: ApproachKind) -> RunwayEnd
         at: point_at(x, y),
         z: elevation,
         kind,
+        planned: None,
     }
 }
 

@@ -12,7 +12,7 @@ use Rattle.oe_keeper.proofs.Keys.{key_cmp-same}
 use Rattle.desk_tables.specs.Tables.{found_in}
 use Rattle.desk_tables.proofs.Named.{IsPutAt}
 
-equal : (o : Ordering) → is_eq o ≡ true → o ≡ Equal
+pub equal : (o : Ordering) → is_eq o ≡ true → o ≡ Equal
 equal Less h = absurd (cc (h))
 equal Equal h = refl
 equal Greater h = absurd (cc (h))
@@ -21,14 +21,14 @@ other : (b : Bool) (q k : Key) → eq_by_cmp key_cmp q k ≡ b → q ≢ k → b
 other true q k e apart = absurd (apart (key_cmp-same q k (equal (key_cmp q k) e)))
 other false q k e apart = refl
 
-itself : (k : Key) → eq_by_cmp key_cmp k k ≡ true
+pub itself : (k : Key) → eq_by_cmp key_cmp k k ≡ true
 itself k = ap is_eq (tied_itself key_cmp_total k)
 
 -- a row that is put stands under its key
-put_here : (kept : Kept) (k : Key) (row : List ℕ) → map.get (map.insert kept k row) k ≡ Some row
+pub put_here : (kept : Kept) (k : Key) (row : List ℕ) → map.get (map.insert kept k row) k ≡ Some row
 put_here kept k row = map.get-insert key_cmp_total kept k row k ∙ ap (λ b. cond b (Some row) (map.get kept k)) (itself k)
 
-put_elsewhere : (kept : Kept) (k q : Key) (row : List ℕ) → q ≢ k → map.get (map.insert kept k row) q ≡ map.get kept q
+pub put_elsewhere : (kept : Kept) (k q : Key) (row : List ℕ) → q ≢ k → map.get (map.insert kept k row) q ≡ map.get kept q
 put_elsewhere kept k q row apart = map.get-insert key_cmp_total kept k row q ∙ ap (λ b. cond b (Some row) (map.get kept q)) (other (eq_by_cmp key_cmp q k) q k refl apart)
 
 removed_here : (kept : Kept) (k : Key) → map.get (map.remove kept k) k ≡ None

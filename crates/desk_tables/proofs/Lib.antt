@@ -11,6 +11,7 @@ pub mod Bare
 pub mod RowFacts
 pub mod WalkFacts
 pub mod SoundFacts
+pub mod FormatFacts
 pub mod RequestRows
 pub mod RowsTaken
 pub mod RowsGrown

@@ -11,7 +11,8 @@ use Rattle.oe_keeper.specs.Kept.{Key, key_cmp, key_cmp_total}
 use Rattle.oe_keeper.proofs.Keys.{key_cmp-same}
 use Rattle.desk_tables.specs.Rows.{AreTables}
 use Rattle.desk_tables.specs.Values.{Row}
-use Rattle.desk_tables.specs.Parts.{Part, IsNext, Reads, state_of, with_row}
+use Rattle.desk_tables.specs.Parts.{Part, Follows, Reads, state_of, with_row}
+use Rattle.desk_tables.specs.declared.layout.Layout.{Layout}
 use Rattle.desk_tables.specs.declared.value.RowValue.{RowValue}
 use Rattle.desk_tables.specs.declared.value.RowValue.TheVariants.{Airfield as AnAirfield, Runway, Desk, Case, Request}
 use Rattle.desk_tables.proofs.RowsTaken.{taken}
@@ -46,7 +47,7 @@ new_key (x ∷ xs) ys r h =
 
 -- ---- the walk
 
-pub grown : (b : Bool) (ys xs : List Row) (p q : Part) → T (maps.is_sorted key_cmp (xs ++ ys)) → AreTables p.has_format (state_of p) (maps.from_entries xs) → Reads b p ys q
+pub grown : (b : Layout) (ys xs : List Row) (p q : Part) → T (maps.is_sorted key_cmp (xs ++ ys)) → AreTables p.has_format (state_of p) (maps.from_entries xs) → Reads b p ys q
     → AreTables q.has_format (state_of q) (maps.from_entries (xs ++ ys))
 grown b [] xs p q sorted are reads =
     subst (λ l. AreTables q.has_format (state_of q) (maps.from_entries l)) (sym (append-nil xs)) (subst (λ (t : Part). AreTables t.has_format (state_of t) (maps.from_entries xs)) reads are)
@@ -54,7 +55,7 @@ grown b (r ∷ rs) xs p q sorted are reads =
     let v = reads.0 in
     let new : maps.find key_cmp r.0 xs ≡ None = new_key xs rs r sorted in
     let now : AreTables (with_row v p).has_format (state_of (with_row v p)) (maps.insert (maps.from_entries xs) r.0 r.1) =
-    taken b p (maps.from_entries xs) r v are (maps.get-from_entries key_cmp_total xs r.0 ∙ new) reads.1 reads.2 in
+    taken b.is_lone p (maps.from_entries xs) r v are (maps.get-from_entries key_cmp_total xs r.0 ∙ new) reads.1 reads.2.0 in
     let more : AreTables (with_row v p).has_format (state_of (with_row v p)) (maps.from_entries (xs ++ r ∷ [])) =
     subst (λ k. AreTables (with_row v p).has_format (state_of (with_row v p)) k) (sym (maps.from_entries_push key_cmp_total key_cmp-same xs r.0 r.1 new)) now in
     subst (λ l. AreTables q.has_format (state_of q) (maps.from_entries l)) (append_assoc xs (r ∷ []) rs)
@@ -62,7 +63,7 @@ grown b (r ∷ rs) xs p q sorted are reads =
 
 -- ---- the format is never the only row
 
-apart : (b : Bool) (p : Part) (v : RowValue) → IsNext b p v → (p.has_format ≡ true → b ≡ false) → (with_row v p).has_format ≡ true → b ≡ false
+apart : (b : Bool) (p : Part) (v : RowValue) → Follows b p v → (p.has_format ≡ true → b ≡ false) → (with_row v p).has_format ≡ true → b ≡ false
 apart b p (AnAirfield v) next h = h
 apart b p (Runway v) next h = h
 apart b p (Desk days.Format) next h = λ e. next
@@ -71,6 +72,6 @@ apart b p (Desk (days.Closed d)) next h = h
 apart b p (Case v) next h = h
 apart b p (Request v) next h = h
 
-pub format_apart : (b : Bool) (ys : List Row) (p q : Part) → (p.has_format ≡ true → b ≡ false) → Reads b p ys q → q.has_format ≡ true → b ≡ false
+pub format_apart : (b : Layout) (ys : List Row) (p q : Part) → (p.has_format ≡ true → b.is_lone ≡ false) → Reads b p ys q → q.has_format ≡ true → b.is_lone ≡ false
 format_apart b [] p q h reads = λ e. h (ap (λ (t : Part). t.has_format) reads ∙ e)
-format_apart b (r ∷ rs) p q h reads = format_apart b rs (with_row reads.0 p) q (apart b p reads.0 reads.2 h) reads.3
+format_apart b (r ∷ rs) p q h reads = format_apart b rs (with_row reads.0 p) q (apart b.is_lone p reads.0 reads.2.0 h) reads.3

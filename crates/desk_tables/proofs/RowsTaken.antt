@@ -32,7 +32,7 @@ use Rattle.desk_tables.proofs.Days.{format_put, today_put, closed_put}
 use Rattle.desk_tables.proofs.Cases.{filing_added}
 use Rattle.desk_tables.proofs.Keeping.{desk_put, case_put, entry_put}
 use Rattle.desk_tables.specs.Values.{Row, IsRowOf}
-use Rattle.desk_tables.specs.Parts.{Part, IsNext, IsNextCase, IsNewRequest, put_of, entry_of_row, entries_of, state_of, with_desk_row, with_row}
+use Rattle.desk_tables.specs.Parts.{Part, Follows, IsNextCase, IsNewRequest, put_of, entry_of_row, entries_of, state_of, with_desk_row, with_row}
 use Rattle.desk_tables.specs.declared.value.RowValue.{RowValue}
 use Rattle.desk_tables.specs.declared.value.RowValue.TheVariants.{Airfield as AnAirfield, Runway, Desk, Case, Request}
 use Rattle.desk_tables.proofs.RequestRows.{request_put}
@@ -99,7 +99,7 @@ caller_is key row v h = h.recorded.shape.1.0
 
 -- ---- a row of any table
 
-pub taken : (b : Bool) (p : Part) (m : Kept) (r : Row) (v : RowValue) → AreTables p.has_format (state_of p) m → maps.get m r.0 ≡ None → IsRowOf r v → IsNext b p v
+pub taken : (b : Bool) (p : Part) (m : Kept) (r : Row) (v : RowValue) → AreTables p.has_format (state_of p) m → maps.get m r.0 ≡ None → IsRowOf r v → Follows b p v
     → AreTables (with_row v p).has_format (state_of (with_row v p)) (maps.insert m r.0 r.1)
 taken b p m r (AnAirfield v) are new is next =
     subst (λ k. AreTables p.has_format (record (state_of p) { register = after_amendment p.register (put_of v) }) k) (in_parts m r 0 (airfield_key v) (airfield_row v) is.0 is.1.key_is is.1.row_is)

@@ -30,7 +30,7 @@ use Rattle.desk_tables.proofs.OneRows.{one_tables}
 use Rattle.desk_tables.proofs.Bare.{bare_rows}
 use Rattle.desk_tables.specs.Values.{Row}
 use Rattle.desk_tables.specs.Parts.{Part, Reads, entries_of, state_of}
-use Rattle.desk_tables.specs.Opening.{ReadsAll, count_of, format_key, is_at, is_in, is_lone, today_key, unread_of, with_format, with_wanting}
+use Rattle.desk_tables.specs.Opening.{ReadsAll, count_of, format_key, is_at, is_in, is_lone, layout_of, today_key, unread_of, with_format, with_wanting}
 use Rattle.desk_tables.proofs.RequestRows.{no_entries}
 use Rattle.desk_tables.proofs.RowsGrown.{format_apart}
 
@@ -123,10 +123,10 @@ of_no_length : (es : List Row) → length es ≡ 0 → es ≡ []
 of_no_length [] h = refl
 of_no_length (r ∷ es) h = absurd (cc (h))
 
-pub nothing_read : (kept : Kept) (q : Part) → ReadsAll kept q → maps.len kept ≡ 0 → state_of q ≡ empty
-nothing_read kept q reads none =
+pub nothing_read : (old : Bool) (kept : Kept) (q : Part) → ReadsAll old kept q → maps.len kept ≡ 0 → state_of q ≡ empty
+nothing_read old kept q reads none =
     let no_row : maps.entries kept ≡ [] = of_no_length (maps.entries kept) (sym (maps.len-entries kept) ∙ none) in
-    let same : unread_of kept ≡ q = subst (λ es. Reads (is_lone kept) (unread_of kept) es q) no_row reads in
+    let same : unread_of kept ≡ q = subst (λ es. Reads (layout_of old kept) (unread_of kept) es q) no_row reads in
     let blank : state_of (unread_of kept) ≡ empty = ap (λ (es : List Entry). record empty { entries = es }) (no_entries (count_of (is_in tables.Receipt) kept)) in
     sym (ap state_of same) ∙ blank
 
@@ -137,9 +137,9 @@ put_wanting_is true c m key h k e = absurd (cc (h))
 put_wanting_is false false m key h k e = absurd (cc (k))
 put_wanting_is false true m key h k e = sym (ap (λ (n : Kept). maps.get n (2, key)) e) ∙ put_here m key []
 
-module _ (kept : Kept) (q : Part) (reads : ReadsAll kept q) (whole : with_format kept ≡ kept) (are : AreTables q.has_format (state_of q) kept) where
+module _ (old : Bool) (kept : Kept) (q : Part) (reads : ReadsAll old kept q) (whole : with_format kept ≡ kept) (are : AreTables q.has_format (state_of q) kept) where
   bare_by : (b : Bool) → (maps.len kept == 0) ≡ b → q.has_format ≡ false → is_bare (state_of q) ≡ true
-  bare_by true e none = ap is_bare (nothing_read kept q reads ((Decides-eqb (maps.len kept) 0).0 e))
+  bare_by true e none = ap is_bare (nothing_read old kept q reads ((Decides-eqb (maps.len kept) 0).0 e))
   bare_by false e none =
       let lacks : maps.get kept (2, format_key) ≡ None = are.days.there Format tt ∙ ap (λ f. text_if_shown f (desk_row days.Format)) none in
       let zero_times : count_of (is_at tables.Desk format_key) kept ≡ 0 = lacking format_key (maps.entries kept) (sym (maps.get-entries kept (2, format_key)) ∙ lacks) in
@@ -153,7 +153,7 @@ module _ (kept : Kept) (q : Part) (reads : ReadsAll kept q) (whole : with_format
   format_by true true e h =
       let state : state_of q ≡ empty = bare_is q.register q.day q.closed q.cases (entries_of q.requests) h in
       let lone : is_lone kept ≡ true = lone_format kept (subst (λ (s : State). AreTables true s kept) state (subst (λ f. AreTables f (state_of q) kept) e are)) in
-      let apart : is_lone kept ≡ false = format_apart (is_lone kept) (maps.entries kept) (unread_of kept) q (λ f. absurd (cc (f))) reads e in
+      let apart : is_lone kept ≡ false = format_apart (layout_of old kept) (maps.entries kept) (unread_of kept) q (λ f. absurd (cc (f))) reads e in
       absurd (cc (sym lone ∙ apart))
   format_by false false e h = absurd (cc (sym h ∙ bare_by (maps.len kept == 0) refl e))
 

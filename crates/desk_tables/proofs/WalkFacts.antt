@@ -6,6 +6,7 @@ use Rattle.std.proofs.lemmas.List.Elements.{filter-append}
 use Rattle.std.proofs.lemmas.Option.{slice_get_within, get_or_from_slice_get, slice_get_cases}
 use Rattle.desk_tables.specs.Values.{Row, IsRowOf}
 use Rattle.desk_tables.specs.Parts.{Part, IsNext, Reads, with_row}
+use Rattle.desk_tables.specs.declared.layout.Layout.{Layout}
 use Rattle.desk_tables.specs.declared.value.RowValue.{RowValue}
 
 -- ---- the front of a list with one more
@@ -33,14 +34,14 @@ module _ {X : Type 0} (p : X → Bool) where
 
 -- ---- reading
 
-module _ (is_lone : Bool) where
-  pub reads_more : (p : Part) (rows : List Row) (q : Part) (r : Row) (v : RowValue) → Reads is_lone p rows q → IsRowOf r v → IsNext is_lone q v → Reads is_lone p (rows ++ r ∷ []) (with_row v q)
-  reads_more p [] q r v reads is next = (v, is, subst (λ x. IsNext is_lone x v) (sym reads) next, ap (with_row v) reads)
+module _ (layout : Layout) where
+  pub reads_more : (p : Part) (rows : List Row) (q : Part) (r : Row) (v : RowValue) → Reads layout p rows q → IsRowOf r v → IsNext layout q v → Reads layout p (rows ++ r ∷ []) (with_row v q)
+  reads_more p [] q r v reads is next = (v, is, subst (λ x. IsNext layout x v) (sym reads) next, ap (with_row v) reads)
   reads_more p (s ∷ rows) q r v reads is next = (reads.0, reads.1, reads.2, reads_more (with_row reads.0 p) rows q r v reads.3 is next)
 
-  pub reads_next : (p : Part) (rows : List Row) (i : ℕ) (q : Part) (r : Row) (v : RowValue) → slice_get rows i ≡ Some r → Reads is_lone p (take i rows) q → IsRowOf r v → IsNext is_lone q v
-      → Reads is_lone p (take (i + 1) rows) (with_row v q)
-  reads_next p rows i q r v at reads is next = subst (λ front. Reads is_lone p front (with_row v q)) (sym (take_next rows i r at)) (reads_more p (take i rows) q r v reads is next)
+  pub reads_next : (p : Part) (rows : List Row) (i : ℕ) (q : Part) (r : Row) (v : RowValue) → slice_get rows i ≡ Some r → Reads layout p (take i rows) q → IsRowOf r v → IsNext layout q v
+      → Reads layout p (take (i + 1) rows) (with_row v q)
+  reads_next p rows i q r v at reads is next = subst (λ front. Reads layout p front (with_row v q)) (sym (take_next rows i r at)) (reads_more p (take i rows) q r v reads is next)
 
 -- ---- places that there are
 

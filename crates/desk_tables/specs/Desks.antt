@@ -1,5 +1,5 @@
 -- The results of reading tables.
-use Rattle.std.specs.Prelude.{◌≡◌, ◌≤◌, ℕ, None, [], IfSome, length, slice_get}
+use Rattle.std.specs.Prelude.{◌≡◌, ◌≤◌, ℕ, Bool, None, [], IfSome, length, slice_get}
 use Rattle.case_acts.specs.Cases.{IsSound}
 use Rattle.determination_dates.specs.Days.{IsLimited}
 use Rattle.desk_machine.specs.States.{State}
@@ -28,7 +28,7 @@ NamesBad kept NoMemory = Unit {0}
 
 -- ---- for proofs alone
 
--- the same for tables without missing rows
-abbrev pub NamesBadHere : Kept → Unread → Type 0
-NamesBadHere kept (Bad row) = (i : ℕ) × IsBadAt kept i (place row.table, row.key)
-NamesBadHere kept NoMemory = Unit {0}
+-- the same for tables without missing rows, that were of the older format or not
+abbrev pub NamesBadHere : Bool → Kept → Unread → Type 0
+NamesBadHere is_old kept (Bad row) = (i : ℕ) × IsBadAt is_old kept i (place row.table, row.key)
+NamesBadHere is_old kept NoMemory = Unit {0}

@@ -2,6 +2,7 @@ pub mod Tables
 pub mod Rows
 pub mod Changes
 pub mod Values
+pub mod Planned
 pub mod Parts
 pub mod Opening
 pub mod Counts

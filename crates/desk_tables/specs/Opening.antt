@@ -1,14 +1,17 @@
 -- Opening a desk from its tables, and the first bad row of tables that do not open.
-use Rattle.std.specs.Prelude.{◌≡◌, ◌==◌, ℕ, Bool, ◌&&◌, cond, List, [], length, Some, codes, slice_get, take}
+use Rattle.std.specs.Prelude.{◌≡◌, ◌==◌, ℕ, Bool, ◌&&◌, not, cond, List, [], length, Some, codes, slice_get, take}
 use Rattle.std.specs.List.{filter}
 use Rattle.std.specs.Str.{bytes_eq}
 use Rattle.std.specs.FinMap as maps
 use Rattle.oe_keeper.specs.Kept.{Key, Kept, place}
 use Rattle.oe_keeper.specs.declared.change.Table.{Table}
 use Rattle.oe_keeper.specs.declared.change.Table.TheVariants as tables
+use Rattle.row_register.specs.Desk.{desk_row}
+use Rattle.row_register.specs.declared.desk.DeskRow.TheVariants as rows
 use Rattle.desk_machine.specs.States.{State}
 use Rattle.desk_tables.specs.Values.{Row, IsRowOf}
 use Rattle.desk_tables.specs.Parts.{Part, unread_part, IsNext, Reads, state_of}
+use Rattle.desk_tables.specs.declared.layout.Layout.{Layout}
 use Rattle.desk_tables.specs.declared.value.RowValue.{RowValue}
 
 -- ---- missing rows
@@ -44,34 +47,58 @@ with_today kept = cond (count_of (is_in tables.Filing) kept == 0) kept (cond (co
 abbrev pub with_wanting : Kept → Kept
 with_wanting kept = with_today (with_format kept)
 
+-- ---- tables of the older format
+
+-- the format row of tables from before there were planned approaches
+abbrev pub older_format : List ℕ
+older_format = codes "1"
+
+abbrev pub is_older_row : Row → Bool
+is_older_row r = is_at tables.Desk format_key r && bytes_eq r.1 older_format
+
+-- the tables are of that format
+abbrev pub is_older : Kept → Bool
+is_older kept = not (count_of is_older_row kept == 0)
+
+-- the tables with this format row
+abbrev pub in_format : List ℕ → Kept → Kept
+in_format text kept = maps.insert kept (place tables.Desk, format_key) text
+
+-- the same tables in the format of today, in which all others are
+abbrev pub renewed : Kept → Kept
+renewed kept = cond (is_older kept) (in_format (desk_row rows.Format) kept) kept
+
 -- ---- the desk that the tables open as
 
 abbrev pub is_lone : Kept → Bool
 is_lone kept = maps.len kept == 1
 
+abbrev pub layout_of : Bool → Kept → Layout
+layout_of is_old kept = record { is_lone = is_lone kept; is_old = is_old }
+
 -- nothing was read of these tables
 abbrev pub unread_of : Kept → Part
 unread_of kept = unread_part (count_of (is_in tables.Receipt) kept)
 
--- all rows are read
-abbrev pub ReadsAll : Kept → Part → Type 0
-ReadsAll kept q = Reads (is_lone kept) (unread_of kept) (maps.entries kept) q
+-- all rows are read, of tables that were of the older format or not
+abbrev pub ReadsAll : Bool → Kept → Part → Type 0
+ReadsAll is_old kept q = Reads (layout_of is_old kept) (unread_of kept) (maps.entries kept) q
 
--- the tables open as a desk in this state
+-- the tables open as a desk in this state; those of the older format as the same tables in the format of today, where nothing in them is planned
 pub record Opens (kept : Kept) (s : State) : Type 0 where
   pub part : Part
-  pub reads : ReadsAll (with_wanting kept) part
+  pub reads : ReadsAll (is_older kept) (with_wanting (renewed kept)) part
   pub state : s ≡ state_of part
 
 -- the row at this index is bad: those before it are read, and it has no value that may come after them
-pub record IsBadAt (kept : Kept) (i : ℕ) (k : Key) : Type 0 where
+pub record IsBadAt (is_old : Bool) (kept : Kept) (i : ℕ) (k : Key) : Type 0 where
   pub part : Part
   pub text : List ℕ
   pub row : slice_get (maps.entries kept) i ≡ Some (k, text)
-  pub reads : Reads (is_lone kept) (unread_of kept) (take i (maps.entries kept)) part
-  pub bad : (v : RowValue) → IsRowOf (k, text) v → IsNext (is_lone kept) part v → ⊥
+  pub reads : Reads (layout_of is_old kept) (unread_of kept) (take i (maps.entries kept)) part
+  pub bad : (v : RowValue) → IsRowOf (k, text) v → IsNext (layout_of is_old kept) part v → ⊥
 
 -- the first bad or missing row of the tables has this key
 pub record IsFirstBad (kept : Kept) (k : Key) : Type 0 where
   pub place_of : ℕ
-  pub at : IsBadAt (with_wanting kept) place_of k
+  pub at : IsBadAt (is_older kept) (with_wanting (renewed kept)) place_of k

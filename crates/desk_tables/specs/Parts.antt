@@ -1,5 +1,5 @@
 -- Reading rows one after another.
-use Rattle.std.specs.Prelude.{◌≡◌, ◌≢◌, ◌<◌, ◌≤◌, ◌+◌, ◌-◌, ℕ, Bool, true, false, List, [], ◌∷◌, ◌++◌, length, Option, Some, None, IfSome, slice_get, slice_set, replicate}
+use Rattle.std.specs.Prelude.{◌≡◌, ◌≢◌, ◌<◌, ◌≤◌, ◌+◌, ◌-◌, ℕ, Bool, true, false, ◌&&◌, List, [], ◌∷◌, ◌++◌, length, Option, Some, None, IfSome, slice_get, slice_set, replicate}
 use Rattle.std.specs.List.{flat_map}
 use Rattle.std.specs.Option.{option_to_list}
 use Rattle.jiff_core.specs.declared.civil.date.Date.{Date}
@@ -22,6 +22,8 @@ use Rattle.desk_machine.specs.States.{State}
 use Rattle.desk_machine.specs.declared.entry.Entry.{Entry}
 use Rattle.desk_machine.specs.declared.entry.TheConstants.{MOST_CASES}
 use Rattle.desk_tables.specs.Values.{Row, IsRowOf}
+use Rattle.desk_tables.specs.Planned.{plans_row}
+use Rattle.desk_tables.specs.declared.layout.Layout.{Layout}
 use Rattle.desk_tables.specs.declared.value.RowValue.{RowValue}
 use Rattle.desk_tables.specs.declared.value.RowValue.TheVariants.{Airfield as AnAirfield, Runway, Desk, Case, Request}
 
@@ -75,12 +77,21 @@ IsNextDay is_lone days.Format = is_lone ≡ false
 IsNextDay is_lone (days.Now date) = Unit {0}
 IsNextDay is_lone (days.Closed date) = Unit {0}
 
-abbrev pub IsNext : Bool → Part → RowValue → Type 0
-IsNext is_lone p (AnAirfield v) = first_broken p.register (put_of v) ≡ None
-IsNext is_lone p (Runway v) = first_broken p.register (PutRunway v.id v.runway) ≡ None
-IsNext is_lone p (Desk v) = IsNextDay is_lone v
-IsNext is_lone p (Case v) = IsNextCase p v
-IsNext is_lone p (Request v) = IsNewRequest p v
+-- the value may come after those that were read
+abbrev pub Follows : Bool → Part → RowValue → Type 0
+Follows is_lone p (AnAirfield v) = first_broken p.register (put_of v) ≡ None
+Follows is_lone p (Runway v) = first_broken p.register (PutRunway v.id v.runway) ≡ None
+Follows is_lone p (Desk v) = IsNextDay is_lone v
+Follows is_lone p (Case v) = IsNextCase p v
+Follows is_lone p (Request v) = IsNewRequest p v
+
+-- tables of the older format have no row with a planned approach
+abbrev pub IsInFormat : Bool → RowValue → Type 0
+IsInFormat is_old v = (is_old && plans_row v) ≡ false
+
+-- the value may come next in these tables
+abbrev pub IsNext : Layout → Part → RowValue → Type 0
+IsNext layout p v = Follows layout.is_lone p v × IsInFormat layout.is_old v
 
 -- ---- the data after a row
 
@@ -97,9 +108,9 @@ with_row (Case v) p = record p { cases = p.cases ++ v.case ∷ [] }
 with_row (Request v) p = record p { requests = slice_set p.requests (v.number - 1) (Some (entry_of_row v)) }
 
 -- reading these rows, one after another, turns p into q
-abbrev pub Reads : Bool → Part → List Row → Part → Type 0
-Reads is_lone p [] q = p ≡ q
-Reads is_lone p (r ∷ rs) q = (v : RowValue) × IsRowOf r v × IsNext is_lone p v × Reads is_lone (with_row v p) rs q
+abbrev pub Reads : Layout → Part → List Row → Part → Type 0
+Reads layout p [] q = p ≡ q
+Reads layout p (r ∷ rs) q = (v : RowValue) × IsRowOf r v × IsNext layout p v × Reads layout (with_row v p) rs q
 
 -- ---- all that was read, as a state
 

@@ -1,9 +1,10 @@
 //! A list of row changes.
 
-ghost use Rattle.std.specs.Prelude.{◌≡◌, ◌++◌, ◌∷◌, [], OnOk, string_bytes};
+ghost use Rattle.std.specs.Prelude.{◌≡◌, ◌++◌, ◌∷◌, [], IfOk, OnOk, string_bytes};
 ghost use Rattle.oe_keeper.specs.declared.change.Table.TheVariants as tables;
 ghost use Rattle.oe_keeper.specs.declared.change.RowChange.TheVariants.{Put, Remove};
 ghost use Rattle.row_register.specs.Runways.{runway_key_text};
+ghost use Rattle.row_register.specs.declared.desk.DeskRow.TheVariants as days;
 ghost use Rattle.desk_tables.specs.Changes.{put_airfield, put_runway_row, put_desk, put_filing, put_receipt, remove_runway};
 
 use airfields::{Airfield, FieldId, Runway, RunwayName};
@@ -44,6 +45,19 @@ impl ChangeList {
         ChangeList {
             changes: Vec::new(alloc),
         }
+    }
+
+    /// The change that brings tables of the format from before there were planned approaches to that of today.
+    ///
+    /// # Errors
+    ///
+    /// `NoMemory` where memory was refused.
+    pub fn renewal(alloc: Global) -> Result<ChangeList, NoMemory>
+        ensures { IfOk result (λ l. l ≡ put_desk days.Format ∷ []) }
+    {
+        let mut list = ChangeList::new(alloc);
+        list.put_desk(alloc, &DeskRow::Format)?;
+        Ok(list)
     }
 
     /// The changes in their order.

@@ -7,6 +7,7 @@
 mod amendments;
 mod change_list;
 mod counts;
+mod layout;
 mod opening;
 mod opening_laws;
 mod part;
@@ -15,6 +16,7 @@ mod unread;
 mod value;
 
 pub use change_list::ChangeList;
+pub use layout::Layout;
 pub use opening::{OpenedDesk, read_desk};
 pub use opening_laws::{opened_empty, opened_rows};
 pub use row_laws::{keeps_rows, no_rows, one_rows};

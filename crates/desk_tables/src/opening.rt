@@ -3,12 +3,13 @@
 ghost use Rattle.std.specs.Prelude.{◌≡◌, IfOk, IfErr, OnOk};
 ghost use Rattle.oe_keeper.specs.Kept.{place};
 ghost use Rattle.desk_tables.specs.Desks.{IsSoundDesk, NamesBad, NamesBadHere, desk_of};
-ghost use Rattle.desk_tables.specs.Opening.{Opens, ReadsAll};
+ghost use Rattle.desk_tables.specs.Opening.{Opens, ReadsAll, is_older};
 ghost use Rattle.desk_tables.specs.Parts.{IsNext, entries_of as entries_in, with_row};
 ghost use Rattle.desk_tables.specs.Values.{IsRowOf};
 ghost use Rattle.desk_tables.specs.declared.value.RowValue.{RowValue as Value};
 
-use crate::counts::{Kind, count, put_wanting_rows, row_at};
+use crate::counts::{Kind, count, put_wanting_rows, renew, row_at};
+use crate::layout::Layout;
 use crate::part::Part;
 use crate::unread::{BadRow, Unread, Untaken};
 use crate::value::read_row;
@@ -27,6 +28,8 @@ use std::alloc::Global;
 /// The data of a desk, read from its rows.
 #[derive(Drop)]
 pub struct OpenedDesk {
+    /// Whether the tables were of the format from before there were planned approaches.
+    pub is_older: bool,
     pub register: Register,
     pub day: Option<Date>,
     pub closed: ClosedDays,
@@ -41,15 +44,15 @@ pub struct OpenedDesk {
 fn read_one(
     alloc: Global,
     part: &mut Part,
-    is_lone: bool,
+    layout: Layout,
     table: Table,
     key: &str,
     row: &str,
 ) -> Result<(), Untaken>
     ensures ok { OnOk result ((v : Value) × IsRowOf ((place table, key.now), row.now) v
-        × IsNext is_lone part.old v × (part.new ≡ with_row v part.old)) }
+        × IsNext layout part.old v × (part.new ≡ with_row v part.old)) }
     ensures bad { IfErr result (λ why. why ≡ Untaken.Bad → (v : Value)
-        → IsRowOf ((place table, key.now), row.now) v → IsNext is_lone part.old v → ⊥) }
+        → IsRowOf ((place table, key.now), row.now) v → IsNext layout part.old v → ⊥) }
 {
     one_airfield_row();
     one_runway_row();
@@ -57,21 +60,22 @@ fn read_one(
     one_filing_row();
     one_receipt_row();
     match read_row(alloc, table, key, row)? {
-        Some(value) => part.take(alloc, is_lone, value),
+        Some(value) => part.take(alloc, layout, value),
         None => Err(Untaken::Bad),
     }
 }
 
-/// Reads all rows in their order.
-fn read_all(alloc: Global, tables: &Tables) -> Result<Part, Unread>
-    ensures read { IfOk result (λ p. ReadsAll tables.now p) }
-    ensures bad { IfErr result (λ why. NamesBadHere tables.now why) }
+/// Reads all rows in their order. `is_old` says that the tables were of the older format.
+fn read_all(alloc: Global, tables: &Tables, is_old: bool) -> Result<Part, Unread>
+    ensures read { IfOk result (λ p. ReadsAll is_old tables.now p) }
+    ensures bad { IfErr result (λ why. NamesBadHere is_old tables.now why) }
 {
     let is_lone = tables.len() == 1;
+    let layout = Layout { is_lone, is_old };
     let mut part = Part::unread(alloc, count(tables, Kind::In(Table::Receipt)))?;
     for i in 0..tables.len() {
         let (table, key, row) = row_at(tables, i);
-        match read_one(alloc, &mut part, is_lone, table, key, row) {
+        match read_one(alloc, &mut part, layout, table, key, row) {
             Ok(()) => {}
             Err(Untaken::Bad) => {
                 let key = Text::from_str(alloc, key)?;
@@ -99,22 +103,26 @@ fn entries_of(alloc: Global, requests: Vec<Option<Entry>>) -> Result<Vec<Entry>,
 
 /// Opens the desk with these rows.
 ///
-/// Empty tables open as an empty desk.
+/// Empty tables open as an empty desk. Tables of the format from before there were planned approaches open as if their format row were that
+/// of today.
 ///
 /// # Errors
 ///
 /// `Bad` gives the first row, in order of table and key, that is not a row of a desk: its key or text does not have the form of its table,
-/// it breaks a rule of the register after the rows before it, or it is a case or a request with a wrong number. A missing format row, and
-/// the missing day of a desk with a case, are given likewise. `NoMemory` where memory ran out.
+/// it breaks a rule of the register after the rows before it, it is a case or a request with a wrong number, or an approach is planned in it
+/// in tables of the older format. A missing format row, and the missing day of a desk with a case, are given likewise. `NoMemory` where memory ran out.
 pub fn read_desk(alloc: Global, tables: Tables) -> Result<OpenedDesk, Unread>
     ensures opened { IfOk result (λ d. Opens tables (desk_of d)) }
+    ensures older { IfOk result (λ d. d.is_older ≡ is_older tables) }
     ensures sound { IfOk result (λ d. IsSoundDesk (desk_of d)) }
     ensures bad { IfErr result (λ why. NamesBad tables why) }
 {
     let mut tables = tables;
+    let is_older = renew(alloc, &mut tables)?;
     put_wanting_rows(alloc, &mut tables)?;
-    let part = read_all(alloc, &tables)?;
+    let part = read_all(alloc, &tables, is_older)?;
     Ok(OpenedDesk {
+        is_older,
         register: part.register,
         day: part.day,
         closed: part.closed,

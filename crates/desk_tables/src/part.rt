@@ -5,8 +5,9 @@ ghost use Rattle.airport_register.specs.Amendments.{after_amendment, first_broke
 ghost use Rattle.case_acts.specs.Cases.{IsSound};
 ghost use Rattle.row_register.specs.Desk.{IsValidDesk};
 ghost use Rattle.desk_machine.specs.Machine.{version_of as version};
-ghost use Rattle.desk_tables.specs.Parts.{IsListKnown, IsNewRequest, IsNext, IsNextCase, IsNextDay, IsSoundValue, entry_of_row, put_of as put, unread_part, with_desk_row, with_row};
+ghost use Rattle.desk_tables.specs.Parts.{Follows, IsListKnown, IsNewRequest, IsNext, IsNextCase, IsNextDay, IsSoundValue, entry_of_row, put_of as put, unread_part, with_desk_row, with_row};
 
+use crate::layout::Layout;
 use crate::unread::Untaken;
 use crate::value::RowValue;
 use airfields::Airfield;
@@ -201,16 +202,11 @@ impl Part {
     /// # Errors
     ///
     /// `Bad` exactly where it may not come after the rows before it, `NoMemory` where memory ran out.
-    pub(crate) fn take(
-        &mut self,
-        alloc: Global,
-        is_lone: bool,
-        value: RowValue,
-    ) -> Result<(), Untaken>
+    fn follow(&mut self, alloc: Global, is_lone: bool, value: RowValue) -> Result<(), Untaken>
         requires { IsSoundValue value }
-        ensures ok { OnOk result (IsNext is_lone self.old value
+        ensures ok { OnOk result (Follows is_lone self.old value
             × (self.new ≡ with_row value self.old)) }
-        ensures bad { IfErr result (λ why. why ≡ Untaken.Bad → IsNext is_lone self.old value → ⊥) }
+        ensures bad { IfErr result (λ why. why ≡ Untaken.Bad → Follows is_lone self.old value → ⊥) }
     {
         match value {
             RowValue::Airfield(field) => self.amend(alloc, &put_of(&field)),
@@ -225,5 +221,28 @@ impl Part {
             RowValue::Case(row) => self.take_case(row),
             RowValue::Request(row) => self.take_request(row),
         }
+    }
+
+    /// Adds the data of the next row of tables of this layout.
+    ///
+    /// # Errors
+    ///
+    /// `Bad` exactly where it may not come next in such tables, `NoMemory` where memory ran out.
+    #[tactic(auto, using(crate::proofs::FormatFacts::taken_ok, crate::proofs::FormatFacts::not_allowed))]
+    pub(crate) fn take(
+        &mut self,
+        alloc: Global,
+        layout: Layout,
+        value: RowValue,
+    ) -> Result<(), Untaken>
+        requires { IsSoundValue value }
+        ensures ok { OnOk result (IsNext layout self.old value
+            × (self.new ≡ with_row value self.old)) }
+        ensures bad { IfErr result (λ why. why ≡ Untaken.Bad → IsNext layout self.old value → ⊥) }
+    {
+        if !layout.allows(&value) {
+            return Err(Untaken::Bad);
+        }
+        self.follow(alloc, layout.is_lone, value)
     }
 }

@@ -1,17 +1,20 @@
 //! The values of rows.
 
-ghost use Rattle.std.specs.Prelude.{IfOk, IfSome, IfNone};
+ghost use Rattle.std.specs.Prelude.{◌≡◌, IfOk, IfSome, IfNone};
 ghost use Rattle.oe_keeper.specs.Kept.{place};
+ghost use Rattle.desk_tables.specs.Planned.{plans_amendment, plans_act, plans_row};
 ghost use Rattle.desk_tables.specs.Values.{IsRowOf};
 ghost use Rattle.desk_tables.specs.declared.value.RowValue.{RowValue as Value};
 
 use airfields::Airfield;
+use airport_register::Amendment;
 use grid_exact::NoMemory;
 use oe_keeper::Table;
 use row_cases::{FilingRow, read_filing_row};
 use row_receipts::{ReceiptRow, read_receipt_row};
 use row_register::{DeskRow, RunwayRow, read_airfield_row, read_desk_row, read_runway_row};
 use std::alloc::Global;
+use wire_requests::Act;
 
 /// The value of a row of one of the five tables.
 #[derive(Drop)]
@@ -21,6 +24,39 @@ pub enum RowValue {
     Desk(DeskRow),
     Case(FilingRow),
     Request(ReceiptRow),
+}
+
+/// Whether an approach is planned in an amendment.
+fn is_planned_by(amendment: &Amendment) -> bool
+    ensures { result ≡ plans_amendment amendment.now }
+{
+    match amendment {
+        Amendment::PutRunway { runway, .. } => runway.is_planned(),
+        _ => false,
+    }
+}
+
+/// Whether an approach is planned in an act.
+fn is_planned_in(act: &Act) -> bool
+    ensures { result ≡ plans_act act.now }
+{
+    match act {
+        Act::Amend(amendment) => is_planned_by(amendment),
+        _ => false,
+    }
+}
+
+impl RowValue {
+    /// Whether an approach is planned in it.
+    pub(crate) fn is_planned(&self) -> bool
+        ensures { result ≡ plans_row self.now }
+    {
+        match self {
+            RowValue::Runway(row) => row.runway.is_planned(),
+            RowValue::Request(row) => is_planned_in(&row.change.act),
+            _ => false,
+        }
+    }
 }
 
 /// Reads the value of a row of this table under this key; `None` exactly where it is not a row of the table.

@@ -41,6 +41,7 @@ fn end(x: i64) -> Result<RunwayEnd, Fail> {
         at: Point::new(x, 0)?,
         z: 1_000,
         kind: ApproachKind::Visual,
+        planned: None,
     })
 }
 

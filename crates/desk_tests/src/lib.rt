@@ -12,6 +12,8 @@ mod command_tests;
 #[cfg(test)]
 mod date_tests;
 #[cfg(test)]
+mod format_tests;
+#[cfg(test)]
 mod generator_tests;
 #[cfg(test)]
 mod question_tests;

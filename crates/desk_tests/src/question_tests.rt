@@ -19,7 +19,7 @@ const AIRPORT_ROWS: [(Table, &str, &str); 5] = [
         "AAA 09/27",
         "other,hard,-50000,0,1000,P,50000,0,1000,NA",
     ),
-    (Table::Desk, "format", "1"),
+    (Table::Desk, "format", "2"),
     (
         Table::Receipt,
         "u 1",

@@ -46,9 +46,13 @@ fn written(alloc: Global, line: &[u8]) -> Option<(&'static str, Vec<u8>)> {
 }
 
 /// Records that are written as they stand, each with the word of its form.
-const RECORDS: [(&[u8], &str); 6] = [
+const RECORDS: [(&[u8], &str); 7] = [
     (
         b"runway,abcdefgh.90_ABCD,k,AAA,09/27,utility,soft,-50000,1,1000,NL,50000,2,999,NA",
+        "runway",
+    ),
+    (
+        b"runway,u,k,AAA,09/27,other,hard,-50000,1,1000,V/P,50000,2,999,NA/NL",
         "runway",
     ),
     (

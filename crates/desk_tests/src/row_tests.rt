@@ -66,14 +66,18 @@ fn rows_are_written_as_they_are_read(rt: HostRuntime) {
     let alloc = rt.alloc();
     let heliport = "heliport,private,-5,7,20000000,-20000000,999999999,-999999999";
     assert!(rt; joins(airfield_again(alloc, "H1", heliport), "H1", heliport));
-    let runway = "other,hard,-50000,0,1000,P,50000,0,1000,NA";
-    assert!(rt;
-        joins(
-            runway_again(alloc, "AAA 09/27", runway),
-            "AAA 09/27",
-            runway
-        )
-    );
+    for runway in [
+        "other,hard,-50000,0,1000,P,50000,0,1000,NA",
+        "other,hard,-50000,0,1000,V/P,50000,0,1000,NL/NA",
+    ] {
+        assert!(rt;
+            joins(
+                runway_again(alloc, "AAA 09/27", runway),
+                "AAA 09/27",
+                runway
+            )
+        );
+    }
     assert!(rt; joins(filing_again(alloc, "999999", FILING), "999999", FILING));
     assert!(rt; joins(receipt_again(alloc, "u 1", RECEIPT), "u 1", RECEIPT));
 }
@@ -82,7 +86,7 @@ fn rows_are_written_as_they_are_read(rt: HostRuntime) {
 fn rows_of_the_desk(rt: HostRuntime) {
     let day = Date::new(2026, 3, 1).expect(&rt, "it is a date");
     for (value, key, row) in [
-        (DeskRow::Format, "format", "1"),
+        (DeskRow::Format, "format", "2"),
         (DeskRow::Now(day), "now", "2026-03-01"),
         (DeskRow::Closed(day), "closed 2026-03-01", "-"),
     ] {
@@ -94,4 +98,5 @@ fn rows_of_the_desk(rt: HostRuntime) {
         assert_eq!(rt; row_text.as_str(), row);
         assert!(rt; read_desk_row(key.as_bytes(), row.as_bytes()) == Some(value));
     }
+    assert!(rt; read_desk_row(b"format", b"1").is_none());
 }

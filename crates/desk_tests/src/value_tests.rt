@@ -3,11 +3,10 @@
 use airfields::{Category, FieldId, Flags, RunwayName, StructureKind};
 use case_requests::{Impact, Party};
 use jiff::civil::Date;
-use runway_classes::ApproachKind;
 use std::alloc::Global;
 use wire_values::{
-    CaseNumber, Disposal, FieldValue, Grant, Months, Pavement, Progress, ReportKind, Statement,
-    Urgency, Warrant, Weight, WholeNumber, Word, append_next,
+    Approaches, CaseNumber, Disposal, FieldValue, Grant, Months, Pavement, Progress, ReportKind,
+    Statement, Urgency, Warrant, Weight, WholeNumber, Word, append_next,
 };
 
 /// Whether the value that a text spells is appended as that text, after a comma.
@@ -27,13 +26,33 @@ fn values_are_spelled(rt: HostRuntime) {
     assert!(rt; is_spelled::<RunwayName>(alloc, b"09/27"));
     assert!(rt; is_spelled::<Option<FieldId>>(alloc, b"-"));
     assert!(rt; is_spelled::<Category>(alloc, b"procedure"));
-    assert!(rt; is_spelled::<ApproachKind>(alloc, b"NA"));
+    assert!(rt; is_spelled::<Approaches>(alloc, b"NA"));
+    assert!(rt; is_spelled::<Approaches>(alloc, b"NL/P"));
     assert!(rt; is_spelled::<StructureKind>(alloc, b"interstate"));
     assert!(rt; is_spelled::<Weight>(alloc, b"utility"));
     assert!(rt; is_spelled::<Pavement>(alloc, b"soft"));
     assert!(rt; is_spelled::<Flags>(alloc, b"SDRIGT"));
     assert!(rt; is_spelled::<WholeNumber>(alloc, b"-999999999"));
     assert!(rt; !is_spelled::<Flags>(alloc, b"DS"));
+}
+
+/// What names no approaches of an end.
+#[test]
+fn approaches_that_are_none(rt: HostRuntime) {
+    for text in [
+        b"".as_slice(),
+        b"/P".as_slice(),
+        b"V/".as_slice(),
+        b"N".as_slice(),
+        b"N/P".as_slice(),
+        b"VP".as_slice(),
+        b"V/X".as_slice(),
+        b"V//P".as_slice(),
+        b"V/P/P".as_slice(),
+        b"v/P".as_slice(),
+    ] {
+        assert!(rt; Approaches::parse(text).is_none());
+    }
 }
 
 #[test]

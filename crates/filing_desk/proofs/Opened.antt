@@ -1,15 +1,67 @@
 -- What a clerk is opened as, by what was read.
-use Rattle.std.proofs.Common.{◌≡◌, ℕ, List, [], Option}
-use Rattle.oe_keeper.specs.Kept.{Kept}
-use Rattle.desk_tables.specs.Opening.{Opens}
-use Rattle.filing_desk.specs.Clerks.{Clerking}
-use Rattle.filing_desk.specs.Keepers.{HasLoaded}
-use Rattle.filing_desk.specs.Loads.{NamesBadRow, HasOpenCause}
+use Rattle.std.proofs.Common.{◌≡◌, refl, sym, ap, ◌∙◌, subst, arith, ℕ, ◌≤◌, Bool, true, false, cond, List, [], ◌∷◌, Option}
+use Rattle.std.proofs.Math.Logic.{∥∥₁_elim, ∥∥₁_prop}
+use Rattle.row_register.specs.Desk.{desk_row}
+use Rattle.row_register.specs.declared.desk.DeskRow.TheVariants as days
+use Rattle.oe_keeper.specs.Kept.{Kept, rows_after_changes}
+use Rattle.oe_keeper.specs.Keeping.{Rose}
+use Rattle.desk_machine.specs.States.{State}
+use Rattle.desk_tables.specs.Changes.{put_desk}
+use Rattle.desk_tables.specs.Opening.{in_format, is_older, renewed}
+use Rattle.desk_tables.specs.Rows.{AreRows}
+use Rattle.filing_desk.specs.Handed.{Told}
+use Rattle.filing_desk.specs.Keepers.{HasLoaded, IsLater}
+use Rattle.filing_desk.specs.Loads.{HasOpenCause, HasRenewed, NamesBadRow, StopsRenewal}
 use Rattle.filing_desk.specs.declared.opening.OpenRefusal.{OpenRefusal}
 use Rattle.filing_desk.specs.declared.opening.OpenRefusal.TheVariants as refusals
 
-module _ {K : Type 0} (Tells : K → Kept → Type 0) (Finds : K → Option (List ℕ) → Kept → Type 0) (IsSteady : K → Type 0) (faults : K → ℕ) (keeper : K) (path : Option (List ℕ)) (kept : Kept) (after : K) where
-  pub bad_found : HasLoaded Tells Finds keeper path kept after → (why : OpenRefusal) → NamesBadRow kept why → HasOpenCause Tells Finds IsSteady faults keeper path why
-  bad_found loaded refusals.KeeperFault h = absurd h
-  bad_found loaded (refusals.BadRow table key) h = (kept, after, loaded, h)
-  bad_found loaded refusals.NoMemory h = tt
+module _ {K : Type 0} (Tells : K → Kept → Type 0) where
+  -- rows of today are left alone
+  pub left_alone : (b : Bool) (k : K) → b ≡ false → HasRenewed Tells b k k
+  left_alone b k h = record { made = λ e. absurd (cc (e, h)); same = λ e. refl; silent = λ now is. ∣ (now, is) ∣₁ }
+
+  pub renewed_where : (b : Bool) (k l : K) → b ≡ true → HasRenewed Tells true k l → HasRenewed Tells b k l
+  renewed_where b k l e h = subst (λ t. HasRenewed Tells t k l) (sym e) h
+
+  module _ (kept : Kept) (between after : K) (s : State) (loaded : (now : Kept) → Tells between now → now ≡ kept)
+      (h : HasRenewed Tells (is_older kept) between after) (are : AreRows s (renewed kept)) where
+    now_by : (t : Bool) → is_older kept ≡ t → (mid now : Kept) → Tells between mid → Tells after now → now ≡ renewed kept
+    now_by true e mid now m n =
+        h.made e mid now m n ∙ ap (λ (rows : Kept). rows_after_changes rows (put_desk days.Format ∷ [])) (loaded mid m)
+        ∙ sym (ap (λ b. cond b (in_format (desk_row days.Format) kept) kept) e)
+    now_by false e mid now m n =
+        loaded now (subst (λ k. Tells k now) (h.same e) n) ∙ sym (ap (λ b. cond b (in_format (desk_row days.Format) kept) kept) e)
+
+    -- the rows, where known, are those of the state
+    pub told_renewed : Told Tells after s
+    unfolding Told
+    told_renewed now is =
+        ∥∥₁_elim (h.silent now is) ∥∥₁_prop
+        (λ b. ∣ subst (λ (rows : Kept). AreRows s rows) (sym (now_by (is_older kept) refl b.0 now b.1 is)) are ∣₁)
+
+pub not_asked : {K : Type 0} (IsSteady : K → Type 0) (faults : K → ℕ) (k : K) → IsLater IsSteady faults k k
+not_asked IsSteady faults k = record { steady = λ s. s; counted = omega arith }
+
+rose_since : (a b n : ℕ) → a ≤ b → Rose b n → Rose a n
+rose_since a b n l rose = omega (arith, l, rose)
+
+module _ {K : Type 0} (Tells : K → Kept → Type 0) (Finds : K → Option (List ℕ) → Kept → Type 0) (IsSteady : K → Type 0) (faults : K → ℕ) (keeper : K) (path : Option (List ℕ)) where
+  pub later_twice : (between after : K) → IsLater IsSteady faults keeper between → IsLater IsSteady faults between after → IsLater IsSteady faults keeper after
+  later_twice between after l m = record { steady = λ s. m.steady (l.steady s); counted = omega (arith, l.counted, m.counted) }
+
+  pub bad_found : (kept : Kept) (after : K) → HasLoaded Tells Finds keeper path kept after → (why : OpenRefusal) → NamesBadRow kept why
+      → HasOpenCause Tells Finds IsSteady faults keeper path why
+  bad_found kept after loaded refusals.KeeperFault h = absurd h
+  bad_found kept after loaded (refusals.BadRow table key) h = (kept, after, loaded, h)
+  bad_found kept after loaded refusals.NoMemory h = tt
+
+  -- the change after the load failed
+  pub not_renewed : (between after : K) → IsLater IsSteady faults keeper between → IsLater IsSteady faults between after → (why : OpenRefusal)
+      → StopsRenewal IsSteady faults between after why → HasOpenCause Tells Finds IsSteady faults keeper path why
+  not_renewed between after l m refusals.KeeperFault h = (
+    after,
+    later_twice between after l m,
+    record { unsteady = λ s. h.unsteady (l.steady s); rose = rose_since (faults keeper) (faults between) (faults after) l.counted h.rose },
+  )
+  not_renewed between after l m (refusals.BadRow table key) h = absurd h
+  not_renewed between after l m refusals.NoMemory h = tt

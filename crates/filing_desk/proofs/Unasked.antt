@@ -97,14 +97,9 @@ closed_already d (c ∷ cs) rising is =
       | Greater ↦ λ e. ap (λ (l : List Date). c ∷ l) (closed_already d cs rising.1 (or_right (int_eq (epoch_day d) (epoch_day c)) (is_closed cs (epoch_day d)) is (ap is_eq e)))
     ] refl
 
--- ---- a keeper that was loaded, and one that tells nothing
+-- ---- a keeper that tells nothing
 
 module _ {K : Type 0} (Tells : K → Kept → Type 0) (k : K) where
-  -- the rows that a call answered are all that it tells
-  pub told_loaded : (tables : Kept) (s : State) → ((now : Kept) → Tells k now → now ≡ tables) → AreRows s tables → Told Tells k s
-  unfolding Told
-  told_loaded tables s rows are now is = ∣ subst (λ (r : Kept). AreRows s r) (sym (rows now is)) are ∣₁
-
   pub told_by_none : (s : State) → ((rows : Kept) → Tells k rows → ⊥) → Told Tells k s
   unfolding Told
   told_by_none s none rows is = absurd (none rows is)

@@ -1,17 +1,35 @@
 -- Opening a clerk, and why it fails.
-use Rattle.std.specs.Prelude.{◌≡◌, ℕ, List, [], Option}
+use Rattle.std.specs.Prelude.{◌≡◌, ℕ, Bool, true, false, List, [], ◌∷◌, Option}
 use Rattle.oe_keeper.specs.Kept.{Kept, place}
-use Rattle.desk_tables.specs.Opening.{Opens, IsFirstBad}
+use Rattle.oe_keeper.specs.Keeping.{HasAll, StaysSilent}
+use Rattle.row_register.specs.declared.desk.DeskRow.TheVariants as days
+use Rattle.desk_tables.specs.Changes.{put_desk}
+use Rattle.desk_tables.specs.Opening.{Opens, IsFirstBad, is_older}
 use Rattle.filing_desk.specs.Clerks.{Clerking}
 use Rattle.filing_desk.specs.Keepers.{IsLater, HasFailed, HasLoaded}
 use Rattle.filing_desk.specs.declared.opening.OpenRefusal.{OpenRefusal}
 use Rattle.filing_desk.specs.declared.opening.OpenRefusal.TheVariants.{KeeperFault, BadRow, NoMemory}
 
+-- the keeper after the rows of the older format were brought to that of today by one change; without them it was not asked
+pub record HasRenewed {K : Type 0} (Tells : K → Kept → Type 0) (is_old : Bool) (old new : K) : Type 0 where
+  pub made : is_old ≡ true → HasAll Tells old new (put_desk days.Format ∷ [])
+  pub same : is_old ≡ false → new ≡ old
+  pub silent : StaysSilent Tells old new
+
+-- why it could not be brought there: the keeper failed, or memory ran out
+abbrev pub StopsRenewal : {K : Type 0} → (K → Type 0) → (K → ℕ) → K → K → OpenRefusal → Type 0
+StopsRenewal IsSteady faults old new KeeperFault = HasFailed IsSteady faults old new
+StopsRenewal IsSteady faults old new (BadRow table key) = ⊥
+StopsRenewal IsSteady faults old new NoMemory = Unit {0}
+
 -- a clerk of the desk whose rows a load of the keeper finds at a place; nothing was accepted yet
 pub record IsOpened {K : Type 0} (Tells : K → Kept → Type 0) (Finds : K → Option (List ℕ) → Kept → Type 0) (IsSteady : K → Type 0) (faults : K → ℕ)
     (keeper : K) (path : Option (List ℕ)) (clerk : Clerking K) : Type 0 where
   pub kept : Kept
-  pub loaded : HasLoaded Tells Finds keeper path kept clerk.keeper
+  -- the keeper after the load, and then the clerk's
+  pub between : K
+  pub loaded : HasLoaded Tells Finds keeper path kept between
+  pub renewed : HasRenewed Tells (is_older kept) between clerk.keeper
   pub later : IsLater IsSteady faults keeper clerk.keeper
   pub opens : Opens kept clerk.state
   pub accepted : clerk.accepted ≡ []
@@ -22,7 +40,7 @@ NamesBadRow kept KeeperFault = ⊥
 NamesBadRow kept (BadRow table key) = IsFirstBad kept (place table, key)
 NamesBadRow kept NoMemory = Unit {0}
 
--- why opening failed: the keeper failed; or a row is the first bad one of those that a load of it finds; or memory ran out
+-- why opening failed: the keeper failed, in the load or in the change after it; or a row is the first bad one of those that a load of it finds; or memory ran out
 abbrev pub HasOpenCause : {K : Type 0} → (K → Kept → Type 0) → (K → Option (List ℕ) → Kept → Type 0) → (K → Type 0) → (K → ℕ)
     → K → Option (List ℕ) → OpenRefusal → Type 0
 HasOpenCause {K} Tells Finds IsSteady faults keeper path KeeperFault = (after : K) × IsLater IsSteady faults keeper after × HasFailed IsSteady faults keeper after

@@ -1,16 +1,17 @@
 //! Opening a clerk.
 
-ghost use Rattle.std.specs.Prelude.{◌≡◌, [], IfOk, IfErr, option_copied};
-ghost use Rattle.desk_tables.specs.Opening.{Opens};
+ghost use Rattle.std.specs.Prelude.{◌≡◌, true, [], IfOk, IfErr, OnOk, option_copied};
+ghost use Rattle.desk_tables.specs.Opening.{Opens, is_older, renewed};
 ghost use Rattle.desk_tables.specs.Rows.{AreRows};
 ghost use Rattle.desk_machine.specs.States.{empty};
 ghost use Rattle.filing_desk.specs.Handed.{Told};
-ghost use Rattle.filing_desk.specs.Loads.{HasOpenCause, IsOpened, NamesBadRow};
+ghost use Rattle.filing_desk.specs.Keepers.{IsLater};
+ghost use Rattle.filing_desk.specs.Loads.{HasOpenCause, HasRenewed, IsOpened, NamesBadRow, StopsRenewal};
 
 use crate::clerk::Clerk;
 use crate::desk::Desk;
 use crate::office::Office;
-use desk_tables::{Unread, opened_rows, read_desk};
+use desk_tables::{ChangeList, Unread, opened_rows, read_desk};
 use grid_exact::{NoMemory, Text};
 use oe_keeper::{KeepErr, Keeper, NoKeeper, Table, Tables};
 use reachable_desks::{desk_starts, opened_is_desk};
@@ -38,25 +39,78 @@ impl From<NoMemory> for OpenRefusal {
     }
 }
 
+/// An office that was opened from tables.
+#[derive(Drop)]
+struct OpenedOffice {
+    office: Office,
+    /// Whether the tables were of the format from before there were planned approaches.
+    is_older: bool,
+}
+
 /// Opens an office from the rows of a desk.
 ///
 /// # Errors
 ///
 /// `BadRow` gives the first bad or missing row, `NoMemory` where memory ran out.
-fn office_of(alloc: Global, tables: Tables) -> Result<Office, OpenRefusal>
-    ensures opened { IfOk result (λ o. Opens tables o) }
-    ensures rows { IfOk result (λ o. AreRows o tables) }
+fn office_of(alloc: Global, tables: Tables) -> Result<OpenedOffice, OpenRefusal>
+    ensures opened { IfOk result (λ o. Opens tables o.office) }
+    ensures rows { IfOk result (λ o. AreRows o.office (renewed tables)) }
+    ensures older { IfOk result (λ o. o.is_older ≡ is_older tables) }
     ensures bad { IfErr result (λ why. NamesBadRow tables why) }
 {
     opened_rows();
     match read_desk(alloc, tables) {
-        Ok(opened) => Ok(Office::of(alloc, Desk::of(alloc, opened)?)?),
+        Ok(opened) => {
+            let is_older = opened.is_older;
+            let office = Office::of(alloc, Desk::of(alloc, opened)?)?;
+            Ok(OpenedOffice { office, is_older })
+        }
         Err(Unread::Bad(row)) => Err(OpenRefusal::BadRow {
             table: row.table,
             key: row.key,
         }),
         Err(Unread::NoMemory) => Err(OpenRefusal::NoMemory),
     }
+}
+
+/// Has the keeper put the format row of today, by one change.
+///
+/// # Errors
+///
+/// `KeeperFault` only where the keeper failed, `NoMemory` where memory ran out.
+#[tactic(auto, using(crate::proofs::Opened::not_asked))]
+fn put_format<K: Keeper>(alloc: Global, keeper: &mut K) -> Result<(), OpenRefusal>
+    requires loaded { ∥ K.IsLoaded keeper.old ∥₁ }
+    ensures renewed { OnOk result (HasRenewed K.Tells true keeper.old keeper.new) }
+    ensures loaded { ∥ K.IsLoaded keeper.new ∥₁ }
+    ensures later { IsLater K.IsSteady K.faults keeper.old keeper.new }
+    ensures cause { IfErr result (StopsRenewal K.IsSteady K.faults keeper.old keeper.new) }
+{
+    let list = ChangeList::renewal(alloc)?;
+    match keeper.apply(alloc, list.as_slice()) {
+        Ok(()) => Ok(()),
+        Err(KeepErr::Failed) => Err(OpenRefusal::KeeperFault),
+        Err(KeepErr::NoMemory) => Err(OpenRefusal::NoMemory),
+    }
+}
+
+/// Brings a keeper's rows of the older format to that of today. A keeper of others is not asked.
+///
+/// # Errors
+///
+/// As `put_format`.
+#[tactic(auto, using(crate::proofs::Opened::renewed_where, crate::proofs::Opened::not_asked))]
+fn renew<K: Keeper>(alloc: Global, keeper: &mut K, is_older: bool) -> Result<(), OpenRefusal>
+    requires loaded { ∥ K.IsLoaded keeper.old ∥₁ }
+    ensures renewed { OnOk result (HasRenewed K.Tells is_older keeper.old keeper.new) }
+    ensures loaded { ∥ K.IsLoaded keeper.new ∥₁ }
+    ensures later { IsLater K.IsSteady K.faults keeper.old keeper.new }
+    ensures cause { IfErr result (StopsRenewal K.IsSteady K.faults keeper.old keeper.new) }
+{
+    if !is_older {
+        return Ok(());
+    }
+    put_format(alloc, keeper)
 }
 
 impl<K: Keeper> Clerk<K> {
@@ -76,7 +130,8 @@ impl<K: Keeper> Clerk<K> {
 }
 
 impl<K: Keeper + Drop> Clerk<K> {
-    /// Opens the desk from the rows that the keeper has at this place; an empty desk where it has none.
+    /// Opens the desk from the rows that the keeper has at this place; an empty desk where it has none. Rows of the format from before there
+    /// were planned approaches are brought to that of today, by one change.
     ///
     /// # Errors
     ///
@@ -95,11 +150,15 @@ impl<K: Keeper + Drop> Clerk<K> {
             Err(KeepErr::Failed) => return Err(OpenRefusal::KeeperFault),
             Err(KeepErr::NoMemory) => return Err(OpenRefusal::NoMemory),
         };
-        match office_of(alloc, tables) {
-            Ok(office) => {
-                let base = office.accepted();
+        let opened = match office_of(alloc, tables) {
+            Ok(opened) => opened,
+            Err(why) => return Err(why),
+        };
+        match renew(alloc, &mut keeper, opened.is_older) {
+            Ok(()) => {
+                let base = opened.office.accepted();
                 Ok(Clerk {
-                    office,
+                    office: opened.office,
                     keeper,
                     base,
                 })

@@ -11,7 +11,7 @@ use Rattle.airfields.specs.declared.airfield.Airport.{Airport}
 use Rattle.airfields.specs.declared.limits.TheConstants.{RUNWAY_REACH}
 use Rattle.airfields.specs.declared.runway.Runway.{Runway}
 use Rattle.airfields.specs.Categories.{has_civil_surfaces}
-use Rattle.airfields.specs.Runways.{HasNearEnds, distance_apart, length_square}
+use Rattle.airfields.specs.Runways.{HasNearEnds, effective, distance_apart, length_square}
 use Rattle.runway_lines.specs.Centers.{center}
 use Rattle.runway_lines.specs.declared.end.End.TheVariants.{One, Two}
 use Rattle.runway_lines.proofs.CenterFacts.{extended_near}
@@ -34,14 +34,14 @@ first_near : (arp : Point) (r : Runway) → HasNearEnds arp r → IsNearReferenc
 first_near arp r h = record {
   x = center_near r.hard r.end1.at.x r.end2.at.x arp.x (length_square r) h.end1.x;
   y = center_near r.hard r.end1.at.y r.end2.at.y arp.y (length_square r) h.end1.y;
-  radius = radius_most r.utility (more_precise r.end1.kind r.end2.kind);
+  radius = radius_most r.utility (more_precise (effective r.end1) (effective r.end2));
 }
 
 second_near : (arp : Point) (r : Runway) → HasNearEnds arp r → IsNearReference arp (arc r Two)
 second_near arp r h = record {
   x = center_near r.hard r.end2.at.x r.end1.at.x arp.x (length_square r) h.end2.x;
   y = center_near r.hard r.end2.at.y r.end1.at.y arp.y (length_square r) h.end2.y;
-  radius = radius_most r.utility (more_precise r.end1.kind r.end2.kind);
+  radius = radius_most r.utility (more_precise (effective r.end1) (effective r.end2));
 }
 
 runways_near : (arp : Point) (runways : List Runway) → All (HasNearEnds arp) runways → All (IsNearReference arp) (flat_map arcs_of_runway runways)

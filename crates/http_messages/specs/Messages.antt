@@ -74,6 +74,16 @@ GivesMessage None after i = Unit {0}
 GivesMessage (Some stream) None i = IsBroken i
 GivesMessage (Some stream) (Some left) i = Comes stream i left
 
+-- what is told without a read: a request, a refusal, or want of memory
+abbrev pub IsOfHeld : Incoming → Type 0
+IsOfHeld (incoming.Request method target body close) = Unit {0}
+IsOfHeld (incoming.Refused status) = Unit {0}
+IsOfHeld incoming.NoMemory = Unit {0}
+IsOfHeld incoming.Closed = ⊥
+IsOfHeld incoming.Truncated = ⊥
+IsOfHeld incoming.ReadFault = ⊥
+IsOfHeld incoming.Long = ⊥
+
 -- the bytes that are still to come, where known
 abbrev pub unread_of : Held → Option (List ℕ) → Option (List ℕ)
 unread_of held left = prepend_known held.bytes.items left

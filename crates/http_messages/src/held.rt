@@ -99,7 +99,7 @@ fn read_more<S: Source>(link: &mut S, held: &mut Held) -> Result<bool, ReadEnd>
 }
 
 /// The decision on the held bytes.
-fn look(held: &mut Held, headers: &mut [HeaderSpan; MOST_FIELDS]) -> Decision
+pub(crate) fn look(held: &mut Held, headers: &mut [HeaderSpan; MOST_FIELDS]) -> Decision
     ensures bytes { held.new.bytes.items ≡ held.old.bytes.items }
     ensures taken { held.new.taken ≡ held.old.taken }
     ensures decides { Decides held.new.bytes.items headers.new result }

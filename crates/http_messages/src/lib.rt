@@ -14,8 +14,8 @@ mod status;
 pub use frame::BODY_LIMIT;
 pub use held::Held;
 pub use laws::one_message;
-pub use request::{Incoming, next_request};
-pub use response::{SendErr, write_response};
+pub use request::{Incoming, held_request, next_request};
+pub use response::{SendErr, append_response, write_response};
 pub use status::{
     BODY_TOO_LARGE, HEAD_TOO_LARGE, LENGTH_WANTED, MALFORMED, NO_MEMORY, NO_TRANSFER_ENCODING,
 };

@@ -1,23 +1,23 @@
 //! Reads the next request of a stream.
 
-ghost use Rattle.std.specs.Prelude.{◌≡◌, ◌≤◌, ◌<◌, ◌+◌, ◌-◌, List, ℕ, length};
+ghost use Rattle.std.specs.Prelude.{◌≡◌, ◌≤◌, ◌<◌, ◌+◌, ◌-◌, List, Option, ℕ, length, IfNone, IfSome};
 ghost use Rattle.oe_http.specs.Causes.{Rose};
 ghost use Rattle.oe_http.specs.Pending.{FellBy};
 ghost use Rattle.oe_http.specs.declared.lines.TheConstants.{INPUT_LIMIT};
 ghost use Rattle.httparse.specs.Grammar.{RequestHead};
 ghost use Rattle.httparse.specs.Spans.{IsRequestAt, IsRequestWithin};
 ghost use Rattle.http_heads.specs.declared.decision.TheConstants.{HEAD_LIMIT};
-ghost use Rattle.http_messages.specs.Messages.{GivesMessage, IsBroken, Turns, most_left, unread_of};
+ghost use Rattle.http_messages.specs.Messages.{GivesMessage, IsBroken, IsOfHeld, Turns, most_left, unread_of};
 ghost use Rattle.http_messages.specs.Statuses.{HasStatus};
 ghost use Rattle.http_messages.specs.Given.{HoldsSaid, IsGiven};
 
 use crate::head::read_head;
-use crate::held::{HeadEnd, Held, ReadEnd, drop_front, hold, next_head};
+use crate::held::{HeadEnd, Held, ReadEnd, drop_front, hold, look, next_head};
 use crate::said::{Head, HeadRead};
 use crate::status::{HEAD_TOO_LARGE, MALFORMED};
 use grid_exact::Bytes;
 use http::Method;
-use http_heads::MOST_FIELDS;
+use http_heads::{Decision, MOST_FIELDS};
 use httparse::spans::{EMPTY_HEADER_SPAN, HeaderSpan, RequestSpans};
 use oe_http::Source;
 use std::alloc::Global;
@@ -143,6 +143,55 @@ fn take_request<S: Source>(
         HeadRead::Head(head) => take_body(alloc, link, held, head, spans.len),
         HeadRead::Refused(status) => Incoming::Refused(status),
         HeadRead::NoMemory => Incoming::NoMemory,
+    }
+}
+
+/// Takes the request whose head is held, where its body is held too.
+fn take_held(
+    alloc: Global,
+    held: &mut Held,
+    headers: &[HeaderSpan],
+    spans: RequestSpans,
+) -> Option<Incoming>
+    requires within { IsRequestWithin held.old.bytes.items headers.now spans }
+    requires whole { (head : RequestHead) × IsRequestAt held.old.bytes.items headers.now spans head
+        × (length head.fields ≤ MOST_FIELDS) × (spans.len ≤ HEAD_LIMIT) }
+    ensures gives { IfSome result (λ next. (left : Option (List ℕ))
+        → GivesMessage (unread_of held.old left) (unread_of held.new left) next) }
+    ensures turns { IfSome result (λ next. Turns (most_left held.old) (most_left held.new) next) }
+    ensures status { IfSome result (λ next. HasStatus next) }
+    ensures held { IfSome result (λ next. IsOfHeld next) }
+    ensures none { IfNone result (held.new.bytes.items ≡ held.old.bytes.items) }
+    ensures taken { held.new.taken ≡ held.old.taken }
+{
+    match read_head(alloc, &held.bytes, headers, spans) {
+        HeadRead::Head(head) => {
+            if held.bytes.len() < spans.len + head.size {
+                return None;
+            }
+            Some(give(alloc, held, head, spans.len))
+        }
+        HeadRead::Refused(status) => Some(Incoming::Refused(status)),
+        HeadRead::NoMemory => Some(Incoming::NoMemory),
+    }
+}
+
+/// Takes the next request without a read, where it is held whole or what is held is refused. If not, [`next_request`] reads on.
+pub fn held_request(alloc: Global, held: &mut Held) -> Option<Incoming>
+    ensures gives { IfSome result (λ next. (left : Option (List ℕ))
+        → GivesMessage (unread_of held.old left) (unread_of held.new left) next) }
+    ensures turns { IfSome result (λ next. Turns (most_left held.old) (most_left held.new) next) }
+    ensures status { IfSome result (λ next. HasStatus next) }
+    ensures held { IfSome result (λ next. IsOfHeld next) }
+    ensures none { IfNone result (held.new.bytes.items ≡ held.old.bytes.items) }
+    ensures taken { held.new.taken ≡ held.old.taken }
+{
+    let mut headers = [EMPTY_HEADER_SPAN; MOST_FIELDS];
+    match look(held, &mut headers) {
+        Decision::Whole(spans) => take_held(alloc, held, &headers, spans),
+        Decision::TooLarge => Some(Incoming::Refused(HEAD_TOO_LARGE)),
+        Decision::Malformed => Some(Incoming::Refused(MALFORMED)),
+        Decision::Wanting => None,
     }
 }
 

@@ -75,24 +75,36 @@ fn head_of(
     )
 }
 
-/// The text of a response.
-fn text_of(
+/// Appends a response to a text. `allow` is given where the route has another method: GET where it is true, else POST.
+/// `close` says that the session ends after it.
+///
+/// # Errors
+///
+/// `AllocError` where memory was refused. The text is then unchanged.
+pub fn append_response(
     alloc: Global,
+    text: &mut Vec<u8>,
     status: u16,
     allow: Option<bool>,
     body: &[u8],
     close: bool,
-) -> Result<Vec<u8>, AllocError>
+) -> Result<(), AllocError>
     requires { IsStatusCode status }
-    ensures { IfOk result (λ text. text.items ≡ response_text status allow body.now close) }
+    ensures ok { OnOk result (text.new.items
+        ≡ text.old.items ++ response_text status allow body.now close) }
+    ensures err { OnErr result (text.new.items ≡ text.old.items) }
 {
-    let mut text = head_of(alloc, status, allow, body.len(), close)?.into_bytes();
-    text.extend_from_slice(body)?;
-    Ok(text)
+    let head = head_of(alloc, status, allow, body.len(), close)?;
+    let whole = text.len();
+    text.extend_from_slice(head.as_bytes())?;
+    if text.extend_from_slice(body).is_err() {
+        text.truncate(whole);
+        return Err(AllocError);
+    }
+    Ok(())
 }
 
-/// Writes a response. `allow` is given where the route has another method: GET where it is true, else POST.
-/// `close` says that the session ends after it.
+/// Writes a response, as [`append_response`] appends it.
 ///
 /// # Errors
 ///
@@ -118,8 +130,9 @@ pub fn write_response<O: Sink>(
     ensures cause { IsErrOf result SendErr.WriteFault
         → Rose (O.faults link.old) (O.faults link.new) }
 {
-    match text_of(alloc, status, allow, body, close) {
-        Ok(text) => match write_whole(link, &text) {
+    let mut text = Vec::new(alloc);
+    match append_response(alloc, &mut text, status, allow, body, close) {
+        Ok(()) => match write_whole(link, &text) {
             Ok(()) => Ok(()),
             Err(_) => Err(SendErr::WriteFault),
         },

@@ -1,8 +1,10 @@
 -- The bytes that a session of HTTP has written when it ends.
-use Rattle.std.specs.Prelude.{ℕ, ◌≡◌, ◌⊎◌, false, List, [], ◌++◌, Option, Some, None}
-use Rattle.std.specs.Io.KnownBytes.{Appends}
+use Rattle.std.specs.Prelude.{ℕ, ◌≡◌, ◌<◌, ◌⊎◌, false, List, [], ◌++◌, length, Option, Some, None}
+use Rattle.std.specs.Io.KnownBytes.{Appends, append_known}
 use Rattle.oe_http.specs.Written.{Sent}
 use Rattle.http_messages.specs.Messages.{IsTruncated, IsRefused}
+use Rattle.http_messages.specs.declared.request.Incoming.{Incoming}
+use Rattle.http_messages.specs.declared.request.Incoming.TheVariants as incoming
 use Rattle.http_messages.specs.declared.status.TheConstants.{NO_MEMORY}
 use Rattle.http_session.specs.Machine.{Asks, Step, Exchange, texts, exchange_text, refusal_text, Runs, StaysOpen, ClosesAtLast}
 use Rattle.line_session.specs.declared.session.Ended.{Ended}
@@ -53,19 +55,56 @@ EndsSo step ended before after (Some stream) held_old held_new = Ends step ended
 
 -- ---- for proofs alone
 
--- one request that does not ask to end the session was read and its response written, where the bytes are known
-abbrev pub Goes : {St : Type 0} → Step St → St → St → Option (List ℕ) → Option (List ℕ) → Option (List ℕ) → Option (List ℕ) → Type 0
-Goes step before after None unread held_old held_new = Unit {0}
-Goes step before after (Some stream) None held_old held_new = ⊥
-Goes step before after (Some stream) (Some left) held_old held_new =
-    (e : Exchange) × (e.close ≡ false) × Asks stream e.asked e.close left × step before e.asked e.reply after × Sent held_old held_new (exchange_text e) []
+-- a text that is not empty was written, or a front of it
+abbrev pub WroteFront : Option (List ℕ) → Option (List ℕ) → List ℕ → Type 0
+WroteFront held_old held_new text = (0 < length text) × ((rest : List ℕ) × Sent held_old held_new text rest)
 
--- the response to a refused request was written, or a front of it, or of the 507 response
-abbrev pub RefusesSo : Ended → ℕ → Option (List ℕ) → Option (List ℕ) → Type 0
-RefusesSo (endings.Refused told) status held_old held_new = (told ≡ status) × Sent held_old held_new (refusal_text status) []
-RefusesSo endings.WriteFault status held_old held_new = (rest : List ℕ) × Sent held_old held_new (refusal_text status) rest
-RefusesSo endings.NoMemory status held_old held_new = (rest : List ℕ) × Sent held_old held_new (refusal_text NO_MEMORY) rest
-RefusesSo endings.Closed status held_old held_new = ⊥
-RefusesSo endings.Truncated status held_old held_new = ⊥
-RefusesSo endings.ReadFault status held_old held_new = ⊥
-RefusesSo endings.Long status held_old held_new = ⊥
+-- one request that does not ask to end the session was read, where the bytes are known: of the responses that waited and its own a front was written, and the rest waits
+abbrev pub Goes : {St : Type 0} → Step St → St → St → Option (List ℕ) → Option (List ℕ) → Option (List ℕ) → Option (List ℕ) → List ℕ → List ℕ → Type 0
+Goes step before after None unread held_old held_new waiting_old waiting_new = Unit {0}
+Goes step before after (Some stream) None held_old held_new waiting_old waiting_new = ⊥
+Goes step before after (Some stream) (Some left) held_old held_new waiting_old waiting_new =
+    (e : Exchange) × (e.close ≡ false) × Asks stream e.asked e.close left × step before e.asked e.reply after
+    × Sent held_old held_new (waiting_old ++ exchange_text e) waiting_new
+
+-- the session ended: what waited was written, and then what is written at this end; or not all that waited could be written
+abbrev pub Stops : {St : Type 0} → Step St → Ended → St → St → Option (List ℕ) → Option (List ℕ) → Option (List ℕ) → List ℕ → Type 0
+Stops step ended before after unread held_old held_new waiting =
+    EndsSo step ended before after unread (append_known held_old waiting) held_new
+    ⊎ ((ended ≡ endings.WriteFault) × WroteFront held_old held_new waiting)
+
+-- what waited was written, and the session ended as it was to end; or not all of it could be written
+abbrev pub Finishes : Ended → Ended → Option (List ℕ) → Option (List ℕ) → List ℕ → Type 0
+Finishes wanted ended held_old held_new waiting =
+    ((ended ≡ wanted) × Sent held_old held_new waiting [])
+    ⊎ ((ended ≡ endings.WriteFault) × WroteFront held_old held_new waiting)
+
+-- what waited was written, and then the 507 response or a front of it; or not all that waited could be written
+abbrev pub GivesUp : Ended → Option (List ℕ) → Option (List ℕ) → List ℕ → Type 0
+GivesUp endings.NoMemory held_old held_new waiting = (rest : List ℕ) × Sent (append_known held_old waiting) held_new (refusal_text NO_MEMORY) rest
+GivesUp endings.WriteFault held_old held_new waiting = WroteFront held_old held_new waiting
+GivesUp (endings.Refused status) held_old held_new waiting = ⊥
+GivesUp endings.Closed held_old held_new waiting = ⊥
+GivesUp endings.Truncated held_old held_new waiting = ⊥
+GivesUp endings.ReadFault held_old held_new waiting = ⊥
+GivesUp endings.Long held_old held_new waiting = ⊥
+
+-- what waited was written, and then the response to a refused request; or a front of them; or the session gave up
+abbrev pub RefusesSo : Ended → ℕ → Option (List ℕ) → Option (List ℕ) → List ℕ → Type 0
+RefusesSo (endings.Refused told) status held_old held_new waiting = (told ≡ status) × Sent held_old held_new (waiting ++ refusal_text status) []
+RefusesSo endings.WriteFault status held_old held_new waiting = (rest : List ℕ) × Sent held_old held_new (waiting ++ refusal_text status) rest
+RefusesSo endings.NoMemory status held_old held_new waiting = (rest : List ℕ) × Sent (append_known held_old waiting) held_new (refusal_text NO_MEMORY) rest
+RefusesSo endings.Closed status held_old held_new waiting = ⊥
+RefusesSo endings.Truncated status held_old held_new waiting = ⊥
+RefusesSo endings.ReadFault status held_old held_new waiting = ⊥
+RefusesSo endings.Long status held_old held_new waiting = ⊥
+
+-- a request was read, since the session goes on
+abbrev pub IsRequest : Incoming → Type 0
+IsRequest (incoming.Request method target body close) = Unit {0}
+IsRequest incoming.Closed = ⊥
+IsRequest incoming.Truncated = ⊥
+IsRequest (incoming.Refused status) = ⊥
+IsRequest incoming.ReadFault = ⊥
+IsRequest incoming.Long = ⊥
+IsRequest incoming.NoMemory = ⊥

@@ -132,3 +132,39 @@ fn requests_are_replied_to_in_order_until_the_session_ends(rt: HostRuntime) -> R
     }
     Ok(())
 }
+
+/// A text so many times.
+fn times(alloc: Global, text: &[u8], count: u8) -> Result<Vec<u8>, Fail> {
+    let mut all = Vec::new(alloc);
+    for _ in 0..count {
+        all.extend_from_slice(text)?;
+    }
+    Ok(all)
+}
+
+#[test]
+fn responses_are_gathered_and_written_before_a_read(rt: HostRuntime) -> Result<(), Fail> {
+    let alloc = rt.alloc();
+    // how many requests come whole in the first read, what comes behind them, the read and the write that fail (none: 0), how the session
+    // ends, and how many responses are written
+    let table = [
+        // there is no second write
+        (3, b"".as_slice(), 0, 2, Ended::Closed, 3),
+        // the first write comes before the second read
+        (1, b"GET /b HT".as_slice(), 2, 1, Ended::WriteFault, 0),
+        (1, b"GET /b HT".as_slice(), 2, 0, Ended::ReadFault, 1),
+    ];
+    for (whole, part, read, write, ended, told) in table {
+        let mut bytes = times(alloc, A, whole)?;
+        bytes.extend_from_slice(part)?;
+        let source = FakeSource::new(Bytes::from_vec(bytes), 4096, vec![in alloc; read]?);
+        let mut link = FakeLink::new(source, FakeSink::new(alloc, 1000, vec![in alloc; write]?)?);
+        assert_eq!(rt;
+            echo_all(alloc, &mut Echo { requests: 0 }, &mut link),
+            ended
+        );
+        let wanted = times(alloc, A_TOLD.as_bytes(), told)?;
+        assert_eq!(rt; link.sink().bytes(), wanted.as_slice());
+    }
+    Ok(())
+}

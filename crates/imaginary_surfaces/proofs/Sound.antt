@@ -10,7 +10,7 @@ use Rattle.runway_classes.specs.declared.ApproachKind.TheVariants.{Visual, Nonpr
 use Rattle.runway_classes.specs.Class.{HasSizes, IsFlared, end_class, more_precise, width}
 use Rattle.runway_classes.proofs.Classes.{flared}
 use Rattle.airfields.specs.declared.runway.Runway.{Runway}
-use Rattle.airfields.specs.Runways.{IsProper}
+use Rattle.airfields.specs.Runways.{IsProper, effective}
 use Rattle.runway_lines.specs.declared.end.End.{End}
 use Rattle.runway_lines.specs.declared.end.End.TheVariants.{One, Two}
 use Rattle.runway_lines.specs.Centerlines.{clamped_length, elevation}
@@ -53,12 +53,12 @@ width_sized false NonprecisionLow = omega (arith, ints)
 width_sized false Precision = omega (arith, ints)
 
 end_sized : (r : Runway) (end : End) → HasSizes (end_class_of r end)
-end_sized r One = class_sized r.utility r.end1.kind (more_precise r.end1.kind r.end2.kind)
-end_sized r Two = class_sized r.utility r.end2.kind (more_precise r.end1.kind r.end2.kind)
+end_sized r One = class_sized r.utility (effective r.end1) (more_precise (effective r.end1) (effective r.end2))
+end_sized r Two = class_sized r.utility (effective r.end2) (more_precise (effective r.end1) (effective r.end2))
 
 pub end_flared : (r : Runway) (end : End) → IsFlared (class_of r).width (end_class_of r end)
-end_flared r One = (flared r.utility r.end1.kind r.end2.kind).0
-end_flared r Two = (flared r.utility r.end1.kind r.end2.kind).1
+end_flared r One = (flared r.utility (effective r.end1) (effective r.end2)).0
+end_flared r Two = (flared r.utility (effective r.end1) (effective r.end2)).1
 
 pub end_small : (r : Runway) (end : End) → IsProper r → unsigned_abs (end_of r end).z ≤ 2 ^ 18
 end_small r One p = omega (arith, ints, p.elevation1)
@@ -68,7 +68,7 @@ end_small r Two p = omega (arith, ints, p.elevation2)
 pub approach_sound : (r : Runway) (end : End) → IsProper r → IsApproach (approach_of r end).width (approach_of r end).class (approach_of r end).z
 unfolding approach_of
 approach_sound r end p = record {
-  wide = width_sized r.utility (more_precise r.end1.kind r.end2.kind);
+  wide = width_sized r.utility (more_precise (effective r.end1) (effective r.end2));
   sized = end_sized r end;
   flared = end_flared r end;
   z_size = end_small r end p;
@@ -94,7 +94,7 @@ base_product slope base rise =
 -- ---- the primary surface
 pub primary_wide : (r : Runway) → IsWidth (primary_of r).width
 unfolding primary_of
-primary_wide r = width_sized r.utility (more_precise r.end1.kind r.end2.kind)
+primary_wide r = width_sized r.utility (more_precise (effective r.end1) (effective r.end2))
 
 pub primary_line : (r : Runway) → IsProper r → IsSquare (square (primary_of r).line)
 unfolding primary_of

@@ -4,7 +4,7 @@ use Rattle.grid_exact.specs.Excess.{Surface}
 use Rattle.grid_exact.specs.declared.cap.Cap.{Cap}
 use Rattle.grid_exact.specs.declared.point.Point.{Point}
 use Rattle.airfields.specs.declared.runway.Runway.{Runway}
-use Rattle.airfields.specs.Runways.{is_precision}
+use Rattle.airfields.specs.Runways.{effective, is_precision}
 use Rattle.runway_lines.specs.declared.end.End.{End}
 use Rattle.runway_lines.specs.declared.end.End.TheVariants.{One, Two}
 use Rattle.runway_lines.specs.Ends.{other_end, end_of, line_between, class_of, end_class_of}
@@ -23,7 +23,7 @@ approach_of r end = record {
   width = (class_of r).width;
   class = end_class_of r end;
   z = (end_of r end).z;
-  precision = is_precision (end_of r end).kind;
+  precision = is_precision (effective (end_of r end));
 }
 
 -- the surfaces at a point

@@ -12,6 +12,7 @@ use Rattle.runway_lines.specs.declared.end.End.TheVariants.{One, Two}
 use Rattle.runway_lines.specs.Centerlines.{elevation}
 use Rattle.runway_lines.specs.Ends.{end_class_of}
 use Rattle.airfields.specs.declared.runway.Runway.{Runway}
+use Rattle.airfields.specs.Runways.{effective}
 use Rattle.horizontal_hull.specs.Arcs.{Dome}
 use Rattle.horizontal_hull.specs.declared.sizes.TheConstants.{CONICAL_SLOPE}
 use Rattle.horizontal_hull.specs.Within.{AboveConical, conical_excess, horizontal, horizontal_excess, run_to}
@@ -52,8 +53,8 @@ primary_below r x =
     none_below (primary_covers p (offset p.line x)) (λ z. int_lt (elevation p.profile x) z) (λ z. int_le (elevation p.profile x) z) most_excess (flat_rises (elevation p.profile x))
 
 sized : (r : Runway) (end : End) → HasSizes (end_class_of r end)
-sized r One = end_sized r.utility r.end1.kind (more_precise r.end1.kind r.end2.kind)
-sized r Two = end_sized r.utility r.end2.kind (more_precise r.end1.kind r.end2.kind)
+sized r One = end_sized r.utility (effective r.end1) (more_precise (effective r.end1) (effective r.end2))
+sized r Two = end_sized r.utility (effective r.end2) (more_precise (effective r.end1) (effective r.end2))
 
 slopes : (past : Bool) (a b : ℤ) → pos 0 <ℤ a → pos 0 <ℤ b → pos 0 <ℤ cond past a b
 slopes true a b h k = h

@@ -9,7 +9,8 @@ use Rattle.oe_keeper.specs.declared.change.Table.TheVariants as tables
 use Rattle.line_session.specs.Machine.{Step, Starts}
 use Rattle.line_session.specs.Session.{AnsweredFront, Begun}
 use Rattle.desk_machine.specs.States.{State, empty, last_number}
-use Rattle.desk_tables.specs.Opening.{Opens, IsFirstBad, count_of, is_in, with_format, with_today, with_wanting}
+use Rattle.desk_tables.specs.Opening.{Opens, IsFirstBad, count_of, is_in, renewed, with_format, with_today, with_wanting}
+use Rattle.desk_tables.proofs.RowsRead.{none_renewed}
 use Rattle.oe_keeper.specs.contracts.no_keeper.NoKeeperKeeper.TheImpl as unkept
 use Rattle.oe_keeper.specs.declared.no_keeper.NoKeeper.{NoKeeper}
 use Rattle.line_desk.specs.Desk.{Plain}
@@ -42,7 +43,8 @@ none_bad : (m : Kept) (k : Key) → maps.len m ≡ 0 → IsFirstBad m k → ⊥
 none_bad m k e bad =
     let format : with_format m ≡ m = whole (maps.len m) m _ e in
     let today : with_today m ≡ m = whole (count_of (is_in tables.Filing) m) m _ (ap (λ es. length (filter (is_in tables.Filing) es)) (no_entries m e)) in
-    let none : maps.entries (with_wanting m) ≡ [] = ap maps.entries (ap with_today format ∙ today) ∙ no_entries m e in
+    let none : maps.entries (with_wanting (renewed m)) ≡ [] =
+    ap (λ (n : Kept). maps.entries (with_wanting n)) (none_renewed m e) ∙ ap maps.entries (ap with_today format ∙ today) ∙ no_entries m e in
     cc (sym (ap (λ es. slice_get es bad.place_of) none) ∙ bad.at.row)
 
 -- ---- nothing was read and nothing written

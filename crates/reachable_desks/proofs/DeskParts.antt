@@ -1,5 +1,5 @@
 -- What was read so far of tables, as a part of a desk.
-use Rattle.std.proofs.Common.{◌≡◌, refl, sym, ap, ◌∙◌, subst, arith, ℕ, ◌-◌, ◌<◌, ◌≤◌, ◌^◌, Bool, List, [], ◌∷◌, ◌++◌, length, length-append, All}
+use Rattle.std.proofs.Common.{◌≡◌, refl, sym, ap, ◌∙◌, subst, arith, ℕ, ◌-◌, ◌<◌, ◌≤◌, ◌^◌, List, [], ◌∷◌, ◌++◌, length, length-append, All}
 use Rattle.std.proofs.Common.{Option, Some, None, IfSome, slice_get, slice_set, replicate}
 use Rattle.std.specs.FinMap as maps
 use Rattle.std.proofs.lemmas.List.{length-replicate, length-set}
@@ -38,6 +38,7 @@ use Rattle.reachable_desks.proofs.SteppedDesks.{RegisterGoesOn}
 use Rattle.desk_tables.specs.Tables.{AreReceipts, entry_row, found_in}
 use Rattle.desk_tables.specs.Parts.{Part, IsNewRequest, IsNextCase, entries_of, entry_of_row, put_of, with_desk_row}
 use Rattle.desk_tables.specs.Opening.{count_of, is_in, unread_of}
+use Rattle.desk_tables.specs.declared.layout.Layout.{Layout}
 use Rattle.desk_tables.specs.declared.value.RowValue.TheVariants.{Airfield as AnAirfield, Runway, Desk, Case, Request}
 use Rattle.desk_tables.proofs.RequestRows.{no_entries}
 use Rattle.reachable_desks.proofs.Owners.{entry_like, own_with}
@@ -156,15 +157,15 @@ request_at n p key row v is next room = (
 
 -- ---- a row of any table
 
-pub keeps_part : RegisterGoesOn → (kept : Kept) (b : Bool) (n : ℕ) → IsKept kept b (IsDeskPart n)
+pub keeps_part : RegisterGoesOn → (kept : Kept) (b : Layout) (n : ℕ) → IsKept kept b (IsDeskPart n)
 keeps_part law kept b n so_far p r (AnAirfield v) are at is next h = record {
-  airfields = amended law p.register (put_of v) h.airfields next (puts_names v (subst IsFieldId is.1.key_is is.1.named));
+  airfields = amended law p.register (put_of v) h.airfields next.0 (puts_names v (subst IsFieldId is.1.key_is is.1.named));
   days = h.days;
   cases = h.cases;
   entries = h.entries;
 }
 keeps_part law kept b n so_far p r (Runway v) are at is next h = record {
-  airfields = amended law p.register (PutRunway v.id v.runway) h.airfields next is.1.runway_named;
+  airfields = amended law p.register (PutRunway v.id v.runway) h.airfields next.0 is.1.runway_named;
   days = h.days;
   cases = h.cases;
   entries = h.entries;
@@ -173,7 +174,7 @@ keeps_part law kept b n so_far p r (Desk v) are at is next h = day_read n p v h 
 keeps_part law kept b n so_far p r (Case v) are at is next h = record {
   airfields = h.airfields;
   days = h.days;
-  cases = case_read n p v h is.1.plain next;
+  cases = case_read n p v h is.1.plain next.0;
   entries = h.entries;
 }
 keeps_part law kept b n so_far p r (Request v) are at is next h =
@@ -184,5 +185,5 @@ keeps_part law kept b n so_far p r (Request v) are at is next h =
       airfields = h.airfields;
       days = h.days;
       cases = h.cases;
-      entries = request_read n p.requests (v.number - 1) (entry_of_row v) h.entries next.free none (request_at n p r.0.1 r.1 v is.1 next h.entries.room);
+      entries = request_read n p.requests (v.number - 1) (entry_of_row v) h.entries next.0.free none (request_at n p r.0.1 r.1 v is.1 next.0 h.entries.room);
     }

@@ -14,8 +14,9 @@ use Rattle.desk_machine.specs.declared.entry.Entry.{Entry}
 use Rattle.reachable_desks.specs.Desks.{IsCaseOf, IsDesk, IsEntryOf}
 use Rattle.reachable_desks.proofs.SteppedDesks.{RegisterGoesOn}
 use Rattle.desk_tables.specs.Values.{Row, IsRowOf}
-use Rattle.desk_tables.specs.Parts.{Part, IsNext, Reads, entries_of, entry_of_row, state_of, with_row}
-use Rattle.desk_tables.specs.Opening.{Opens, ReadsAll, count_of, is_in, is_lone, unread_of, with_wanting}
+use Rattle.desk_tables.specs.Parts.{Part, Follows, Reads, entries_of, entry_of_row, state_of, with_row}
+use Rattle.desk_tables.specs.Opening.{Opens, ReadsAll, count_of, is_in, is_older, layout_of, renewed, unread_of, with_wanting}
+use Rattle.desk_tables.specs.declared.layout.Layout.{Layout}
 use Rattle.desk_tables.specs.declared.value.RowValue.{RowValue}
 use Rattle.desk_tables.specs.declared.value.RowValue.TheVariants.{Airfield as AnAirfield, Runway, Desk, Case, Request}
 use Rattle.desk_tables.proofs.RequestRows.{no_entries}
@@ -41,7 +42,7 @@ day_counted days.Format p = refl
 day_counted (days.Now d) p = refl
 day_counted (days.Closed d) p = refl
 
-row_counted : (b : Bool) (r : Row) (rs : List Row) (p : Part) (v : RowValue) → IsRowOf r v → IsNext b p v
+row_counted : (b : Bool) (r : Row) (rs : List Row) (p : Part) (v : RowValue) → IsRowOf r v → Follows b p v
     → length (entries_of (with_row v p).requests) + requests_in rs ≡ length (entries_of p.requests) + requests_in (r ∷ rs)
 row_counted b r rs p (AnAirfield v) is next = ap (λ n. length (entries_of p.requests) + n) (sym (not_counted r rs 0 is.0 refl))
 row_counted b r rs p (Runway v) is next = ap (λ n. length (entries_of p.requests) + n) (sym (not_counted r rs 1 is.0 refl))
@@ -57,14 +58,14 @@ row_counted b r rs p (Request v) is next =
     ap length more.new ∙ length_with more.front more.rest (entry_of_row v) in
     omega (arith, counted, old, new)
 
-counted : (b : Bool) (rows : List Row) (p q : Part) → Reads b p rows q → length (entries_of q.requests) ≡ length (entries_of p.requests) + requests_in rows
+counted : (b : Layout) (rows : List Row) (p q : Part) → Reads b p rows q → length (entries_of q.requests) ≡ length (entries_of p.requests) + requests_in rows
 counted b [] p q reads = ap (λ (t : Part). length (entries_of t.requests)) (sym reads) ∙ omega arith
-counted b (r ∷ rs) p q reads = counted b rs (with_row reads.0 p) q reads.3 ∙ row_counted b r rs p reads.0 reads.1 reads.2
+counted b (r ∷ rs) p q reads = counted b rs (with_row reads.0 p) q reads.3 ∙ row_counted b.is_lone r rs p reads.0 reads.1 reads.2.0
 
-pub all_counted : (kept : Kept) (q : Part) → ReadsAll kept q → length (entries_of q.requests) ≡ count_of (is_in tables.Receipt) kept
-all_counted kept q reads =
+pub all_counted : (old : Bool) (kept : Kept) (q : Part) → ReadsAll old kept q → length (entries_of q.requests) ≡ count_of (is_in tables.Receipt) kept
+all_counted old kept q reads =
     let n = count_of (is_in tables.Receipt) kept in
-    counted (is_lone kept) (maps.entries kept) (unread_of kept) q reads ∙ ap (λ (es : List Entry). length es + n) (no_entries n) ∙ omega arith
+    counted (layout_of old kept) (maps.entries kept) (unread_of kept) q reads ∙ ap (λ (es : List Entry). length es + n) (no_entries n) ∙ omega arith
 
 -- ---- the desk
 
@@ -109,10 +110,10 @@ part_is_desk n q h count =
       counted = few (entries_of q.requests) n told_all;
     }
 
-pub read_desk : RegisterGoesOn → (kept : Kept) (q : Part) → ReadsAll kept q → IsDesk (state_of q)
-read_desk law kept q reads =
+pub read_desk : RegisterGoesOn → (old : Bool) (kept : Kept) (q : Part) → ReadsAll old kept q → IsDesk (state_of q)
+read_desk law old kept q reads =
     let n = count_of (is_in tables.Receipt) kept in
-    part_is_desk n q (kept_on kept (IsDeskPart n) q (keeps_part law kept (is_lone kept) n) reads (nothing_read kept)) (all_counted kept q reads)
+    part_is_desk n q (kept_on old kept (IsDeskPart n) q (keeps_part law kept (layout_of old kept) n) reads (nothing_read kept)) (all_counted old kept q reads)
 
 pub opened_desk : RegisterGoesOn → (s : State) (kept : Kept) → Opens kept s → IsDesk s
-opened_desk law s kept opens = subst IsDesk (sym opens.state) (read_desk law (with_wanting kept) opens.part opens.reads)
+opened_desk law s kept opens = subst IsDesk (sym opens.state) (read_desk law (is_older kept) (with_wanting (renewed kept)) opens.part opens.reads)

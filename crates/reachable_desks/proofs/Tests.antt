@@ -6,7 +6,7 @@ use Rattle.runway_classes.specs.declared.ApproachKind.{ApproachKind}
 use Rattle.runway_classes.specs.declared.ApproachKind.TheVariants.{Visual, NonprecisionAbove, NonprecisionLow, Precision}
 use Rattle.grid_exact.specs.declared.point.Point.{Point}
 use Rattle.grid_exact.proofs.TestFacts.{le_out}
-use Rattle.airfields.specs.Runways.{length_square, is_within_length, IsElevation, is_elevation, has_elevations, is_precision, is_precision_on_utility}
+use Rattle.airfields.specs.Runways.{effective, length_square, is_within_length, IsElevation, is_elevation, has_elevations, is_precision, is_precision_on_utility}
 use Rattle.airfields.specs.Runways.{IsProper, distance_apart, IsNear, is_near, HasNearEnds, has_near_ends}
 use Rattle.airfields.specs.Airfields.{axis_square, has_heliport_shape, IsHeldHeliport}
 use Rattle.airfields.specs.declared.limits.TheConstants.{ELEVATION_LEAST, ELEVATION_MOST, RUNWAY_LEAST, RUNWAY_MOST, RUNWAY_REACH}
@@ -49,6 +49,6 @@ classed_by : (utility : Bool) (a b : ApproachKind) → (utility ≡ true → a �
 classed_by false a b p q = refl
 classed_by true a b p q = rw (no_precision a (p refl), no_precision b (q refl)) refl
 
--- no end of a utility runway is a precision one
+-- no end of a utility runway has or is planned for a precision approach
 pub class_passes : (r : Runway) → IsProper r → is_precision_on_utility r ≡ false
-class_passes r h = classed_by r.utility r.end1.kind r.end2.kind h.no_precision1 h.no_precision2
+class_passes r h = classed_by r.utility (effective r.end1) (effective r.end2) h.no_precision1 h.no_precision2

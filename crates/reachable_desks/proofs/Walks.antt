@@ -10,7 +10,8 @@ use Rattle.desk_tables.specs.Rows.{AreTables}
 use Rattle.desk_tables.proofs.Bare.{bare_rows}
 use Rattle.desk_tables.specs.Values.{Row, IsRowOf}
 use Rattle.desk_tables.specs.Parts.{Part, IsNext, Reads, state_of, with_row}
-use Rattle.desk_tables.specs.Opening.{ReadsAll, count_of, is_in, is_lone, unread_of}
+use Rattle.desk_tables.specs.Opening.{ReadsAll, count_of, is_in, layout_of, unread_of}
+use Rattle.desk_tables.specs.declared.layout.Layout.{Layout}
 use Rattle.desk_tables.specs.declared.value.RowValue.{RowValue}
 use Rattle.desk_tables.proofs.RequestRows.{no_entries}
 use Rattle.desk_tables.proofs.RowsTaken.{taken}
@@ -24,7 +25,7 @@ HasRead p so_far = AreTables p.has_format (state_of p) so_far
 abbrev IsSplit : Kept → List Row → List Row → Type 0
 IsSplit whole xs ys = maps.entries whole ≡ xs ++ ys
 
-module _ (whole : Kept) (b : Bool) where
+module _ (whole : Kept) (b : Layout) where
   next_split : (xs rs : List Row) (r : Row) → IsSplit whole xs (r ∷ rs) → IsSplit whole (xs ++ r ∷ []) rs
   next_split xs rs r rows = rows ∙ sym (append_assoc xs (r ∷ []) rs)
 
@@ -34,7 +35,7 @@ module _ (whole : Kept) (b : Bool) where
   one_more xs r p v are new is next =
       subst (λ k. HasRead (with_row v p) k)
       (sym (maps.from_entries_push key_cmp_total key_cmp-same xs r.0 r.1 (sym (maps.get-from_entries key_cmp_total xs r.0) ∙ new)))
-      (taken b p (maps.from_entries xs) r v are new is next)
+      (taken b.is_lone p (maps.from_entries xs) r v are new is next.0)
 
   module _ (P : Part → Type 0) where
     -- each row that is read keeps it
@@ -74,9 +75,9 @@ none_read : (kept : Kept) → HasRead (unread_of kept) (maps.from_entries [])
 none_read kept = subst (λ (es : List Entry). AreTables false (record empty { entries = es }) maps.empty)
     (sym (no_entries (count_of (is_in tables.Receipt) kept))) bare_rows
 
-pub kept_on : (kept : Kept) (P : Part → Type 0) (q : Part) → IsKept kept (is_lone kept) P → ReadsAll kept q → P (unread_of kept) → P q
-kept_on kept P q keeps reads h = kept_from kept (is_lone kept) P keeps (maps.entries kept) [] (unread_of kept) q refl (none_read kept) reads h
+pub kept_on : (old : Bool) (kept : Kept) (P : Part → Type 0) (q : Part) → IsKept kept (layout_of old kept) P → ReadsAll old kept q → P (unread_of kept) → P q
+kept_on old kept P q keeps reads h = kept_from kept (layout_of old kept) P keeps (maps.entries kept) [] (unread_of kept) q refl (none_read kept) reads h
 
-pub goes_on : (kept : Kept) (P : Part → Type 0) → GoesOn kept (is_lone kept) P → P (unread_of kept)
-    → IsReadTo kept (is_lone kept) P (unread_of kept) (maps.entries kept)
-goes_on kept P goes h = goes_from kept (is_lone kept) P goes (maps.entries kept) [] (unread_of kept) refl (none_read kept) h
+pub goes_on : (old : Bool) (kept : Kept) (P : Part → Type 0) → GoesOn kept (layout_of old kept) P → P (unread_of kept)
+    → IsReadTo kept (layout_of old kept) P (unread_of kept) (maps.entries kept)
+goes_on old kept P goes h = goes_from kept (layout_of old kept) P goes (maps.entries kept) [] (unread_of kept) refl (none_read kept) h

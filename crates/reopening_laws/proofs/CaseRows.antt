@@ -17,10 +17,11 @@ use Rattle.desk_machine.specs.States.{State, case_at}
 use Rattle.desk_tables.specs.Rows.{AreTables}
 use Rattle.desk_tables.specs.Tables.{Today, filing_found, found_in}
 use Rattle.desk_tables.specs.Parts.{Part}
+use Rattle.desk_tables.specs.declared.layout.Layout.{Layout}
 use Rattle.desk_tables.specs.declared.value.RowValue.TheVariants.{Case}
 use Rattle.reachable_desks.specs.Desks.{IsCaseOf, IsDesk}
 use Rattle.reopening_laws.proofs.CaseKeys.{keys_rise, number_again, number_in}
-use Rattle.reopening_laws.proofs.PartsOf.{ComesIn, IsPartOf}
+use Rattle.reopening_laws.proofs.PartsOf.{ComesIn, IsPartOf, either_format}
 use Rattle.reachable_desks.proofs.Places.{all_at, mapped, past, unmapped}
 use Rattle.reopening_laws.proofs.RowNames.{name_found}
 use Rattle.reachable_desks.proofs.RowsInOrder.{ComesAt}
@@ -51,7 +52,7 @@ case_there cases number l = by (number == 0) refl
 none_past : (cases : List KeptCase) (number : ℕ) → 1 ≤ number → case_at cases number ≡ None → length cases < number
 none_past cases number l none = omega (arith, l, past cases (number - 1) (sym (case_there cases number l) ∙ none))
 
-module _ (s : State) (desk : IsDesk s) (n : ℕ) (b f : Bool) (kept so_far : Kept) (are : AreTables f s kept) (p : Part) (read : HasRead p so_far)
+module _ (s : State) (desk : IsDesk s) (n : ℕ) (b : Layout) (f : Bool) (kept so_far : Kept) (are : AreTables f s kept) (p : Part) (read : HasRead p so_far)
     (part : IsPartOf s n p) (room : length s.entries ≤ n) where
   -- the desk's day was read
   day_read : (c : KeptCase) (i : ℕ) → slice_get s.cases i ≡ Some c → maps.get so_far (2, codes "now") ≡ maps.get kept (2, codes "now") → p.day ≢ None
@@ -90,12 +91,15 @@ module _ (s : State) (desk : IsDesk s) (n : ℕ) (b f : Bool) (kept so_far : Kep
       record {
         value = Case (record { number = number; case = c });
         is = (refl, record { key_is = refl; row_is = sym row; numbered = is_case; plain = of.plain });
-        next = record {
-          day = day_read c (number - 1) place.at (comes.below (2, codes "now") refl);
-          room = omega (arith, above, within, desk.most, place.counted);
-          next = omega (arith, above, below);
-          list = IfSome_then c.list of.list (λ list known. omega (arith, known, room, part.room));
-        };
+        next = (
+          record {
+            day = day_read c (number - 1) place.at (comes.below (2, codes "now") refl);
+            room = omega (arith, above, within, desk.most, place.counted);
+            next = omega (arith, above, below);
+            list = IfSome_then c.list of.list (λ list known. omega (arith, known, room, part.room));
+          },
+          either_format b.is_old,
+        );
         part = record { register = part.register; room = part.room; entries = part.entries };
       }
 

@@ -14,23 +14,24 @@ use Rattle.desk_machine.specs.States.{State}
 use Rattle.desk_tables.specs.Rows.{AreTables}
 use Rattle.desk_tables.specs.Tables.{ClosedOn, DayName, Format, IsDayName, Today, day_found, day_key, found_in}
 use Rattle.desk_tables.specs.Parts.{Part}
+use Rattle.desk_tables.specs.declared.layout.Layout.{Layout}
 use Rattle.desk_tables.specs.declared.value.RowValue.TheVariants.{Desk}
 use Rattle.reachable_desks.specs.Desks.{IsDesk}
 use Rattle.reopening_laws.proofs.ClosedSets.{closed_limited}
-use Rattle.reopening_laws.proofs.PartsOf.{ComesIn, IsPartOf}
+use Rattle.reopening_laws.proofs.PartsOf.{ComesIn, IsPartOf, either_format}
 use Rattle.reachable_desks.proofs.Places.{mapped}
 use Rattle.reopening_laws.proofs.RowNames.{day_named, day_sure, name_found}
 use Rattle.reachable_desks.proofs.RowsInOrder.{ComesAt}
 
-module _ (s : State) (desk : IsDesk s) (n : ℕ) (b f : Bool) (kept so_far : Kept) (are : AreTables f s kept) (p : Part) (part : IsPartOf s n p)
-    (lone : f ≡ true → b ≡ false) where
+module _ (s : State) (desk : IsDesk s) (n : ℕ) (b : Layout) (f : Bool) (kept so_far : Kept) (are : AreTables f s kept) (p : Part) (part : IsPartOf s n p)
+    (lone : f ≡ true → b.is_lone ≡ false) where
   day_by : (name : DayName) (text : List ℕ) → day_found f s.day s.closed name ≡ Some text → ComesIn s n b p ((2, day_key name), text)
   day_by Format text row =
       let shows = cond_some f (desk_row rows.Format) text row in
       record {
         value = Desk rows.Format;
         is = (refl, record { key_is = refl; row_is = sym shows.1; valid = tt });
-        next = lone shows.0;
+        next = (lone shows.0, either_format b.is_old);
         part = record { register = part.register; room = part.room; entries = part.entries };
       }
   day_by Today text row =
@@ -38,7 +39,7 @@ module _ (s : State) (desk : IsDesk s) (n : ℕ) (b f : Bool) (kept so_far : Kep
       record {
         value = Desk (rows.Now day.0);
         is = (refl, record { key_is = refl; row_is = sym day.2; valid = subst (λ (o : Option Date). IfSome o IsLimited) day.1 desk.day });
-        next = tt;
+        next = (tt, either_format b.is_old);
         part = record { register = part.register; room = part.room; entries = part.entries };
       }
   day_by (ClosedOn d) text row =
@@ -46,7 +47,7 @@ module _ (s : State) (desk : IsDesk s) (n : ℕ) (b f : Bool) (kept so_far : Kep
       record {
         value = Desk (rows.Closed d);
         is = (refl, record { key_is = refl; row_is = sym shows.1; valid = closed_limited d s.closed desk.closed.limited shows.0 });
-        next = tt;
+        next = (tt, either_format b.is_old);
         part = record { register = part.register; room = part.room; entries = part.entries };
       }
 

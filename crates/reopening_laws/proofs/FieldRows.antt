@@ -1,5 +1,5 @@
 -- The rows of a desk's airfields and runways can be read.
-use Rattle.std.proofs.Common.{◌≡◌, ◌≢◌, refl, sym, ap, ◌∙◌, subst, arith, ℕ, ℤ, List, [], Bool, All, Option, Some, None}
+use Rattle.std.proofs.Common.{◌≡◌, ◌≢◌, refl, sym, ap, ◌∙◌, subst, arith, ℕ, ℤ, List, [], Bool, true, false, All, Option, Some, None, IfSome}
 use Rattle.std.specs.Option.{option_map}
 use Rattle.std.specs.FinMap as maps
 use Rattle.std.proofs.lemmas.Cmp.{nat_list_cmp_total}
@@ -7,7 +7,7 @@ use Rattle.std.proofs.lemmas.Int.{ints}
 use Rattle.whole_number.specs.Whole.{HasNineDigits}
 use Rattle.ordered_list.proofs.Rising.{found_holds, found_key}
 use Rattle.airfields.specs.Names.{IsFieldId, IsRunwayName, name_cmp}
-use Rattle.airfields.specs.Runways.{IsElevation, IsProper, name_of, runway_at}
+use Rattle.airfields.specs.Runways.{IsElevation, IsProper, is_planned, name_of, runway_at}
 use Rattle.airfields.specs.Airfields.{id_of}
 use Rattle.airfields.specs.declared.runway.Runway.{Runway}
 use Rattle.airfields.specs.declared.airfield.Airport.{Airport}
@@ -25,9 +25,11 @@ use Rattle.desk_machine.specs.States.{State}
 use Rattle.desk_tables.specs.Rows.{AreTables}
 use Rattle.desk_tables.specs.Tables.{HasFieldId, RunwayName, field_found, field_key, found_in, runway_found, runway_key, runway_of, runway_text}
 use Rattle.desk_tables.specs.Parts.{Part}
+use Rattle.desk_tables.specs.Planned.{PlansNothing}
+use Rattle.desk_tables.specs.declared.layout.Layout.{Layout}
 use Rattle.desk_tables.specs.declared.value.RowValue.TheVariants.{Airfield as AnAirfield, Runway as ARunway}
 use Rattle.reachable_desks.specs.Desks.{IsDesk}
-use Rattle.reopening_laws.proofs.PartsOf.{ComesIn, IsPartOf, PartsGrow}
+use Rattle.reopening_laws.proofs.PartsOf.{ComesIn, IsPartOf, PartsGrow, either_format, format_allows}
 use Rattle.reachable_desks.proofs.Places.{mapped, unmapped}
 use Rattle.reopening_laws.proofs.RowNames.{name_found, runway_named, runway_sure}
 use Rattle.reachable_desks.proofs.RowsInOrder.{ComesAt}
@@ -51,8 +53,8 @@ field_id xs id v h at = subst IsFieldId (found_named id v xs at) (id_named v (fo
 bare : Airport → Airport
 bare a = record a { runways = [] }
 
-module _ (grow : PartsGrow) (s : State) (desk : IsDesk s) (n : ℕ) (b f : Bool) (kept so_far : Kept) (are : AreTables f s kept) (p : Part)
-    (read : HasRead p so_far) (part : IsPartOf s n p) where
+module _ (grow : PartsGrow) (s : State) (desk : IsDesk s) (n : ℕ) (b : Layout) (f : Bool) (kept so_far : Kept) (are : AreTables f s kept) (p : Part)
+    (read : HasRead p so_far) (part : IsPartOf s n p) (plain : b.is_old ≡ true → PlansNothing s) where
   -- no airfield of this name is read, where its row was not
   unread_field : (id : List ℕ) → IsFieldId id → maps.get so_far (0, id) ≡ None → airfield_at p.register id ≡ None
   unread_field id named new = unmapped airfield_row (airfield_at p.register id) (sym (read.airfields.there id named) ∙ new)
@@ -69,7 +71,7 @@ module _ (grow : PartsGrow) (s : State) (desk : IsDesk s) (n : ℕ) (b f : Bool)
       record {
         value = AnAirfield (fields.Airport (bare a));
         is = (refl, record { key_is = sym same; row_is = sym row; named = is_id; plain = (nine_digits a.elevation held.elevation, refl) });
-        next = comes.0;
+        next = (comes.0, either_format b.is_old);
         part = record { register = comes.1; room = part.room; entries = part.entries };
       }
   field_by id text (fields.Heliport a) at row new =
@@ -82,7 +84,7 @@ module _ (grow : PartsGrow) (s : State) (desk : IsDesk s) (n : ℕ) (b f : Bool)
       record {
         value = AnAirfield (fields.Heliport a);
         is = (refl, record { key_is = sym same; row_is = sym row; named = is_id; plain = (width, nine_digits a.elevation held.elevation) });
-        next = comes.0;
+        next = (comes.0, either_format b.is_old);
         part = record { register = comes.1; room = part.room; entries = part.entries };
       }
 
@@ -129,7 +131,7 @@ module _ (grow : PartsGrow) (s : State) (desk : IsDesk s) (n : ℕ) (b f : Bool)
             plain = (nine_digits r.end1.z proper.elevation1, nine_digits r.end2.z proper.elevation2);
           },
         );
-        next = comes.0;
+        next = (comes.0, format_allows b.is_old (is_planned r) (λ old. subst (λ (o : Option Runway). IfSome o (λ (q : Runway). is_planned q ≡ false)) whole (PlansNothing.runways (plain old) name)));
         part = record { register = comes.1; room = part.room; entries = part.entries };
       }
 

@@ -9,6 +9,7 @@ pub mod DayRows
 pub mod CaseRows
 pub mod RequestsIn
 pub mod NoneWanting
+pub mod OlderRows
 pub mod NotAlone
 pub mod SameDesks
 pub mod OpensAgain

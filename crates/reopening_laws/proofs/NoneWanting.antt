@@ -41,15 +41,15 @@ equal Greater h = absurd (cc (h))
 
 -- ---- a row that is there is counted
 
-some_counted : (c : Bool) (r : Row) (rest : List Row) → c ≡ true → length (cond c (r ∷ rest) rest) ≡ 0 → ⊥
+pub some_counted : (c : Bool) (r : Row) (rest : List Row) → c ≡ true → length (cond c (r ∷ rest) rest) ≡ 0 → ⊥
 some_counted true r rest h none = absurd (omega (arith, none))
 some_counted false r rest h none = absurd (cc (h))
 
-rest_counted : (c : Bool) (r : Row) (rest : List Row) → length (cond c (r ∷ rest) rest) ≡ 0 → length rest ≡ 0
+pub rest_counted : (c : Bool) (r : Row) (rest : List Row) → length (cond c (r ∷ rest) rest) ≡ 0 → length rest ≡ 0
 rest_counted true r rest none = absurd (omega (arith, none))
 rest_counted false r rest none = none
 
-is_here : (key : List ℕ) (r : Row) → eq_by_cmp key_cmp (2, key) r.0 ≡ true → is_at tables.Desk key r ≡ true
+pub is_here : (key : List ℕ) (r : Row) → eq_by_cmp key_cmp (2, key) r.0 ≡ true → is_at tables.Desk key r ≡ true
 is_here key r e =
     let same : r.0 ≡ (2, key) = sym (key_cmp-same (2, key) r.0 (equal (key_cmp (2, key) r.0) e)) in
     ap (λ (k : Key). (k.0 == 2) && bytes_eq k.1 key) same ∙ (bytes_eq-Decides key key).1 refl
@@ -64,7 +64,7 @@ there_counted : (key x : List ℕ) (es : List Row) → maps.find key_cmp (2, key
 there_counted key x [] at none = absurd (cc (at))
 there_counted key x (r ∷ es) at none = there_by key x r es (eq_by_cmp key_cmp (2, key) r.0) refl at (there_counted key x es) none
 
-counted_by : (c : Bool) (n : ℕ) → (n == 0) ≡ c → (n ≡ 0 → ⊥) → (n == 0) ≡ false
+pub counted_by : (c : Bool) (n : ℕ) → (n == 0) ≡ c → (n ≡ 0 → ⊥) → (n == 0) ≡ false
 counted_by true n e h = absurd (h ((Decides-eqb n 0).0 e))
 counted_by false n e h = e
 
@@ -126,7 +126,7 @@ module _ (s : State) (kept : Kept) (rows : AreRows s kept) where
       let nothing : s ≡ empty = bare_by s.register s.day s.closed s.cases s.entries bare in
       ap maps.len (one_rows empty kept maps.empty (subst (λ (t : State). AreRows t kept) nothing rows) bare_rows) ∙ maps.len-empty key_cmp (List ℕ)
 
-  format_there : is_bare s ≡ false → maps.get kept (2, format_key) ≡ Some (desk_row days.Format)
+  pub format_there : is_bare s ≡ false → maps.get kept (2, format_key) ≡ Some (desk_row days.Format)
   format_there bare = rows.days.there Format tt ∙ ap (λ b. text_if_shown (not b) (desk_row days.Format)) bare
 
   kept_by : (b c : Bool) (m n : Kept) → (b ≡ false → c ≡ false) → cond b m (cond c n m) ≡ m

@@ -1,16 +1,17 @@
 -- Rows have one reading, and none of those that are read is bad.
-use Rattle.std.proofs.Common.{◌≡◌, sym, ap, ◌∙◌, subst, ℕ, zero, suc, Bool, List, [], ◌∷◌, Some, slice_get, take}
+use Rattle.std.proofs.Common.{◌≡◌, sym, ap, ◌∙◌, subst, ℕ, zero, suc, List, [], ◌∷◌, Some, slice_get, take}
 use Rattle.std.specs.FinMap as maps
 use Rattle.std.proofs.lemmas.Option.{same_Some}
 use Rattle.oe_keeper.specs.Kept.{Key, Kept}
 use Rattle.desk_machine.specs.States.{State}
 use Rattle.desk_tables.specs.Values.{Row, IsRowOf}
 use Rattle.desk_tables.specs.Parts.{Part, IsNext, Reads, state_of, with_row}
-use Rattle.desk_tables.specs.Opening.{IsFirstBad, Opens, is_lone, unread_of, with_wanting}
+use Rattle.desk_tables.specs.Opening.{IsFirstBad, Opens, is_older, layout_of, renewed, unread_of, with_wanting}
+use Rattle.desk_tables.specs.declared.layout.Layout.{Layout}
 use Rattle.desk_tables.proofs.RowFacts.{HaveOneValue, one_value}
 
 module _ (one : HaveOneValue) where
-  module _ (b : Bool) where
+  module _ (b : Layout) where
     one_reading : (rows : List Row) (p q t : Part) → Reads b p rows q → Reads b p rows t → q ≡ t
     one_reading [] p q t h k = sym h ∙ k
     one_reading (r ∷ rows) p q t h k =
@@ -28,11 +29,11 @@ module _ (one : HaveOneValue) where
 
   pub one_desk : (s t : State) (kept : Kept) → Opens kept s → Opens kept t → s ≡ t
   one_desk s t kept h k =
-      let rows = with_wanting kept in
-      h.state ∙ ap state_of (one_reading (is_lone rows) (maps.entries rows) (unread_of rows) h.part k.part h.reads k.reads) ∙ sym k.state
+      let rows = with_wanting (renewed kept) in
+      h.state ∙ ap state_of (one_reading (layout_of (is_older kept) rows) (maps.entries rows) (unread_of rows) h.part k.part h.reads k.reads) ∙ sym k.state
 
   pub no_first_bad : (s : State) (kept : Kept) (k : Key) → Opens kept s → IsFirstBad kept k → ⊥
   no_first_bad s kept k h first =
-      let rows = with_wanting kept in
+      let rows = with_wanting (renewed kept) in
       let bad = first.at in
-      none_bad (is_lone rows) (maps.entries rows) first.place_of (k, bad.text) (unread_of rows) h.part bad.part bad.row bad.reads h.reads bad.bad
+      none_bad (layout_of (is_older kept) rows) (maps.entries rows) first.place_of (k, bad.text) (unread_of rows) h.part bad.part bad.row bad.reads h.reads bad.bad

@@ -1,20 +1,24 @@
 -- The rows of a desk open as that desk.
-use Rattle.std.proofs.Common.{◌≡◌, refl, sym, subst, arith, ℕ, zero, suc, List, not, ◌≤◌, length, Bool}
+use Rattle.std.proofs.Common.{◌≡◌, sym, ap, ◌∙◌, subst, arith, ℕ, zero, suc, List, not, cond, ◌≤◌, length, Bool, true, false}
 use Rattle.std.specs.FinMap as maps
+use Rattle.row_register.specs.Desk.{desk_row}
+use Rattle.row_register.specs.declared.desk.DeskRow.TheVariants as days
 use Rattle.oe_keeper.specs.Kept.{Kept}
 use Rattle.oe_keeper.specs.declared.change.Table.TheVariants as tables
 use Rattle.desk_machine.specs.States.{State}
 use Rattle.desk_tables.specs.Rows.{AreRows, is_bare}
 use Rattle.desk_tables.specs.Parts.{Part, state_of}
-use Rattle.desk_tables.specs.Opening.{Opens, ReadsAll, count_of, is_in, is_lone, unread_of, with_wanting}
+use Rattle.desk_tables.specs.Opening.{Opens, ReadsAll, count_of, in_format, is_in, layout_of, older_format, renewed, unread_of, with_wanting}
+use Rattle.desk_tables.specs.Planned.{PlansNothing}
 use Rattle.desk_tables.proofs.RowFacts.{HaveOneValue}
-use Rattle.desk_tables.proofs.RowsRead.{rows_read}
+use Rattle.desk_tables.proofs.RowsRead.{these_read}
 use Rattle.reachable_desks.specs.Desks.{IsDesk}
 use Rattle.reachable_desks.proofs.SteppedDesks.{RegisterGoesOn}
 use Rattle.reopening_laws.proofs.CaseRows.{case_comes}
 use Rattle.reopening_laws.proofs.DayRows.{day_comes}
 use Rattle.reopening_laws.proofs.FieldRows.{field_comes, runway_comes}
-use Rattle.reopening_laws.proofs.NoneWanting.{none_wanting}
+use Rattle.reopening_laws.proofs.NoneWanting.{format_there, none_wanting}
+use Rattle.reopening_laws.proofs.OlderRows.{back, not_older, older_of}
 use Rattle.reopening_laws.proofs.NotAlone.{not_alone, rows_for_all}
 use Rattle.reopening_laws.proofs.PartsOf.{ComesIn, IsPartOf, PartsGrow, nothing_of}
 use Rattle.reachable_desks.proofs.ReadDesks.{all_counted, read_desk}
@@ -23,23 +27,24 @@ use Rattle.reachable_desks.proofs.RowsInOrder.{ComesAt}
 use Rattle.reopening_laws.proofs.SameDesks.{same_desk}
 use Rattle.reachable_desks.proofs.Walks.{GoesOn, HasRead, IsReadTo, goes_on}
 
-module _ (one : HaveOneValue) (law : RegisterGoesOn) (grow : PartsGrow) (s : State) (kept : Kept) (desk : IsDesk s) (rows : AreRows s kept) where
+module _ (one : HaveOneValue) (law : RegisterGoesOn) (grow : PartsGrow) (s : State) (kept : Kept) (desk : IsDesk s) (rows : AreRows s kept)
+    (old : Bool) (plain : old ≡ true → PlansNothing s) where
   -- the tables have a format
   f : Bool
   f = not (is_bare s)
 
   -- a row of any table
   row_comes : (n : ℕ) → length s.entries ≤ n → (so_far : Kept) (p : Part) → HasRead p so_far → IsPartOf s n p → (t : ℕ) (key text : List ℕ)
-      → ComesAt kept so_far ((t, key), text) → ComesIn s n (is_lone kept) p ((t, key), text)
+      → ComesAt kept so_far ((t, key), text) → ComesIn s n (layout_of old kept) p ((t, key), text)
   unfolding f
-  row_comes n room so_far p read part zero key text at = field_comes grow s desk n (is_lone kept) f kept so_far rows p read part key text at
-  row_comes n room so_far p read part (suc zero) key text at = runway_comes grow s desk n (is_lone kept) f kept so_far rows p read part key text at
+  row_comes n room so_far p read part zero key text at = field_comes grow s desk n (layout_of old kept) f kept so_far rows p read part plain key text at
+  row_comes n room so_far p read part (suc zero) key text at = runway_comes grow s desk n (layout_of old kept) f kept so_far rows p read part plain key text at
   row_comes n room so_far p read part (suc (suc zero)) key text at =
-      day_comes s desk n (is_lone kept) f kept so_far rows p part (not_alone s kept desk rows) key text at
+      day_comes s desk n (layout_of old kept) f kept so_far rows p part (not_alone s kept desk rows) key text at
   row_comes n room so_far p read part (suc (suc (suc zero))) key text at =
-      case_comes s desk n (is_lone kept) f kept so_far rows p read part room key text at
+      case_comes s desk n (layout_of old kept) f kept so_far rows p read part room key text at
   row_comes n room so_far p read part (suc (suc (suc (suc zero)))) key text at =
-      request_comes s desk n (is_lone kept) f kept so_far rows p read part room key text at
+      request_comes s desk n (layout_of old kept) f kept so_far rows p read part room plain key text at
   row_comes n room so_far p read part (suc (suc (suc (suc (suc t))))) key text at =
       absurd (cc (rows.only (suc (suc (suc (suc (suc t))))) key (omega arith), at.here))
 
@@ -51,26 +56,60 @@ module _ (one : HaveOneValue) (law : RegisterGoesOn) (grow : PartsGrow) (s : Sta
   unfolding f requests
   room_for_all = rows_for_all s desk f kept rows
 
-  goes : GoesOn kept (is_lone kept) (IsPartOf s requests)
+  goes : GoesOn kept (layout_of old kept) (IsPartOf s requests)
   goes so_far p r read at part =
-      let comes : ComesIn s requests (is_lone kept) p r = row_comes requests room_for_all so_far p read part r.0.0 r.0.1 r.1 at in
+      let comes : ComesIn s requests (layout_of old kept) p r = row_comes requests room_for_all so_far p read part r.0.0 r.0.1 r.1 at in
       (comes.value, comes.is, comes.next, comes.part)
 
-  read_all : IsReadTo kept (is_lone kept) (IsPartOf s requests) (unread_of kept) (maps.entries kept)
+  read_all : IsReadTo kept (layout_of old kept) (IsPartOf s requests) (unread_of kept) (maps.entries kept)
   unfolding requests
-  read_all = goes_on kept (IsPartOf s requests) goes (nothing_of grow s kept)
+  read_all = goes_on old kept (IsPartOf s requests) goes (nothing_of grow s kept)
 
-  pub opens_again : Opens kept s
+  -- what is read of them is the desk
+  record IsReading : Type 0 where
+    part : Part
+    reads : ReadsAll old (with_wanting kept) part
+    state : s ≡ state_of part
+
+  reading : IsReading
   unfolding f requests
-  opens_again =
+  reading =
       let q = read_all.part in
       let same : with_wanting kept ≡ kept = none_wanting s kept rows desk in
-      let reads : ReadsAll (with_wanting kept) q = subst (λ (m : Kept). ReadsAll m q) (sym same) read_all.reads in
-      let opens : Opens kept (state_of q) = record { part = q; reads = reads; state = refl } in
+      let reads : ReadsAll old (with_wanting kept) q = subst (λ (m : Kept). ReadsAll old m q) (sym same) read_all.reads in
       record {
         part = q;
         reads = reads;
         state =
-            same_desk one grow s requests q f (not (is_bare (state_of q))) kept desk (read_desk law kept q read_all.reads) rows
-            (rows_read kept (state_of q) opens) read_all.so (all_counted kept q read_all.reads) room_for_all;
+            same_desk one grow s requests q f (not (is_bare (state_of q))) kept desk (read_desk law old kept q read_all.reads) rows
+            (these_read old kept q reads) read_all.so (all_counted old kept q read_all.reads) room_for_all;
       }
+
+module _ (one : HaveOneValue) (law : RegisterGoesOn) (grow : PartsGrow) (s : State) (kept : Kept) (desk : IsDesk s) (rows : AreRows s kept) where
+  pub opens_again : Opens kept s
+  opens_again =
+      let r = reading one law grow s kept desk rows false (λ e. absurd (cc (e))) in
+      record {
+        part = r.part;
+        reads = subst (λ b. ReadsAll b (with_wanting (cond b (in_format (desk_row days.Format) kept) kept)) r.part) (sym (not_older s kept rows)) r.reads;
+        state = r.state;
+      }
+
+  -- the same tables of the older format, where nothing is planned
+  pub older_opens : is_bare s ≡ false → PlansNothing s → Opens (in_format older_format kept) s
+  older_opens some plain =
+      let r = reading one law grow s kept desk rows true (λ e. plain) in
+      let aged : Kept = in_format older_format kept in
+      let same : in_format (desk_row days.Format) aged ≡ kept = back kept (format_there s kept rows some) in
+      let reads : ReadsAll true (with_wanting (in_format (desk_row days.Format) aged)) r.part =
+      subst (λ (m : Kept). ReadsAll true (with_wanting m) r.part) (sym same) r.reads in
+      record {
+        part = r.part;
+        reads = subst (λ b. ReadsAll b (with_wanting (cond b (in_format (desk_row days.Format) aged) aged)) r.part) (sym (older_of kept)) reads;
+        state = r.state;
+      }
+
+pub leads_back : (s : State) (kept : Kept) → AreRows s kept → is_bare s ≡ false → renewed (in_format older_format kept) ≡ kept
+leads_back s kept rows some =
+    let aged : Kept = in_format older_format kept in
+    ap (λ b. cond b (in_format (desk_row days.Format) aged) aged) (older_of kept) ∙ back kept (format_there s kept rows some)

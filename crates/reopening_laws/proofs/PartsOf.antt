@@ -1,5 +1,5 @@
 -- What was read so far of the rows of a desk, as a part of it.
-use Rattle.std.proofs.Common.{◌≡◌, ◌≢◌, ℕ, List, [], length, Some, None, IfSome, slice_get, Bool}
+use Rattle.std.proofs.Common.{◌≡◌, ◌≢◌, refl, ℕ, List, [], length, Some, None, IfSome, slice_get, Bool, true, false, ◌&&◌}
 use Rattle.std.proofs.lemmas.List.{length-replicate}
 use Rattle.airfields.specs.Runways.{runway_at}
 use Rattle.airfields.specs.declared.runway.Runway.{Runway}
@@ -17,6 +17,7 @@ use Rattle.desk_machine.specs.States.{State}
 use Rattle.desk_tables.specs.Values.{Row, IsRowOf}
 use Rattle.desk_tables.specs.Parts.{Part, IsNext, with_row}
 use Rattle.desk_tables.specs.Opening.{count_of, is_in, unread_of}
+use Rattle.desk_tables.specs.declared.layout.Layout.{Layout}
 use Rattle.desk_tables.specs.declared.value.RowValue.{RowValue}
 use Rattle.reachable_desks.proofs.Places.{none_filled}
 
@@ -45,11 +46,20 @@ pub record IsPartOf (s : State) (requests : ℕ) (p : Part) : Type 0 where
   pub entries : (i : ℕ) → IfSome (slice_get p.requests i) (λ o. IfSome o (λ e. slice_get s.entries i ≡ Some e))
 
 -- the row can be read, and what is read then is a part of the desk again
-pub record ComesIn (s : State) (requests : ℕ) (is_lone : Bool) (p : Part) (r : Row) : Type 0 where
+pub record ComesIn (s : State) (requests : ℕ) (layout : Layout) (p : Part) (r : Row) : Type 0 where
   pub value : RowValue
   pub is : IsRowOf r value
-  pub next : IsNext is_lone p value
+  pub next : IsNext layout p value
   pub part : IsPartOf s requests (with_row value p)
+
+-- a row in which nothing is planned may stand in tables of either format, and one in which something is planned in those of today
+pub either_format : (old : Bool) → (old && false) ≡ false
+either_format true = refl
+either_format false = refl
+
+pub format_allows : (old planned : Bool) → (old ≡ true → planned ≡ false) → (old && planned) ≡ false
+format_allows true planned plain = plain refl
+format_allows false planned plain = refl
 
 pub nothing_of : PartsGrow → (s : State) (kept : Kept) → IsPartOf s (count_of (is_in tables.Receipt) kept) (unread_of kept)
 nothing_of grow s kept = record {

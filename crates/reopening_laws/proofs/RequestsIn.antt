@@ -1,5 +1,5 @@
 -- The rows of a desk's accepted requests can be read.
-use Rattle.std.proofs.Common.{◌≡◌, refl, sym, ap, ◌∙◌, subst, arith, ℕ, ◌-◌, ◌<◌, ◌≤◌, List, length, Bool, Option, Some, None, IfSome, slice_get, inl, inr}
+use Rattle.std.proofs.Common.{◌≡◌, refl, sym, ap, ◌∙◌, subst, arith, ℕ, ◌-◌, ◌<◌, ◌≤◌, List, length, Bool, true, false, Option, Some, None, IfSome, slice_get, inl, inr}
 use Rattle.std.specs.FinMap as maps
 use Rattle.std.proofs.lemmas.List.{length-set}
 use Rattle.std.proofs.lemmas.Option.{same_Some, slice_get_cases, slice_get_within}
@@ -12,11 +12,13 @@ use Rattle.wire_values.specs.Words.{IsWord}
 use Rattle.desk_tables.specs.Rows.{AreTables}
 use Rattle.desk_tables.specs.Tables.{HasCaller, entry_row, found_in, key_of, receipt_found}
 use Rattle.desk_tables.specs.Parts.{Part, entries_of}
+use Rattle.desk_tables.specs.Planned.{PlansNothing, plans_act}
+use Rattle.desk_tables.specs.declared.layout.Layout.{Layout}
 use Rattle.desk_tables.specs.declared.value.RowValue.TheVariants.{Request}
 use Rattle.reachable_desks.specs.Desks.{IsDesk, IsEntryOf}
 use Rattle.reachable_desks.proofs.Owners.{entry_like, filled_found, stands_at}
-use Rattle.reopening_laws.proofs.PartsOf.{ComesIn, IsPartOf}
-use Rattle.reachable_desks.proofs.Places.{mapped, set_each, unmapped}
+use Rattle.reopening_laws.proofs.PartsOf.{ComesIn, IsPartOf, format_allows}
+use Rattle.reachable_desks.proofs.Places.{all_at, mapped, set_each, unmapped}
 use Rattle.reopening_laws.proofs.RowNames.{name_found, receipt_named, receipt_sure}
 use Rattle.reachable_desks.proofs.RowsInOrder.{ComesAt}
 use Rattle.reachable_desks.proofs.Walks.{HasRead}
@@ -28,8 +30,8 @@ entry_at s i e desk at = subst (λ (o : Option Entry). IfSome o (IsEntryOf (leng
 pub caller_of : (entries i : ℕ) (e : Entry) → IsEntryOf entries i e → IsWord e.change.caller
 caller_of entries i e is = is.recorded.shape.1.0
 
-module _ (s : State) (desk : IsDesk s) (n : ℕ) (b f : Bool) (kept so_far : Kept) (are : AreTables f s kept) (p : Part) (read : HasRead p so_far)
-    (part : IsPartOf s n p) (room : length s.entries ≤ n) where
+module _ (s : State) (desk : IsDesk s) (n : ℕ) (b : Layout) (f : Bool) (kept so_far : Kept) (are : AreTables f s kept) (p : Part) (read : HasRead p so_far)
+    (part : IsPartOf s n p) (room : length s.entries ≤ n) (plain : b.is_old ≡ true → PlansNothing s) where
   -- its place is free
   free_by : (i : ℕ) (e : Entry) (o : Option Entry) → slice_get p.requests i ≡ Some o → slice_get s.entries i ≡ Some e → IsWord e.change.caller
       → maps.get so_far (4, receipt_key e.change.caller e.change.key) ≡ None
@@ -71,11 +73,14 @@ module _ (s : State) (desk : IsDesk s) (n : ℕ) (b f : Bool) (kept so_far : Kep
             led = is.led;
           },
         );
-        next = record {
-          counted = omega (arith, is.number);
-          free = ap (slice_get p.requests) (sym place) ∙ free;
-          list = omega (arith, is.list, room, part.room);
-        };
+        next = (
+          record {
+            counted = omega (arith, is.number);
+            free = ap (slice_get p.requests) (sym place) ∙ free;
+            list = omega (arith, is.list, room, part.room);
+          },
+          format_allows b.is_old (plans_act e.change.act) (λ old. all_at (λ (d : Entry). plans_act d.change.act ≡ false) s.entries i e (PlansNothing.entries (plain old)) here),
+        );
         part = record {
           register = part.register;
           room = length-set p.requests (e.number - 1) (Some e) ∙ part.room;

@@ -1,8 +1,9 @@
 //! Laws of desks opened from their rows.
 
-ghost use Rattle.std.specs.Prelude.{◌≡◌};
-ghost use Rattle.desk_tables.specs.Opening.{IsFirstBad, Opens};
-ghost use Rattle.desk_tables.specs.Rows.{AreRows};
+ghost use Rattle.std.specs.Prelude.{◌≡◌, false};
+ghost use Rattle.desk_tables.specs.Opening.{IsFirstBad, Opens, in_format, older_format, renewed};
+ghost use Rattle.desk_tables.specs.Planned.{PlansNothing};
+ghost use Rattle.desk_tables.specs.Rows.{AreRows, is_bare};
 ghost use Rattle.desk_machine.specs.States.{State};
 ghost use Rattle.oe_keeper.specs.Kept.{Kept, Key};
 ghost use Rattle.reachable_desks.specs.Desks.{IsDesk};
@@ -18,6 +19,28 @@ use row_register::{one_airfield_row, one_desk_row, one_runway_row};
 /// The rows of a desk open as the same desk.
 pub fn reopens()
     ensures { (s : State) (kept : Kept) → IsDesk s → AreRows s kept → Opens kept s }
+{
+    one_airfield_row();
+    one_runway_row();
+    one_desk_row();
+    one_filing_row();
+    one_receipt_row();
+    register_goes_on();
+    names_go_on();
+    nothing_is_part();
+    airport_comes();
+    heliport_comes();
+    runway_comes();
+    all_is_whole();
+}
+
+/// The rows of a desk in which nothing is planned, with the format row from before there were planned approaches, open as the same desk, and
+/// in the format of today they are its rows.
+pub fn older_reopens()
+    ensures opens { (s : State) (kept : Kept) → IsDesk s → AreRows s kept → is_bare s ≡ false
+        → PlansNothing s → Opens (in_format older_format kept) s }
+    ensures renewed { (s : State) (kept : Kept) → AreRows s kept → is_bare s ≡ false
+        → renewed (in_format older_format kept) ≡ kept }
 {
     one_airfield_row();
     one_runway_row();

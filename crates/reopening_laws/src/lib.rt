@@ -4,5 +4,5 @@
 mod laws;
 mod opening;
 
-pub use laws::{opened_is_one, opened_is_sound, reopens};
+pub use laws::{older_reopens, opened_is_one, opened_is_sound, reopens};
 pub use opening::reopened;

@@ -1,5 +1,5 @@
 -- Rows that the definitions compute.
-use Rattle.std.proofs.Common.{arith, ◌≡◌, pos, neg_ℤ, [], codes, refl, true, false}
+use Rattle.std.proofs.Common.{arith, ◌≡◌, pos, neg_ℤ, [], None, codes, refl, true, false}
 use Rattle.std.specs.Fmt.{digits}
 use Rattle.std.proofs.lemmas.Int.{ints}
 use Rattle.grid_exact.specs.declared.point.Point.{Point}
@@ -38,8 +38,8 @@ strip = record {
     name = codes "09/27";
     utility = false;
     hard = true;
-    end1 = record { at = west; z = pos 1000; kind = approaches.Precision };
-    end2 = record { at = east; z = pos 1000; kind = approaches.NonprecisionAbove };
+    end1 = record { at = west; z = pos 1000; kind = approaches.Precision; planned = None };
+    end2 = record { at = east; z = pos 1000; kind = approaches.NonprecisionAbove; planned = None };
   };
 }
 

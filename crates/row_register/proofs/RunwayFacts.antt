@@ -4,7 +4,7 @@ use Rattle.airfields.specs.Names.{IsFieldId, IsRunwayName}
 use Rattle.airfields.specs.declared.runway.Runway.{Runway}
 use Rattle.wire_values.specs.Commas.{joined}
 use Rattle.wire_values.specs.Words.{weight_word, pavement_word}
-use Rattle.wire_values.specs.Wanted.{Wanted, Choice, any_number, ApproachWanted, FieldIdWanted, RunwayNameWanted}
+use Rattle.wire_values.specs.Wanted.{Wanted, Choice, any_number, ApproachesWanted, FieldIdWanted, RunwayNameWanted}
 use Rattle.wire_values.specs.Plainness.{IsUsual}
 use Rattle.wire_values.proofs.FieldFacts.{short_word, fits_short}
 use Rattle.wire_cursor.specs.Groups.{coordinate, end_shape}
@@ -21,7 +21,7 @@ key_parts key id name p q e =
     ∙ pair_parts 32 id name (unmarked 32 (omega arith) id (fits_short FieldIdWanted tt [] id p)) (unmarked 32 (omega arith) name (fits_short RunwayNameWanted tt [] name q))
 
 runway_shape : List Wanted
-runway_shape = Choice weight_word ∷ Choice pavement_word ∷ coordinate ∷ coordinate ∷ any_number ∷ ApproachWanted ∷ end_shape
+runway_shape = Choice weight_word ∷ Choice pavement_word ∷ coordinate ∷ coordinate ∷ any_number ∷ ApproachesWanted ∷ end_shape
 
 weight_usual : IsUsual (Choice weight_word)
 weight_usual = (short_word _ (omega arith) (omega arith) refl, short_word _ (omega arith) (omega arith) refl)
@@ -47,12 +47,12 @@ runway_uncut r h =
             (
               (r.end1.z, refl, h.0),
               (
-                (r.end1.kind, refl),
+                (r.end1.kind, r.end1.planned, refl),
                 (
                   (r.end2.at.x, refl, (r.end2.at.on_grid.west, r.end2.at.on_grid.east)),
                   (
                     (r.end2.at.y, refl, (r.end2.at.on_grid.south, r.end2.at.on_grid.north)),
-                    ((r.end2.z, refl, h.1), ((r.end2.kind, refl), tt)),
+                    ((r.end2.z, refl, h.1), ((r.end2.kind, r.end2.planned, refl), tt)),
                   ),
                 ),
               ),

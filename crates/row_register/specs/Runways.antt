@@ -5,7 +5,7 @@ use Rattle.whole_number.specs.Whole.{HasNineDigits}
 use Rattle.airfields.specs.Names.{IsFieldId, IsRunwayName}
 use Rattle.airfields.specs.declared.runway.Runway.{Runway}
 use Rattle.wire_values.specs.Commas.{joined}
-use Rattle.wire_values.specs.Words.{weight_word, pavement_word, approach_word}
+use Rattle.wire_values.specs.Words.{weight_word, pavement_word, approaches_text}
 use Rattle.row_register.specs.declared.runway.RunwayRow.{RunwayRow}
 
 -- the name of the airport, a space, and the name of the runway
@@ -15,11 +15,11 @@ runway_key_text id name = id ++ (codes " " ++ name)
 abbrev pub runway_key : RunwayRow → List ℕ
 runway_key v = runway_key_text v.id v.runway.name
 
--- whether it is a utility runway, its surface, and each end: its point, its elevation and its kind of approach
+-- whether it is a utility runway, its surface, and each end: its point, its elevation, and its approach with the planned one
 abbrev pub runway_values : Runway → List (List ℕ)
 runway_values r = weight_word r.utility ∷ pavement_word r.hard
-    ∷ signed_decimal r.end1.at.x ∷ signed_decimal r.end1.at.y ∷ signed_decimal r.end1.z ∷ approach_word r.end1.kind
-    ∷ signed_decimal r.end2.at.x ∷ signed_decimal r.end2.at.y ∷ signed_decimal r.end2.z ∷ approach_word r.end2.kind ∷ []
+    ∷ signed_decimal r.end1.at.x ∷ signed_decimal r.end1.at.y ∷ signed_decimal r.end1.z ∷ approaches_text r.end1.kind r.end1.planned
+    ∷ signed_decimal r.end2.at.x ∷ signed_decimal r.end2.at.y ∷ signed_decimal r.end2.z ∷ approaches_text r.end2.kind r.end2.planned ∷ []
 
 abbrev pub runway_row : RunwayRow → List ℕ
 runway_row v = joined (runway_values v.runway)

@@ -7,7 +7,7 @@ ghost use Rattle.wire_cursor.specs.Groups.{point_fields, end_fields};
 
 use airfields::RunwayEnd;
 use grid_exact::{NoMemory, Point};
-use wire_values::{WholeNumber, append_next};
+use wire_values::{Approaches, WholeNumber, append_next};
 
 /// Appends a point, a comma before each coordinate.
 ///
@@ -33,5 +33,11 @@ pub(crate) fn append_end(text: &mut String, end: &RunwayEnd) -> Result<(), NoMem
 {
     append_point(text, &end.at)?;
     append_next(text, &WholeNumber { value: end.z })?;
-    append_next(text, &end.kind)
+    append_next(
+        text,
+        &Approaches {
+            kind: end.kind,
+            planned: end.planned,
+        },
+    )
 }

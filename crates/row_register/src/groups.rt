@@ -11,6 +11,7 @@ use crate::parts::Parts;
 use airfields::RunwayEnd;
 use grid_exact::{COORDINATE_LIMIT, Point};
 use whole_number::NUMBER_LIMIT;
+use wire_values::Approaches;
 
 /// Takes a whole number of at most nine digits.
 pub(crate) fn whole(parts: &mut Parts<'_>) -> Option<i64>
@@ -42,6 +43,11 @@ pub(crate) fn runway_end(parts: &mut Parts<'_>) -> Option<RunwayEnd>
 {
     let at = point(parts)?;
     let z = whole(parts)?;
-    let kind = parts.take()?;
-    Some(RunwayEnd { at, z, kind })
+    let approaches: Approaches = parts.take()?;
+    Some(RunwayEnd {
+        at,
+        z,
+        kind: approaches.kind,
+        planned: approaches.planned,
+    })
 }

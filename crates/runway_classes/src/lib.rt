@@ -11,7 +11,7 @@ pub use class::{
     WIDENING_SCALE,
 };
 pub use laws::numbers;
-pub use table::{RADIUS_MOST, classify};
+pub use table::{RADIUS_MOST, classify, more_precise};
 
 /// The kind of approach that a runway end has or is planned for (77.19), in rising order of precision.
 #[derive(Clone, Copy, Debug, PartialEq, Eq)]

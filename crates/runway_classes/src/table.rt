@@ -11,8 +11,8 @@ use crate::class::{
 /// The greater radius of the horizontal surface's arcs, in tenths of a foot: 10,000 feet (77.19(a)).
 pub const RADIUS_MOST: i64 = 100_000;
 
-/// The more precise of two kinds.
-fn more_precise(a: ApproachKind, b: ApproachKind) -> ApproachKind
+/// The more precise of two kinds, in the order of `ApproachKind`.
+pub fn more_precise(a: ApproachKind, b: ApproachKind) -> ApproachKind
     ensures { result ≡ more_precise_of a b }
 {
     if (a as u8) < (b as u8) { b } else { a }

@@ -1,3 +1,4 @@
 pub mod CenterFacts
 pub mod AxisFacts
 pub mod ElevationFacts
+pub mod ClassFacts

@@ -6,7 +6,7 @@ use Rattle.runway_classes.specs.declared.class.RunwayClass.{RunwayClass}
 use Rattle.runway_classes.specs.Class.{runway_class}
 use Rattle.airfields.specs.declared.runway.Runway.{Runway}
 use Rattle.airfields.specs.declared.runway.RunwayEnd.{RunwayEnd}
-use Rattle.airfields.specs.Runways.{length_square}
+use Rattle.airfields.specs.Runways.{length_square, effective}
 use Rattle.runway_lines.specs.declared.end.End.{End}
 use Rattle.runway_lines.specs.declared.end.End.TheVariants.{One, Two}
 use Rattle.runway_lines.specs.Centers.{IsCenter, center}
@@ -45,8 +45,9 @@ line_between r start from to = record {
   dy = center_y r to -ℤ center_y r from;
 }
 
+-- over the approaches that the ends have or are planned for
 abbrev pub class_of : Runway → RunwayClass
-class_of r = runway_class r.utility r.end1.kind r.end2.kind
+class_of r = runway_class r.utility (effective r.end1) (effective r.end2)
 
 abbrev pub end_class_of : Runway → End → EndClass
 end_class_of r One = (class_of r).end1

@@ -25,13 +25,18 @@ pub fn center(runway: &Runway, end: End) -> Start
     extended(&here, &there, runway.square_length() as u128)
 }
 
-/// The class of a runway.
+/// The class of a runway, over the approaches that its ends have or are planned for.
+#[tactic(auto, using(crate::proofs::ClassFacts::not_refused, crate::proofs::ClassFacts::class_is))]
 pub fn class(runway: &Runway) -> RunwayClass
     requires proper { IsProper runway.now }
     ensures value { result ≡ class_of runway.now }
     ensures sized { IsSized result }
 {
-    match classify(runway.utility, runway.end1.kind, runway.end2.kind) {
+    match classify(
+        runway.utility,
+        runway.end1.effective(),
+        runway.end2.effective(),
+    ) {
         Ok(class) => class,
         Err(_) => unreachable!(),
     }

@@ -2,8 +2,6 @@
 #![tactic(auto)]
 
 #[cfg(test)]
-mod clerk_tests;
-#[cfg(test)]
 mod journal_tests;
 #[cfg(test)]
 mod keeper_tests;

@@ -4,7 +4,7 @@ use airfields::{
     Airport, Category, FieldId, Filing, Flags, Heliport, Runway, RunwayEnd, RunwayName, Runways,
     StructureKind,
 };
-use grid_exact::Point;
+use grid_exact::{Area, Point};
 use runway_classes::ApproachKind;
 use std::alloc::Global;
 use std::test::Fail;
@@ -24,7 +24,12 @@ pub(crate) struct OutsideLimits;
 
 pub(crate) fn end(at: (i64, i64), z: i64, kind: ApproachKind) -> Result<RunwayEnd, Fail> {
     let at = Point::new(at.0, at.1)?;
-    Ok(RunwayEnd { at, z, kind })
+    Ok(RunwayEnd {
+        at,
+        z,
+        kind,
+        planned: None,
+    })
 }
 
 /// A runway for large aircraft with a prepared hard surface.
@@ -77,4 +82,9 @@ pub(crate) fn heliport(category: Category) -> Result<Heliport, Fail> {
 pub(crate) fn object(x: i64, y: i64, ground: i64, height: i64) -> Result<Filing, Fail> {
     let at = Point::new(x, y)?;
     Ok(Filing::new(at, ground, height, StructureKind::Object, 0, NO_FLAGS, None)?)
+}
+
+/// A box by its sides in the west, south, east and north.
+pub(crate) fn sides(x0: i64, y0: i64, x1: i64, y1: i64) -> Area {
+    Area { x0, y0, x1, y1 }
 }

@@ -1,7 +1,6 @@
 //! Heights near an airport, and structures that need no notice.
 
-use crate::fixtures::{NO_FLAGS, airport_with, long_runway, object};
-use crate::shape_tests::sides;
+use crate::fixtures::{NO_FLAGS, airport_with, long_runway, object, sides};
 use airfields::{Category, Filing, Flags, StructureKind};
 use grid_exact::Point;
 use height_rules::{excess_near_airport, near_area};

@@ -1,7 +1,6 @@
 //! The surfaces of a heliport, one by one and all at once.
 
-use crate::fixtures::OutsideLimits;
-use crate::shape_tests::sides;
+use crate::fixtures::{OutsideLimits, sides};
 use airfields::{Category, FieldId, Heliport};
 use grid_exact::Point;
 use heliport_surfaces::{Beside, Pad, PadEnd};

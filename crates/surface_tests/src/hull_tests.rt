@@ -13,7 +13,12 @@ use std::test::Fail;
 
 fn end(at: (i64, i64), kind: ApproachKind) -> Result<RunwayEnd, Fail> {
     let at = Point::new(at.0, at.1)?;
-    Ok(RunwayEnd { at, z: 0, kind })
+    Ok(RunwayEnd {
+        at,
+        z: 0,
+        kind,
+        planned: None,
+    })
 }
 
 /// A runway of no prepared hard surface, whose arcs have a radius of 10,000 feet, and of 5,000 feet where it is a utility runway.

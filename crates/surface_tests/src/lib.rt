@@ -1,11 +1,9 @@
-//! Tests of exact comparisons, of airfields and their surfaces, of the register, and of whole screenings.
+//! Tests of airfields and their surfaces, of the register, and of whole screenings.
 //!
-//! They call what no worked session reaches: each generic type at a concrete one, limits, and calls for one surface alone. Values are worked out
+//! They call what no worked session reaches: limits, and calls for one surface alone. Values are worked out
 //! by hand.
 #![tactic(auto)]
 
-#[cfg(test)]
-mod exact_tests;
 #[cfg(test)]
 mod fixtures;
 #[cfg(test)]
@@ -20,7 +18,3 @@ mod register_tests;
 mod runway_tests;
 #[cfg(test)]
 mod screening_tests;
-#[cfg(test)]
-mod shape_tests;
-#[cfg(test)]
-mod tree_tests;

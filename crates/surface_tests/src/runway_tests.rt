@@ -1,7 +1,6 @@
 //! The surfaces of a runway, one by one and all at once, and the slope of notice from a runway.
 
-use crate::fixtures::{OutsideLimits, airport_with, end, hard, long_runway};
-use crate::shape_tests::sides;
+use crate::fixtures::{OutsideLimits, airport_with, end, hard, long_runway, sides};
 use airfields::{Airport, Category, Runway};
 use grid_exact::{Area, Cap, LEVEL_LIMIT, Point};
 use imaginary_surfaces::{End, Strip};
@@ -94,6 +93,66 @@ fn boxes_of_a_runway(rt: HostRuntime) -> Result<(), Fail> {
     let excesses = strip.excesses_in(&areas, &x, 4_001, &Cap::Beyond);
     assert_eq!(rt; excesses.approach1, Some(1_001));
     assert_eq!(rt; excesses.primary, None);
+    Ok(())
+}
+
+/// The kind of approach of an end, the planned one, and the kind that its surfaces follow.
+const EFFECTIVE: [(ApproachKind, Option<ApproachKind>, ApproachKind); 6] = [
+    (ApproachKind::Visual, None, ApproachKind::Visual),
+    (
+        ApproachKind::Visual,
+        Some(ApproachKind::NonprecisionAbove),
+        ApproachKind::NonprecisionAbove,
+    ),
+    (
+        ApproachKind::NonprecisionLow,
+        Some(ApproachKind::NonprecisionAbove),
+        ApproachKind::NonprecisionLow,
+    ),
+    (
+        ApproachKind::NonprecisionLow,
+        Some(ApproachKind::Precision),
+        ApproachKind::Precision,
+    ),
+    (
+        ApproachKind::Precision,
+        Some(ApproachKind::Visual),
+        ApproachKind::Precision,
+    ),
+    (
+        ApproachKind::Precision,
+        Some(ApproachKind::Precision),
+        ApproachKind::Precision,
+    ),
+];
+
+#[test]
+fn the_more_precise_approach_counts(rt: HostRuntime) -> Result<(), Fail> {
+    for (kind, planned, effective) in EFFECTIVE {
+        let mut end = end((0, 0), 0, kind)?;
+        end.planned = planned;
+        assert_eq!(rt; end.effective(), effective);
+    }
+    Ok(())
+}
+
+/// A precision approach that is planned has the surfaces of one that there is.
+#[test]
+fn surfaces_of_a_planned_approach(rt: HostRuntime) -> Result<(), Fail> {
+    let mut runway = long_runway()?;
+    runway.end1.kind = ApproachKind::Visual;
+    assert!(rt; !runway.is_planned());
+    runway.end1.planned = Some(ApproachKind::Precision);
+    assert!(rt; runway.is_planned());
+    assert!(rt; runway != long_runway()?);
+    let strip = prepared(&runway)?;
+    let areas = strip.areas(&sides(-192_000, -140_000, 192_000, 140_000));
+    assert_eq!(rt; areas[1], sides(-552_000, -80_000, -52_000, 80_000));
+    let x = Point::new(-152_000, 0)?;
+    let excesses = strip.excesses_in(&areas, &x, 4_001, &Cap::Beyond);
+    assert_eq!(rt; excesses.approach1, Some(1_001));
+    runway.utility = true;
+    assert!(rt; runway.is_precision_on_utility());
     Ok(())
 }
 

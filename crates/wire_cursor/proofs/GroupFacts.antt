@@ -15,12 +15,13 @@ use Rattle.airfields.specs.declared.structure.TheConstants.{HEIGHT_LIMIT}
 use Rattle.airfields.specs.declared.structure.StructureKind.{StructureKind}
 use Rattle.airfields.specs.declared.structure.Flags.{Flags}
 use Rattle.airfields.specs.declared.runway.RunwayEnd.{RunwayEnd}
-use Rattle.wire_values.specs.Words.{approach_word, IsBetween}
-use Rattle.wire_values.specs.Wanted.{Wanted, Between, ApproachWanted, any_number, mobile_limit}
+use Rattle.wire_values.specs.Words.{approaches_text, IsBetween}
+use Rattle.wire_values.specs.Wanted.{Wanted, Between, ApproachesWanted, any_number, mobile_limit}
 use Rattle.wire_values.specs.Plainness.{IsUsual}
 use Rattle.wire_values.proofs.LetterFacts.{one_flags}
 use Rattle.wire_values.proofs.LimitFacts.{between_short, mobile_short, limit_of_kind}
-use Rattle.wire_values.proofs.Named.{one_approach, one_kind, one_number, one_name}
+use Rattle.wire_values.proofs.ApproachFacts.{one_approaches}
+use Rattle.wire_values.proofs.Named.{one_kind, one_number, one_name}
 use Rattle.wire_cursor.specs.Groups.{coordinate, site_shape, site_fields, IsValidSite}
 use Rattle.wire_cursor.proofs.ShapeLaws.{AllUsual, Values, texts}
 
@@ -42,7 +43,7 @@ pub site_usual : AllUsual site_shape
 site_usual = (coordinate_usual, (coordinate_usual, (terrain_usual, (height_usual, (tt, (tt, (tt, (tt, tt))))))))
 
 -- those of an end of a runway before others
-pub end_usual : (ws : List Wanted) → AllUsual ws → AllUsual (coordinate ∷ coordinate ∷ any_number ∷ ApproachWanted ∷ ws)
+pub end_usual : (ws : List Wanted) → AllUsual ws → AllUsual (coordinate ∷ coordinate ∷ any_number ∷ ApproachesWanted ∷ ws)
 end_usual ws u = (coordinate_usual, (coordinate_usual, (number_usual, (tt, u))))
 
 -- ---- the values of some fields
@@ -159,11 +160,15 @@ one_site a b h k e =
     (one_number a.height b.height p.height q.height (at 3 e)) (one_kind a.kind b.kind (at 4 e)) (one_number a.mobile b.mobile p.mobile q.mobile (at 5 e))
     (one_flags a.flags b.flags (at 6 e)) (one_name a.on b.on h.1 k.1 (at 7 e))
 
-made_end : Point → ℤ → ApproachKind → RunwayEnd
-made_end at z kind = record { at = at; z = z; kind = kind }
+made_end : Point → ℤ → ApproachKind → Option ApproachKind → RunwayEnd
+made_end at z kind planned = record { at = at; z = z; kind = kind; planned = planned }
+
+same_end : (a b : RunwayEnd) → a.at ≡ b.at → a.z ≡ b.z → a.kind ≡ b.kind → a.planned ≡ b.planned → made_end a.at a.z a.kind a.planned ≡ made_end b.at b.z b.kind b.planned
+same_end a b p z k l = cc
 
 pub one_end : (a b : RunwayEnd) → HasNineDigits a.z → HasNineDigits b.z → signed_decimal a.at.x ≡ signed_decimal b.at.x → signed_decimal a.at.y ≡ signed_decimal b.at.y
-    → signed_decimal a.z ≡ signed_decimal b.z → approach_word a.kind ≡ approach_word b.kind → a ≡ b
+    → signed_decimal a.z ≡ signed_decimal b.z → approaches_text a.kind a.planned ≡ approaches_text b.kind b.planned → a ≡ b
 unfolding made_end
 one_end a b h k x y z w =
-    ap (λ p. made_end p a.z a.kind) (one_point a.at b.at x y) ∙ ap (λ n. made_end b.at n a.kind) (one_number a.z b.z h k z) ∙ ap (made_end b.at b.z) (one_approach a.kind b.kind w)
+    let kinds = one_approaches a.kind b.kind a.planned b.planned w in
+    same_end a b (one_point a.at b.at x y) (one_number a.z b.z h k z) kinds.0 kinds.1

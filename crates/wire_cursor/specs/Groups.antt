@@ -8,8 +8,8 @@ use Rattle.airfields.specs.Sites.{Site, IsSite}
 use Rattle.airfields.specs.declared.limits.TheConstants.{ELEVATION_LEAST, ELEVATION_MOST}
 use Rattle.airfields.specs.declared.runway.RunwayEnd.{RunwayEnd}
 use Rattle.airfields.specs.declared.structure.TheConstants.{HEIGHT_LIMIT}
-use Rattle.wire_values.specs.Words.{approach_word, kind_word, flags_text, name_text, IsAirfieldName}
-use Rattle.wire_values.specs.Wanted.{Wanted, Between, any_number, ApproachWanted, KindWanted, MobileWanted, FlagsWanted, AirfieldWanted}
+use Rattle.wire_values.specs.Words.{approaches_text, kind_word, flags_text, name_text, IsAirfieldName}
+use Rattle.wire_values.specs.Wanted.{Wanted, Between, any_number, ApproachesWanted, KindWanted, MobileWanted, FlagsWanted, AirfieldWanted}
 use Rattle.wire_cursor.specs.Shape.{Place, Took}
 
 -- a coordinate of the grid
@@ -23,12 +23,12 @@ point_shape = coordinate ∷ coordinate ∷ []
 abbrev pub point_fields : Point → List (List ℕ)
 point_fields p = signed_decimal p.x ∷ signed_decimal p.y ∷ []
 
--- an end of a runway: its point, its elevation and its kind of approach
+-- an end of a runway: its point, its elevation, and its approach with the planned one
 abbrev pub end_shape : List Wanted
-end_shape = coordinate ∷ coordinate ∷ any_number ∷ ApproachWanted ∷ []
+end_shape = coordinate ∷ coordinate ∷ any_number ∷ ApproachesWanted ∷ []
 
 abbrev pub end_fields : RunwayEnd → List (List ℕ)
-end_fields e = signed_decimal e.at.x ∷ signed_decimal e.at.y ∷ signed_decimal e.z ∷ approach_word e.kind ∷ []
+end_fields e = signed_decimal e.at.x ∷ signed_decimal e.at.y ∷ signed_decimal e.z ∷ approaches_text e.kind e.planned ∷ []
 
 -- a structure: its point, the elevation of the terrain, its height, kind, mobile object and flags, and the airfield that it is on
 abbrev pub site_shape : List Wanted

@@ -7,6 +7,7 @@ ghost use Rattle.wire_cursor.specs.Groups.{point_shape, point_fields, end_shape,
 use crate::cursor::{BadField, Cursor};
 use airfields::{ELEVATION_LEAST, ELEVATION_MOST, Filing, HEIGHT_LIMIT, RunwayEnd};
 use grid_exact::{COORDINATE_LIMIT, Point};
+use wire_values::Approaches;
 
 /// Reads a point of the grid.
 pub fn point(cursor: &mut Cursor<'_>) -> Result<Point, BadField>
@@ -25,8 +26,13 @@ pub fn runway_end(cursor: &mut Cursor<'_>) -> Result<RunwayEnd, BadField>
 {
     let at = point(cursor)?;
     let z = cursor.whole()?;
-    let kind = cursor.take()?;
-    Ok(RunwayEnd { at, z, kind })
+    let approaches: Approaches = cursor.take()?;
+    Ok(RunwayEnd {
+        at,
+        z,
+        kind: approaches.kind,
+        planned: approaches.planned,
+    })
 }
 
 /// Reads a structure.

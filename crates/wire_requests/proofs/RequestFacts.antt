@@ -152,11 +152,11 @@ plain_of_values plains.Runway before id =
         name = name.0.0;
         utility = weight.0.1.0;
         hard = pavement.0.1.0;
-        end1 = record { at = place x1.0.1.2 y1.0.1.2; z = z1.0.1.0; kind = kind1.0.1.0 };
-        end2 = record { at = place x2.0.1.2 y2.0.1.2; z = z2.0.1.0; kind = kind2.0.1.0 };
+        end1 = record { at = place x1.0.1.2 y1.0.1.2; z = z1.0.1.0; kind = kind1.0.1.0; planned = kind1.0.1.1 };
+        end2 = record { at = place x2.0.1.2 y2.0.1.2; z = z2.0.1.0; kind = kind2.0.1.0; planned = kind2.0.1.1 };
       }));
       form_is = refl;
-      fields_are = rw (weight.0.1.1, pavement.0.1.1, x1.0.1.1, y1.0.1.1, z1.0.1.1, kind1.0.1.1, x2.0.1.1, y2.0.1.1, z2.0.1.1, kind2.0.1.1) refl;
+      fields_are = rw (weight.0.1.1, pavement.0.1.1, x1.0.1.1, y1.0.1.1, z1.0.1.1, kind1.0.1.2, x2.0.1.1, y2.0.1.1, z2.0.1.1, kind2.0.1.2) refl;
       valid = (z1.0.1.2, z2.0.1.2);
     }
 plain_of_values plains.DropRunway before id = record { act = acts.Amend (DropRunway id.0.0 id.1.0.0); form_is = refl; fields_are = refl; valid = tt }

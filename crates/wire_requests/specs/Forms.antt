@@ -1,7 +1,7 @@
 -- The forms of records. Lengths and coordinates are whole tenths of a foot.
 use Rattle.std.specs.Prelude.{ℕ, List, [], ◌∷◌, ◌≡◌, codes}
 use Rattle.wire_values.specs.Words.{weight_word, pavement_word, urgency_word, statement_word, disposal_word, progress_word, warrant_word, grant_word}
-use Rattle.wire_values.specs.Wanted.{Wanted, Spelled, Choice, any_number, case_wanted, months_wanted, FieldIdWanted, RunwayNameWanted, WordWanted, CategoryWanted, ApproachWanted, DateWanted, OptionalDateWanted, CompletionWanted, ImpactWanted, PartyWanted, ReportWanted}
+use Rattle.wire_values.specs.Wanted.{Wanted, Spelled, Choice, any_number, case_wanted, months_wanted, FieldIdWanted, RunwayNameWanted, WordWanted, CategoryWanted, ApproachesWanted, DateWanted, OptionalDateWanted, CompletionWanted, ImpactWanted, PartyWanted, ReportWanted}
 use Rattle.wire_values.specs.Plains.{plain_word}
 use Rattle.wire_values.specs.declared.plain.Plain.{Plain}
 use Rattle.wire_values.specs.declared.plain.Plain.TheVariants as plains
@@ -39,7 +39,7 @@ form_word forms.Sync = codes "sync"
 abbrev pub plain_shape : Plain → List Wanted
 plain_shape plains.Airport = FieldIdWanted ∷ CategoryWanted ∷ coordinate ∷ coordinate ∷ any_number ∷ []
 plain_shape plains.Runway = FieldIdWanted ∷ RunwayNameWanted ∷ Choice weight_word ∷ Choice pavement_word
-    ∷ coordinate ∷ coordinate ∷ any_number ∷ ApproachWanted ∷ coordinate ∷ coordinate ∷ any_number ∷ ApproachWanted ∷ []
+    ∷ coordinate ∷ coordinate ∷ any_number ∷ ApproachesWanted ∷ coordinate ∷ coordinate ∷ any_number ∷ ApproachesWanted ∷ []
 plain_shape plains.DropRunway = FieldIdWanted ∷ RunwayNameWanted ∷ []
 plain_shape plains.Heliport = FieldIdWanted ∷ CategoryWanted
     ∷ coordinate ∷ coordinate ∷ coordinate ∷ coordinate ∷ any_number ∷ any_number ∷ []

@@ -9,7 +9,7 @@ use Rattle.determination_dates.specs.Text.{date_text}
 use Rattle.case_requests.specs.declared.act.Act.{Act}
 use Rattle.case_requests.specs.declared.act.Act.TheVariants as acts
 use Rattle.case_requests.specs.declared.submission.Submission.{Submission}
-use Rattle.wire_values.specs.Words.{category_word, approach_word, weight_word, pavement_word, urgency_word, statement_word, disposal_word, progress_word, warrant_word, grant_word, impact_word, party_word, optional_date, report_word}
+use Rattle.wire_values.specs.Words.{category_word, approaches_text, weight_word, pavement_word, urgency_word, statement_word, disposal_word, progress_word, warrant_word, grant_word, impact_word, party_word, optional_date, report_word}
 use Rattle.wire_values.specs.declared.plain.Plain.{Plain}
 use Rattle.wire_values.specs.declared.plain.Plain.TheVariants as plains
 use Rattle.wire_cursor.specs.Groups.{site_fields}
@@ -25,8 +25,8 @@ use Rattle.wire_requests.specs.Changes.{Asked}
 -- the fields of a runway after its airport
 abbrev pub runway_fields : Runway → List (List ℕ)
 runway_fields r = r.name ∷ weight_word r.utility ∷ pavement_word r.hard
-    ∷ signed_decimal r.end1.at.x ∷ signed_decimal r.end1.at.y ∷ signed_decimal r.end1.z ∷ approach_word r.end1.kind
-    ∷ signed_decimal r.end2.at.x ∷ signed_decimal r.end2.at.y ∷ signed_decimal r.end2.z ∷ approach_word r.end2.kind ∷ []
+    ∷ signed_decimal r.end1.at.x ∷ signed_decimal r.end1.at.y ∷ signed_decimal r.end1.z ∷ approaches_text r.end1.kind r.end1.planned
+    ∷ signed_decimal r.end2.at.x ∷ signed_decimal r.end2.at.y ∷ signed_decimal r.end2.z ∷ approaches_text r.end2.kind r.end2.planned ∷ []
 
 abbrev pub heliport_fields : Heliport → List (List ℕ)
 heliport_fields h = h.id ∷ category_word h.category ∷ signed_decimal h.a.x ∷ signed_decimal h.a.y

@@ -16,8 +16,8 @@ use grid_exact::{NoMemory, Point, Text};
 use jiff::civil::Date;
 use std::alloc::Global;
 use wire_values::{
-    CaseNumber, Disposal, Grant, Months, Pavement, Progress, Statement, Urgency, Warrant, Weight,
-    WholeNumber, append_next, append_text,
+    Approaches, CaseNumber, Disposal, Grant, Months, Pavement, Progress, Statement, Urgency,
+    Warrant, Weight, WholeNumber, append_next, append_text,
 };
 
 // Appends a number. By reference, so that the callers' proofs see the number itself and not its 64 bits.
@@ -45,7 +45,13 @@ fn append_end(text: &mut String, end: &RunwayEnd) -> Result<(), NoMemory>
 {
     append_point(text, &end.at)?;
     append_number(text, &end.z)?;
-    append_next(text, &end.kind)?;
+    append_next(
+        text,
+        &Approaches {
+            kind: end.kind,
+            planned: end.planned,
+        },
+    )?;
     Ok(())
 }
 

@@ -28,13 +28,14 @@ use Rattle.case_requests.specs.declared.act.Impact.{Impact}
 use Rattle.case_requests.specs.declared.act.Impact.TheVariants as impacts
 use Rattle.case_requests.specs.declared.act.Party.{Party}
 use Rattle.case_requests.specs.declared.act.Party.TheVariants as parties
-use Rattle.wire_values.specs.Words.{IsWordByte, IsWord, category_word, approach_word, kind_word, marked_text, flag_letters, flags_text, or_dash, name_text, IsAirfieldName, IsBetween, impact_word, party_word, optional_date, IsAnyLimited, report_word}
+use Rattle.wire_values.specs.Words.{IsWordByte, IsWord, category_word, approaches_text, kind_word, marked_text, flag_letters, flags_text, or_dash, name_text, IsAirfieldName, IsBetween, impact_word, party_word, optional_date, IsAnyLimited, report_word}
 use Rattle.wire_values.specs.declared.report.ReportKind.{ReportKind}
 use Rattle.wire_values.specs.declared.report.ReportKind.TheVariants as reports
-use Rattle.wire_values.specs.Wanted.{Wanted, Fits, mobile_limit, is_granted, Spelled, Between, Counted, Choice, FieldIdWanted, RunwayNameWanted, WordWanted, CategoryWanted, ApproachWanted, KindWanted, MobileWanted, FlagsWanted, AirfieldWanted, DateWanted, OptionalDateWanted, CompletionWanted, ImpactWanted, PartyWanted, ReportWanted}
+use Rattle.wire_values.specs.Wanted.{Wanted, Fits, mobile_limit, is_granted, Spelled, Between, Counted, Choice, FieldIdWanted, RunwayNameWanted, WordWanted, CategoryWanted, ApproachesWanted, KindWanted, MobileWanted, FlagsWanted, AirfieldWanted, DateWanted, OptionalDateWanted, CompletionWanted, ImpactWanted, PartyWanted, ReportWanted}
 use Rattle.wire_values.specs.Plainness.{is_field_byte, IsShortField, IsUsual}
 use Rattle.wire_values.proofs.Decisions.{Decided, decided_by, both_decided, either_decided, same_text, le_decided, same_decided, whole_le_decided, all_decided, spelling_decided}
-use Rattle.wire_values.proofs.Named.{own, category_named, category_again, approach_named, approach_again, kind_named, kind_again, impact_named, impact_again, party_named, party_again, report_named, report_again, number_named, number_again}
+use Rattle.wire_values.proofs.ApproachFacts.{approaches_decided}
+use Rattle.wire_values.proofs.Named.{own, category_named, category_again, kind_named, kind_again, impact_named, impact_again, party_named, party_again, report_named, report_again, number_named, number_again}
 use Rattle.wire_values.proofs.DateNames.{date_decided, optional_decided, completion_decided, a_day, a_day_limited, date_bytes}
 use Rattle.wire_values.proofs.LetterFacts.{flags_read, flags_again}
 use Rattle.wire_values.proofs.LimitFacts.{between_short}
@@ -127,7 +128,7 @@ fits_decided FieldIdWanted u before text = field_id_decided text
 fits_decided RunwayNameWanted u before text = runway_name_decided text
 fits_decided WordWanted u before text = word_decided text
 fits_decided CategoryWanted u before text = spelling_decided category_word category_named category_again text
-fits_decided ApproachWanted u before text = spelling_decided approach_word approach_named approach_again text
+fits_decided ApproachesWanted u before text = approaches_decided text
 fits_decided KindWanted u before text = spelling_decided kind_word kind_named kind_again text
 fits_decided MobileWanted u before text = number_decided (pos 0) (mobile_limit before) (omega (arith, ints)) (mobile_limit_short before) text
 fits_decided FlagsWanted u before text = spelling_decided flags_text flags_read flags_again text
@@ -171,11 +172,27 @@ category_short categories.Dod = short_word _ (omega arith) (omega arith) refl
 category_short categories.Procedure = short_word _ (omega arith) (omega arith) refl
 category_short categories.OtherPrivate = short_word _ (omega arith) (omega arith) refl
 
-approach_short : (k : ApproachKind) → IsShortField (approach_word k)
-approach_short approaches.Visual = short_word _ (omega arith) (omega arith) refl
-approach_short approaches.NonprecisionAbove = short_word _ (omega arith) (omega arith) refl
-approach_short approaches.NonprecisionLow = short_word _ (omega arith) (omega arith) refl
-approach_short approaches.Precision = short_word _ (omega arith) (omega arith) refl
+approaches_short : (k : ApproachKind) (p : Option ApproachKind) → IsShortField (approaches_text k p)
+approaches_short approaches.Visual None = short_word _ (omega arith) (omega arith) refl
+approaches_short approaches.Visual (Some approaches.Visual) = short_word _ (omega arith) (omega arith) refl
+approaches_short approaches.Visual (Some approaches.NonprecisionAbove) = short_word _ (omega arith) (omega arith) refl
+approaches_short approaches.Visual (Some approaches.NonprecisionLow) = short_word _ (omega arith) (omega arith) refl
+approaches_short approaches.Visual (Some approaches.Precision) = short_word _ (omega arith) (omega arith) refl
+approaches_short approaches.NonprecisionAbove None = short_word _ (omega arith) (omega arith) refl
+approaches_short approaches.NonprecisionAbove (Some approaches.Visual) = short_word _ (omega arith) (omega arith) refl
+approaches_short approaches.NonprecisionAbove (Some approaches.NonprecisionAbove) = short_word _ (omega arith) (omega arith) refl
+approaches_short approaches.NonprecisionAbove (Some approaches.NonprecisionLow) = short_word _ (omega arith) (omega arith) refl
+approaches_short approaches.NonprecisionAbove (Some approaches.Precision) = short_word _ (omega arith) (omega arith) refl
+approaches_short approaches.NonprecisionLow None = short_word _ (omega arith) (omega arith) refl
+approaches_short approaches.NonprecisionLow (Some approaches.Visual) = short_word _ (omega arith) (omega arith) refl
+approaches_short approaches.NonprecisionLow (Some approaches.NonprecisionAbove) = short_word _ (omega arith) (omega arith) refl
+approaches_short approaches.NonprecisionLow (Some approaches.NonprecisionLow) = short_word _ (omega arith) (omega arith) refl
+approaches_short approaches.NonprecisionLow (Some approaches.Precision) = short_word _ (omega arith) (omega arith) refl
+approaches_short approaches.Precision None = short_word _ (omega arith) (omega arith) refl
+approaches_short approaches.Precision (Some approaches.Visual) = short_word _ (omega arith) (omega arith) refl
+approaches_short approaches.Precision (Some approaches.NonprecisionAbove) = short_word _ (omega arith) (omega arith) refl
+approaches_short approaches.Precision (Some approaches.NonprecisionLow) = short_word _ (omega arith) (omega arith) refl
+approaches_short approaches.Precision (Some approaches.Precision) = short_word _ (omega arith) (omega arith) refl
 
 kind_short : (k : StructureKind) → IsShortField (kind_word k)
 kind_short kinds.Object = short_word _ (omega arith) (omega arith) refl
@@ -266,7 +283,7 @@ fits_short FieldIdWanted u before text h = field_id_short text h
 fits_short RunwayNameWanted u before text h = record { least = h.least; most = omega (arith, h.most); bytes = All-weaker IsRunwayByte (λ b. is_field_byte b ≡ true) stroke_plain text h.bytes }
 fits_short WordWanted u before text h = record { least = h.least; most = h.most; bytes = All-weaker IsWordByte (λ b. is_field_byte b ≡ true) word_byte_plain text h.bytes }
 fits_short CategoryWanted u before text h = subst IsShortField (sym h.1) (category_short h.0)
-fits_short ApproachWanted u before text h = subst IsShortField (sym h.1) (approach_short h.0)
+fits_short ApproachesWanted u before text h = subst IsShortField (sym h.2) (approaches_short h.0 h.1)
 fits_short KindWanted u before text h = subst IsShortField (sym h.1) (kind_short h.0)
 fits_short MobileWanted u before text h =
     subst IsShortField (sym h.1) (number_short h.0 (between_short (pos 0) (mobile_limit before) h.0 (omega (arith, ints)) (mobile_limit_short before) h.2))
@@ -304,7 +321,7 @@ example before FieldIdWanted u = (65 ∷ [], record { least = omega arith; most 
 example before RunwayNameWanted u = (65 ∷ [], record { least = omega arith; most = omega arith; bytes = All-cons IsRunwayByte 65 [] (inl letter_a) (All-nil IsRunwayByte) })
 example before WordWanted u = (65 ∷ [], record { least = omega arith; most = omega arith; bytes = All-cons IsWordByte 65 [] (inl (omega arith, omega arith)) (All-nil IsWordByte) })
 example before CategoryWanted u = (category_word categories.PublicUse, (categories.PublicUse, refl))
-example before ApproachWanted u = (approach_word approaches.Visual, (approaches.Visual, refl))
+example before ApproachesWanted u = (approaches_text approaches.Visual None, (approaches.Visual, None, refl))
 example before KindWanted u = (kind_word kinds.Object, (kinds.Object, refl))
 example before MobileWanted u =
     (signed_decimal (pos 0), (pos 0, refl, (omega (arith, ints), no_less (bytes_eq before (codes "private") || bytes_eq before (codes "water")))))

@@ -4,5 +4,6 @@ pub mod LimitFacts
 pub mod TextFacts
 pub mod Decisions
 pub mod Named
+pub mod ApproachFacts
 pub mod DateNames
 pub mod FieldFacts

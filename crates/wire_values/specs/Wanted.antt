@@ -15,7 +15,7 @@ use Rattle.determination_dates.specs.Text.{date_text}
 use Rattle.determination_dates.specs.declared.determination.TheConstants.{EXTENSION_MONTHS}
 use Rattle.case_requests.specs.declared.act.Impact.{Impact}
 use Rattle.case_requests.specs.declared.act.Party.{Party}
-use Rattle.wire_values.specs.Words.{IsWord, category_word, approach_word, kind_word, flags_text, name_text, IsAirfieldName, IsBetween, impact_word, party_word, optional_date, IsAnyLimited, report_word}
+use Rattle.wire_values.specs.Words.{IsWord, category_word, approaches_text, kind_word, flags_text, name_text, IsAirfieldName, IsBetween, impact_word, party_word, optional_date, IsAnyLimited, report_word}
 use Rattle.wire_values.specs.declared.counts.TheConstants.{CASE_LIMIT}
 use Rattle.wire_values.specs.declared.report.ReportKind.{ReportKind}
 
@@ -37,8 +37,8 @@ pub data Wanted : Type 0 where
   WordWanted : Wanted
   -- a category of airfields
   CategoryWanted : Wanted
-  -- the kind of approach of a runway end
-  ApproachWanted : Wanted
+  -- the kind of approach of a runway end, and the planned one, where one is
+  ApproachesWanted : Wanted
   -- the kind of a structure
   KindWanted : Wanted
   -- the height of the highest mobile object, by the structure's kind in the field before
@@ -91,7 +91,7 @@ Fits FieldIdWanted before field = IsFieldId field
 Fits RunwayNameWanted before field = IsRunwayName field
 Fits WordWanted before field = IsWord field
 Fits CategoryWanted before field = (category : Category) × (field ≡ category_word category)
-Fits ApproachWanted before field = (kind : ApproachKind) × (field ≡ approach_word kind)
+Fits ApproachesWanted before field = (kind : ApproachKind) × (planned : Option ApproachKind) × (field ≡ approaches_text kind planned)
 Fits KindWanted before field = (kind : StructureKind) × (field ≡ kind_word kind)
 Fits MobileWanted before field = (z : ℤ) × (field ≡ signed_decimal z) × IsBetween (pos 0) (mobile_limit before) z
 Fits FlagsWanted before field = (flags : Flags) × (field ≡ flags_text flags)

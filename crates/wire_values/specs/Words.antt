@@ -49,6 +49,15 @@ approach_word approaches.NonprecisionAbove = codes "NA"
 approach_word approaches.NonprecisionLow = codes "NL"
 approach_word approaches.Precision = codes "P"
 
+-- a stroke and the kind that is planned, where one is
+abbrev pub planned_text : Option ApproachKind → List ℕ
+planned_text None = []
+planned_text (Some planned) = codes "/" ++ approach_word planned
+
+-- the kind of approach of a runway end, and the planned one, where one is
+abbrev pub approaches_text : ApproachKind → Option ApproachKind → List ℕ
+approaches_text kind planned = approach_word kind ++ planned_text planned
+
 -- whether a runway is a utility runway (77.3)
 abbrev pub weight_word : Bool → List ℕ
 weight_word utility = if utility then codes "utility" else codes "other"

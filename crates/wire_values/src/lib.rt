@@ -3,6 +3,7 @@
 //! Lengths, coordinates and elevations are whole tenths of a foot.
 #![tactic(auto)]
 
+mod approaches;
 mod choices;
 mod counts;
 mod dates;
@@ -16,6 +17,7 @@ mod report;
 mod word;
 mod words;
 
+pub use approaches::Approaches;
 pub use choices::{Disposal, Grant, Pavement, Progress, Statement, Urgency, Warrant, Weight};
 pub use counts::{CASE_LIMIT, CaseNumber, Months};
 pub use dates::completion_date;

@@ -1,18 +1,16 @@
 //! Values spelled by one word of a fixed list.
 
 ghost use Rattle.std.specs.Prelude.{◌≡◌, ◌≢◌, Some, IfSome, IfNone, refl};
-ghost use Rattle.runway_classes.specs.declared.ApproachKind.{ApproachKind};
 ghost use Rattle.airfields.specs.declared.category.Category.{Category};
 ghost use Rattle.case_requests.specs.declared.act.Impact.{Impact as SomeImpact};
-ghost use Rattle.wire_values.specs.Words.{category_word, approach_word, kind_word, impact_word, party_word, report_word};
-ghost use Rattle.wire_values.specs.Wanted.{CategoryWanted, ApproachWanted, KindWanted, ImpactWanted, PartyWanted, ReportWanted};
+ghost use Rattle.wire_values.specs.Words.{category_word, kind_word, impact_word, party_word, report_word};
+ghost use Rattle.wire_values.specs.Wanted.{CategoryWanted, KindWanted, ImpactWanted, PartyWanted, ReportWanted};
 
 use crate::field_value::{FieldValue, append_text};
 use crate::report::ReportKind;
 use airfields::{Category, StructureKind};
 use case_requests::{Impact, Party};
 use grid_exact::NoMemory;
-use runway_classes::ApproachKind;
 
 fn text_of_category(category: Category) -> &'static str
     ensures { result.now ≡ category_word category }
@@ -51,42 +49,6 @@ impl FieldValue for Category {
 
     fn append(&self, text: &mut String) -> Result<(), NoMemory> {
         append_text(text, text_of_category(*self))
-    }
-
-    ghost fits = { λ v _ _. (v, refl) };
-}
-
-fn text_of_approach(kind: ApproachKind) -> &'static str
-    ensures { result.now ≡ approach_word kind }
-{
-    match kind {
-        ApproachKind::Visual => "V",
-        ApproachKind::NonprecisionAbove => "NA",
-        ApproachKind::NonprecisionLow => "NL",
-        ApproachKind::Precision => "P",
-    }
-}
-
-impl FieldValue for ApproachKind {
-    ghost wanted = { ApproachWanted };
-
-    ghost spelled = { approach_word };
-
-    ghost good = { λ _. Unit {0} };
-
-    #[tactic(auto, using(crate::proofs::WordFacts::no_approach))]
-    fn parse(text: &[u8]) -> Option<ApproachKind> {
-        match text {
-            b"V" => Some(ApproachKind::Visual),
-            b"NA" => Some(ApproachKind::NonprecisionAbove),
-            b"NL" => Some(ApproachKind::NonprecisionLow),
-            b"P" => Some(ApproachKind::Precision),
-            _ => None,
-        }
-    }
-
-    fn append(&self, text: &mut String) -> Result<(), NoMemory> {
-        append_text(text, text_of_approach(*self))
     }
 
     ghost fits = { λ v _ _. (v, refl) };

@@ -12,11 +12,11 @@ loop-i-preserved c =
     let inv = c.loop-i.invariant in
     elim c.if-is_of_kind.branch [
       | then-is_of_kind w ↦ (
-        w.count-is ∙ ap (λ n. n + 1) inv.0 ∙ sym (more ∙ ap (λ b. passing p c.loop-i.i (maps.entries c.args.tables.now) + cond b 1 0) (sym (c.is_of_kind.ensures _) ∙ w.if-is_of_kind.true)),
+        w.count-is ∙ ap (λ n. n + 1) inv.0 ∙ sym (more ∙ ap (λ b. passing p c.loop-i.i (maps.entries c.args.tables.now) + cond b 1 0) (sym c.is_of_kind.ensures ∙ w.if-is_of_kind.true)),
         omega (arith, w.count-is, inv.1),
       )
       | else-is_of_kind w ↦ (
-        let same = more ∙ ap (λ b. passing p c.loop-i.i (maps.entries c.args.tables.now) + cond b 1 0) (sym (c.is_of_kind.ensures _) ∙ w.if-is_of_kind.false) in
+        let same = more ∙ ap (λ b. passing p c.loop-i.i (maps.entries c.args.tables.now) + cond b 1 0) (sym c.is_of_kind.ensures ∙ w.if-is_of_kind.false) in
             omega (arith, w.count-is, inv.0, same),
         omega (arith, w.count-is, inv.1),
       )

@@ -6,4 +6,4 @@ use Rattle.desk_tables.proofs.opening.read_all.Given as goal
 
 -- the rows so far are read
 abbrev pub invariant-loop-i : goal.invariant-loop-i
-invariant-loop-i l = Reads l.is_lone (unread_of l.tables) (take l.i (maps.entries l.tables)) l.part
+invariant-loop-i l = Reads l.layout (unread_of l.tables) (take l.i (maps.entries l.tables)) l.part

@@ -15,5 +15,5 @@ returns-in-Some-clause-bad c =
       requests = c.one_receipt_row.ensures;
     } in
     let r : Row = ((place c.args.table, c.args.key.now), c.args.row.now) in
-    bad_value one r c.in-Some.value (IsNext c.args.is_lone c.args.part.now) c.take.result
+    bad_value one r c.in-Some.value (IsNext c.args.layout c.args.part.now) c.take.result
     (subst (λ o. IfSome o (λ v. IsRowOf r v)) c.in-Some.is c.in_ok-value.ensures.some) c.take.ensures.bad

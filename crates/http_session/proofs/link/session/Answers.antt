@@ -1,12 +1,22 @@
 use Rattle.std.proofs.Common.{arith, refl}
-use Rattle.http_session.proofs.SessionFacts.{ends_more}
+use Rattle.http_session.proofs.UnderwayFacts.{underway_goes, underway_sent, underway_stops}
 use Rattle.line_session.proofs.SessionFacts.{fell_more}
 use Rattle.http_session.proofs.link.session.Goals as goal
 
 pub messages-preserved : goal.messages-preserved
-messages-preserved g c = record {
-  on = λ ended t m r. c.messages.invariant.on ended t m (ends_more g.A.Replying.step ended _ _ t _ _ _ _ m (c.in-None.ensures.goes refl) r);
-  took = fell_more _ _ _ _ _ c.messages.invariant.took c.turn.ensures.more c.turn.ensures.took;
-  read_later = omega (arith, c.turn.ensures.read_later, c.messages.invariant.read_later);
-  write_later = omega (arith, c.turn.ensures.write_later, c.messages.invariant.write_later);
-}
+messages-preserved g c =
+    let u = underway_sent g.A.Replying.step _ _ _ _ _ _ _ _ _ c.messages.invariant.underway c.in-Ok.ensures.sent in
+    record {
+      underway = rw c.respond.ensures.left (underway_goes g.A.Replying.step _ _ _ _ _ _ _ _ _ _ _ u (c.in-None.ensures.goes refl _ _ c.in-Ok.ensures.gives));
+      took = rw c.respond.ensures.left (fell_more _ _ _ _ _ c.messages.invariant.took c.receive.ensures.more c.receive.ensures.took);
+      read_later = omega (arith, c.respond.ensures.read_faults, c.receive.ensures.later, c.messages.invariant.read_later);
+      write_later = grind (arith, c.respond.ensures.later, c.receive.ensures.cause, c.messages.invariant.write_later);
+    }
+
+pub returns-in-Some-clause-ends : goal.returns-in-Some-clause-ends
+returns-in-Some-clause-ends g c =
+    let u = underway_sent g.A.Replying.step _ _ _ _ _ _ _ _ _ c.messages.invariant.underway c.in-Ok.ensures.sent in
+    underway_stops g.A.Replying.step _ _ _ _ _ _ _ _ _ _ u (c.in-Some.ensures.ends _ _ c.in-Ok.ensures.gives)
+
+pub returns-in-Err-clause-ends : goal.returns-in-Err-clause-ends
+returns-in-Err-clause-ends g c = c.messages.invariant.underway.cut c.args.desk.now _ c.in-Err.ensures.err

@@ -1,6 +1,6 @@
 use Rattle.std.proofs.Common.{◌≡◌, FitsSigned, w64, to_z, of_z, to_z-of_z, arith, ap, ◌∙◌}
 use Rattle.std.proofs.lemmas.Int.{ints}
-use Rattle.airfields.specs.Runways.{is_precision}
+use Rattle.airfields.specs.Runways.{effective, is_precision}
 use Rattle.grid_exact.specs.Axes.{line_of}
 use Rattle.runway_lines.specs.Ends.{class_of, end_class_of, end_of, line_between, other_end}
 use Rattle.imaginary_surfaces.specs.Strips.{approach_of}
@@ -36,8 +36,8 @@ returns c =
     let fz : FitsSigned w64 z = omega (arith, ints, c.of-runway_end.type_inv) in
     let ew : to_z w64 (of_z w64 w) ≡ (class_of r).width = to_z-of_z fw ∙ ap (λ k. k.width) c.class.ensures.value in
     let ez : to_z w64 (of_z w64 z) ≡ (end_of r end).z = to_z-of_z fz ∙ ap (λ e. e.z) c.of-runway_end.ensures in
-    let ep : c.is_precision.result ≡ is_precision (end_of r end).kind = c.is_precision.ensures ∙ ap (λ e. is_precision e.kind) c.of-runway_end.ensures in
+    let ep : c.is_precision.result ≡ is_precision (effective (end_of r end)) = c.is_precision.ensures ∙ ap (λ e. is_precision (effective e)) c.of-runway_end.ensures in
     record {
       shape = same_approach (line_of c.outward.result) (line_between r end (other_end end) end) (to_z w64 (of_z w64 w)) (class_of r).width c.end_class.result (end_class_of r end) (to_z w64 (of_z w64 z)) (end_of r end).z
-          c.is_precision.result (is_precision (end_of r end).kind) c.outward.ensures.line ew c.end_class.ensures.value ez ep;
+          c.is_precision.result (is_precision (effective (end_of r end))) c.outward.ensures.line ew c.end_class.ensures.value ez ep;
     }

@@ -1,31 +1,43 @@
-use Rattle.std.proofs.Common.{option_copied, subst, Err}
+use Rattle.std.proofs.Common.{option_copied, subst, Err, ◌≡◌}
 use Rattle.oe_keeper.specs.Keeping.{IfFailed, Rose}
 use Rattle.oe_keeper.specs.declared.keeper.KeepErr.{KeepErr}
+use Rattle.desk_tables.specs.Opening.{is_older}
+use Rattle.filing_desk.specs.Loads.{HasRenewed}
 use Rattle.filing_desk.proofs.Deciding.{opened_now}
-use Rattle.filing_desk.proofs.Opened.{bad_found}
-use Rattle.filing_desk.proofs.Unasked.{told_loaded}
+use Rattle.filing_desk.proofs.Opened.{bad_found, later_twice, not_renewed, told_renewed}
 use Rattle.filing_desk.proofs.clerk.Clerk.open.Goals as goal
 
 pub invariant_of-result : goal.invariant_of-result
 invariant_of-result g c =
-    let office = c.in-Ok-office_of.office in
-    let begun = opened_now office c.accepted-base.result c.load.new.self c.accepted-base.ensures.value in
+    let h = g.K.Keeper in
+    let opened = c.in-Ok-office_of.opened in
+    let kept = c.in-Ok.tables in
+    let between = c.load.new.self in
+    let after = c.renew.new.keeper in
+    let renewed = subst (λ b. HasRenewed h.Tells b between after) c.in-Ok-office_of.ensures.older c.in-Ok-renew.ensures.renewed in
+    let begun = opened_now opened.office c.accepted-base.result after c.accepted-base.ensures.value in
     record {
       within = begun.0;
       opening = begun.1;
-      desk = c.opened_is_desk.ensures office c.in-Ok.tables c.in-Ok-office_of.ensures.opened;
-      told = told_loaded g.K.Keeper.Tells c.load.new.self c.in-Ok.tables office c.in-Ok.ensures.rows c.in-Ok-office_of.ensures.rows;
-      loaded = c.in-Ok.ensures.loaded;
+      desk = c.opened_is_desk.ensures opened.office kept c.in-Ok-office_of.ensures.opened;
+      told = told_renewed h.Tells kept between after opened.office c.in-Ok.ensures.rows renewed c.in-Ok-office_of.ensures.rows;
+      loaded = c.in-Ok-renew.ensures.loaded;
     }
 
-pub returns-in-Ok-office_of-clause-opened : goal.returns-in-Ok-office_of-clause-opened
-returns-in-Ok-office_of-clause-opened g c =
+pub returns-in-Ok-renew-clause-opened : goal.returns-in-Ok-renew-clause-opened
+returns-in-Ok-renew-clause-opened g c =
     let h = c.in-Ok.ensures in
-    let begun = opened_now c.in-Ok-office_of.office c.accepted-base.result c.load.new.self c.accepted-base.ensures.value in
+    let k = g.K.Keeper in
+    let between = c.load.new.self in
+    let after = c.renew.new.keeper in
+    let begun = opened_now c.in-Ok-office_of.opened.office c.accepted-base.result after c.accepted-base.ensures.value in
     record {
       kept = c.in-Ok.tables;
+      between = between;
       loaded = record { found = h.found; told = h.rows; stays = h.stays };
-      later = record { steady = h.steady; counted = h.cause.later };
+      renewed = subst (λ b. HasRenewed k.Tells b between after) c.in-Ok-office_of.ensures.older c.in-Ok-renew.ensures.renewed;
+      later = later_twice k.Tells k.Finds k.IsSteady k.faults c.args.keeper (option_copied c.args.place) between after
+          (record { steady = h.steady; counted = h.cause.later }) c.in-Ok-renew.ensures.later;
       opens = c.in-Ok-office_of.ensures.opened;
       accepted = begun.2;
     }
@@ -48,3 +60,9 @@ returns-in-Err-clause-cause g c =
     let h = c.in-Ok.ensures in
     bad_found g.K.Keeper.Tells g.K.Keeper.Finds g.K.Keeper.IsSteady g.K.Keeper.faults c.args.keeper (option_copied c.args.place) c.in-Ok.tables c.load.new.self
     (record { found = h.found; told = h.rows; stays = h.stays }) c.in-Err.why c.in-Err.ensures.bad
+
+pub returns-in-Err-renew-clause-cause : goal.returns-in-Err-renew-clause-cause
+returns-in-Err-renew-clause-cause g c =
+    let h = c.in-Ok.ensures in
+    not_renewed g.K.Keeper.Tells g.K.Keeper.Finds g.K.Keeper.IsSteady g.K.Keeper.faults c.args.keeper (option_copied c.args.place) c.load.new.self c.renew.new.keeper
+    (record { steady = h.steady; counted = h.cause.later }) c.in-Err-renew.ensures.later c.in-Err-renew.why c.in-Err-renew.ensures.cause
