@@ -62,8 +62,8 @@ class Link:
             raise ConnectionError("the link was closed")
         self.held += got
 
-    def ask(self, request):
-        """Sends a request and gives the body of its response. Raises OSError where the link ends before it is whole."""
+    def response(self, request):
+        """Sends a request and gives the head and the body of its response. Raises OSError where the link ends before it is whole."""
         self.socket.sendall(request)
         while (at := self.held.find(HEAD_END)) < 0:
             self.more()
@@ -73,4 +73,8 @@ class Link:
         while len(self.held) < end:
             self.more()
         body, self.held = self.held[at + len(HEAD_END):end], self.held[end:]
-        return body
+        return head, body
+
+    def ask(self, request):
+        """Sends a request and gives the body of its response."""
+        return self.response(request)[1]

@@ -134,6 +134,8 @@ FORMS: dict[str, tuple[Field, ...]] = {
     "dispose": fields(OF_CASE, Field("DISPOSITION", words("affirm", "reverse"))),
     "extend": fields(OF_CASE, Field("MONTHS", MONTHS), Field("WORK", words("started", "unstarted")), Field("FILED", DAY_OR_NONE),
                      Field("WARRANTED", words("yes", "no"))),
+    "revise": fields(OF_CASE, Field("WORK", words("started", "unstarted")), Field("GROUND", GROUND), Field("HEIGHT", HEIGHT),
+                     Field("FINDING", FINDING)),
     "fcc": fields(OF_CASE, Field("WHAT", words("granted", "refused")), Field("DATE", FCC_DATE)),
     "abandon": OF_CASE,
     "case": (Field("CASE", CASE),),

@@ -52,6 +52,9 @@ class Structure:
         """The greatest excess over a standard."""
         return max((entry.excess / TENTHS for entry in self.entries if entry.rule.is_standard), default=0)
 
+    def revise(self, ground: float, height: float) -> None:
+        self.ground, self.height = ground, height
+
     def judge(self, changes: int, entries: tuple[Entry, ...]) -> None:
         self.changes, self.entries, self.finding = changes, entries, finding_of(entries)
 
@@ -84,8 +87,10 @@ def structures(pairs: Iterable[Pair], names: Names) -> tuple[list[Structure], in
                     one.changes, one.finding = reply.changes, finding_of_verdict(reply)
                 case Accepted():
                     cases[reply.values[0]] = one
-        elif isinstance(reply, Accepted) and reply.form == "determine" and reply.values[0] in cases:
+        elif isinstance(reply, Accepted) and reply.form in ("determine", "revise") and reply.values[0] in cases:
             judged = cases[reply.values[0]]
+            if reply.form == "revise":
+                judged.revise(feet(pair.record.values["GROUND"]), feet(pair.record.values["HEIGHT"]))
             judged.judge(int(reply.values[2]), read_entries(list(reply.values[ENTRIES_OF_DETERMINATION:])))
     return some, refused
 

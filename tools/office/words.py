@@ -15,13 +15,13 @@ REFUSALS = {  # {0} and {1} are the values of the refusal
     5: "a runway is 100 to 20,000 ft long: are the coordinates tenths of a foot?",
     6: "an end of a runway is more than 40,000 ft east or north of the reference point, or west or south: are all on one grid?",
     7: "the airport has 16 runways, and no more are taken",
-    8: "4,096 airfields are registered, and no more are taken",
+    8: "16,384 airfields are registered, and no more are taken",
     9: "an elevation is below -2,000 ft or above 20,000 ft: is it in tenths of a foot?",
     10: "the area of a heliport is 10 to 1,000 ft long and 10 to 500 ft wide",
     11: "this ID is an airfield of the other sort (airport, heliport)",
     12: "a date that follows from it would be before 1900 or after 2999",
     14: "there is no case of this number",
-    15: "the desk has 100,000 cases, and no more are taken",
+    15: "the desk has 300,000 cases, and no more are taken",
     16: "the desk's day is {0} and does not go back to {1}",
     17: "the case is {0}, and this act does not come then",
     18: "a standard is exceeded: say none or substantial for its adverse effect",
@@ -30,8 +30,8 @@ REFUSALS = {  # {0} and {1} are the values of the refusal
     21: "petitions were due by {0}, and it is {1}",
     22: "a petition is pending already",
     23: "no petition is pending",
-    24: "an extension was to be asked for by {0}, and it is {1}",
-    25: "structural work has started, so nothing is extended",
+    24: "an extension or a revision was to be asked for by {0}, and it is {1}",
+    25: "structural work has started, so nothing is extended or revised",
     26: "it was extended before; without an FCC application that is done once",
     27: "the evidence of the FCC application is wanting (77.35(c))",
     28: "this CALLER and KEY stand for another request, entry {0}: take a new KEY",
@@ -39,6 +39,8 @@ REFUSALS = {  # {0} and {1} are the values of the refusal
     30: "it could not be stored in the file: look at the disk and its permissions, then send it again",
     31: "memory was wanting: send it again",
     32: "no form is due on this case",
+    33: "the case has this ground and this height already",
+    34: "it was revised 255 times, and no more are counted",
     35: "a way has at most 64 stations: end it with -, and begin the next one where it ends",
     36: "KIND, MOBILE, FLAGS and ON are those of the way's first station",
     37: "the way that ends here has no station",
@@ -131,7 +133,7 @@ def say_act(form: str, values: tuple[str, ...]) -> list[str]:
     match form, values:
         case "case", (case, timely, fcc, presumed):
             return say_notice(case, timely, fcc, presumed)
-        case "determine", _:
+        case "determine" | "revise", _:
             return say_determination(values)
         case "form", (case, late):
             return [f"case {case}: the form came, {say_lateness(late)}"]

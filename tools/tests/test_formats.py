@@ -12,7 +12,7 @@ from pathlib import Path
 from tests.trial import PROGRAM, Trial
 
 DATA = Path(__file__).resolve().parent / "data"
-FORMAT = "2"
+FORMAT = "3"
 
 
 def format_of(file: Path) -> str:

@@ -3,3 +3,4 @@ pub mod WithinLimits
 pub mod NameText
 pub mod SameFiling
 pub mod SameStructures
+pub mod NewFacts

@@ -51,3 +51,16 @@ pub record IsSite (s : Site) : Type 0 where
   pub height_most : s.height ≤ℤ HEIGHT_LIMIT
   pub mobile_least : pos 0 ≤ℤ s.mobile
   pub mobile_most : s.mobile ≤ℤ greatest_mobile s.kind
+
+-- ---- revisions
+
+-- the elevation of the ground and the height are within the limits of a filing
+pub record AreFacts (terrain height : ℤ) : Type 0 where
+  pub terrain_least : ELEVATION_LEAST ≤ℤ terrain
+  pub terrain_most : terrain ≤ℤ ELEVATION_MOST
+  pub height_least : pos 0 ≤ℤ height
+  pub height_most : height ≤ℤ HEIGHT_LIMIT
+
+-- the structure with these new facts
+abbrev pub revised_site : Site → ℤ → ℤ → Site
+revised_site s terrain height = record s { terrain = terrain; height = height }

@@ -1,7 +1,7 @@
 //! A structure within the limits of a filing.
 
 ghost use Rattle.std.specs.Prelude.{◌≡◌, MatchResult};
-ghost use Rattle.airfields.specs.Sites.{IsSite, site, greatest_mobile};
+ghost use Rattle.airfields.specs.Sites.{AreFacts, IsSite, site, greatest_mobile, revised_site};
 
 use crate::limits::{ELEVATION_LEAST, ELEVATION_MOST};
 use crate::names::FieldId;
@@ -65,6 +65,27 @@ impl Filing {
             flags,
             on,
         })
+    }
+
+    /// The structure with another elevation of the ground and another height above it, in tenths of a foot: the new facts on which a
+    /// determination may be revised (77.35(a)).
+    ///
+    /// # Errors
+    ///
+    /// `FilingRange` exactly where one of the two is outside its limits.
+    pub fn revised(&self, terrain: i64, height: i64) -> Result<Filing, FilingRange>
+        ensures { MatchResult result (λ f. f ≡ revised_site self.now terrain height)
+            (λ _. ¬ AreFacts terrain height) }
+    {
+        Filing::new(
+            self.at,
+            terrain,
+            height,
+            self.kind,
+            self.mobile,
+            self.flags,
+            self.on,
+        )
     }
 
     /// For proofs: the filing is within its limits.

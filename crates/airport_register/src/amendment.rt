@@ -33,7 +33,7 @@ pub enum Amendment {
 /// Why an amendment is refused.
 #[derive(Clone, Copy, Debug, PartialEq, Eq)]
 pub enum AmendRefusal {
-    /// A utility runway has a precision end.
+    /// A utility runway has an end that has, or is planned for, a precision approach.
     PrecisionOnUtility,
     /// No airfield of this name is registered.
     UnknownAirfield,

@@ -18,7 +18,7 @@ use std::marker::Model;
 use std::sync::Arc;
 
 /// Most airfields in a register.
-pub const MOST_AIRFIELDS: usize = 4_096;
+pub const MOST_AIRFIELDS: usize = 16_384;
 
 /// The register, which contracts see as the list of its airfields in rising order of name.
 #[derive(Drop)]

@@ -1,1 +1,2 @@
 pub mod TestFacts
+pub mod RuleFacts

@@ -26,4 +26,4 @@ IsSoundStep (steps.DayClosed d) = IsLimited d
 IsSoundStep (steps.CaseFiled c) = IsSound c
 IsSoundStep (steps.FormPut number day) = IsLimited day
 IsSoundStep (steps.LifePut number life) = IfSome life.determination IsKept
-IsSoundStep (steps.Issued number life list) = IfSome life.determination IsKept
+IsSoundStep (steps.Issued number site life list) = IfSome life.determination IsKept

@@ -4,6 +4,7 @@ use Rattle.std.specs.Prelude.{ℕ, Bool, true, false, Option, Some, None, List, 
 use Rattle.std.specs.Option.{option_map}
 use Rattle.jiff_core.specs.declared.civil.date.Date.{Date}
 use Rattle.jiff_core.specs.Date.{epoch_day}
+use Rattle.airfields.specs.Sites.{Site, revised_site}
 use Rattle.determination_dates.specs.declared.determination.Record.{Record}
 use Rattle.determination_dates.specs.declared.life.End.{End}
 use Rattle.determination_dates.specs.declared.life.End.TheVariants as ends
@@ -11,7 +12,7 @@ use Rattle.determination_dates.specs.declared.life.Life.{Life}
 use Rattle.determination_dates.specs.declared.notice.TheConstants.{FORM_DAYS}
 use Rattle.determination_dates.specs.Notices.{days_over}
 use Rattle.determination_dates.specs.Effects.{effective_date}
-use Rattle.determination_dates.specs.Computed.{with_some, timeliness_of, issued_record, affirmed_record, extended_record, expiry_date, last_date}
+use Rattle.determination_dates.specs.Computed.{with_some, timeliness_of, issued_record, affirmed_record, extended_record, revised_record, expiry_date, last_date}
 use Rattle.case_requests.specs.declared.submission.Submission.{Submission}
 use Rattle.case_requests.specs.declared.act.Impact.{Impact}
 use Rattle.case_records.specs.declared.outcome.Outcome.{Outcome}
@@ -22,6 +23,7 @@ use Rattle.case_acts.specs.declared.effect.Effect.{Effect}
 use Rattle.case_acts.specs.declared.effect.Step.{Step}
 use Rattle.case_acts.specs.declared.effect.Step.TheVariants.{CaseFiled, FormPut, LifePut, Issued}
 use Rattle.case_acts.specs.declared.extension.Extension.{Extension}
+use Rattle.case_acts.specs.declared.revision.Revision.{Revision}
 use Rattle.case_acts.specs.declared.notice.TheConstants.{PRESUMED_HEIGHT}
 use Rattle.case_acts.specs.Decisions.{decision_by, is_reviewable}
 
@@ -68,7 +70,7 @@ ended_life c end = record { end = Some end; determination = c.life.determination
 abbrev pub issue_effect : ℕ → KeptCase → KeptList → Record → Effect
 issue_effect number c kept r =
     effect (outcomes.Determined number r.decision kept.last r.issued r.deadline (effective_date r) (expiry_date r) kept.list)
-    (Issued number (with_record c r) kept)
+    (Issued number c.submission.filing (with_record c r) kept)
 
 abbrev pub determination_effect : ℕ → Option Impact → List Date → KeptList → Date → KeptCase → Option Effect
 determination_effect number finding closed kept today c =
@@ -103,6 +105,23 @@ moved number c r = with_some (expiry_date r) (λ e. option_map (λ l. effect (ou
 
 abbrev pub extension_effect : ℕ → Extension → KeptCase → Option Effect
 extension_effect number x c = on_record c (λ r. with_some (extended_record x.months r) (moved number c))
+
+-- a determination that was issued on a list of this structure, in the place of the case's
+abbrev pub revised_effect : ℕ → KeptCase → Site → KeptList → Record → Effect
+revised_effect number c site kept r =
+    effect (outcomes.Revised number r.decision kept.last r.issued r.deadline (effective_date r) (expiry_date r) kept.list)
+    (Issued number site (with_record c r) kept)
+
+-- the structure of the case with the new facts
+abbrev pub site_with : Revision → KeptCase → Site
+site_with x c = revised_site c.submission.filing x.terrain x.height
+
+-- a determination is issued today on the new facts, as any is, and the extensions that were granted still count: 77.35(a)
+abbrev pub revision_effect : ℕ → Revision → List Date → KeptList → Date → KeptCase → Option Effect
+revision_effect number x closed kept today c =
+    on_record c
+    (λ r. option_map (revised_effect number c (site_with x c) kept)
+    (revised_record today (decision_by x.finding) (is_reviewable (decision_by x.finding) (site_with x c) kept.list) closed r))
 
 -- where the FCC grants a permit the expiry is its completion date, and where it refuses one it is today: 77.35(c)
 abbrev pub expiry_by_fcc : Option Date → Date → Date

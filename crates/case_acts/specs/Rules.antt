@@ -1,11 +1,14 @@
 -- The rules that an act on a case may break, in the order of testing: the status first, then the rules of the act in order of
 -- their numbers. The limit of dates is the last rule of each act: where a date is outside, the act has no effect (see Effects).
-use Rattle.std.specs.Prelude.{List, [], ◌∷◌, ◌++◌, Bool, true, false, not, ◌&&◌, ◌||◌, cond, nat_lt, Option, Some, None, is_none, is_some, pos, int_lt, int_le}
+use Rattle.std.specs.Prelude.{List, [], ◌∷◌, ◌++◌, Bool, true, false, not, ◌&&◌, ◌||◌, cond, nat_le, nat_lt, Option, Some, None, is_none, is_some, pos, int_lt, int_le}
+use Rattle.std.specs.Ordering.{int_eq}
 use Rattle.jiff_core.specs.declared.civil.date.Date.{Date}
 use Rattle.jiff_core.specs.Date.{epoch_day}
 use Rattle.jiff_span.specs.Months.{add_months}
+use Rattle.airfields.specs.Sites.{Site}
 use Rattle.finding_lists.specs.Verdicts.{is_obstruction}
 use Rattle.determination_dates.specs.declared.determination.Record.{Record}
+use Rattle.determination_dates.specs.declared.determination.TheConstants.{MOST_REVISIONS}
 use Rattle.determination_dates.specs.declared.evidence.TheConstants.{EVIDENCE_MONTHS}
 use Rattle.determination_dates.specs.declared.life.Status.{Status}
 use Rattle.determination_dates.specs.Statuses.{status_of}
@@ -16,6 +19,7 @@ use Rattle.case_records.specs.declared.refusal.Refusal.TheVariants as refusals
 use Rattle.case_records.specs.declared.case.KeptList.{KeptList}
 use Rattle.case_records.specs.declared.case.KeptCase.{KeptCase}
 use Rattle.case_acts.specs.declared.extension.Extension.{Extension}
+use Rattle.case_acts.specs.declared.revision.Revision.{Revision}
 use Rattle.case_acts.specs.Standing.{is_awaiting, is_standing, is_in_force, is_planned}
 
 -- the refusal, if its rule is broken
@@ -97,6 +101,24 @@ moving_rules x today application r =
 
 abbrev pub extension_rules : Extension → Date → KeptCase → List Refusal
 extension_rules x today c = on_determination is_in_force (moving_rules x today c.submission.fcc) today c
+
+-- ---- revisions: 77.35(a)
+
+-- the facts are those of the structure
+abbrev pub has_same_facts : Site → Revision → Bool
+has_same_facts site x = int_eq site.terrain x.terrain && int_eq site.height x.height
+
+-- before structural work, on other facts, and as long as revisions can be counted
+abbrev pub change_rules : Revision → Site → Record → List Refusal
+change_rules x site r =
+    refusal_if x.started refusals.WorkStarted ++ refusal_if (has_same_facts site x) refusals.SameFacts ++ refusal_if (nat_le MOST_REVISIONS r.revisions) refusals.TooManyRevisions
+
+-- with a finding exactly where a standard is exceeded, and in time for an extension
+abbrev pub revising_rules : Revision → Site → KeptList → Date → Record → List Refusal
+revising_rules x site kept today r = finding_rules x.finding kept ++ last_day_rules (last_date r) today ++ change_rules x site r
+
+abbrev pub revision_rules : Revision → KeptList → Date → KeptCase → List Refusal
+revision_rules x kept today c = on_determination is_in_force (revising_rules x c.submission.filing kept today) today c
 
 -- ---- the FCC, and the end of a proposal
 

@@ -9,8 +9,9 @@ use Rattle.case_records.specs.declared.case.KeptList.{KeptList}
 use Rattle.case_records.specs.declared.case.KeptCase.{KeptCase}
 use Rattle.case_acts.specs.declared.effect.Effect.{Effect}
 use Rattle.case_acts.specs.declared.extension.Extension.{Extension}
-use Rattle.case_acts.specs.Rules.{form_rules, determination_rules, petition_rules, disposal_rules, extension_rules, fcc_rules, abandon_rules}
-use Rattle.case_acts.specs.Effects.{filing_effect, form_came, determination_effect, petition_effect, disposal_effect, extension_effect, license_effect, abandonment_effect}
+use Rattle.case_acts.specs.declared.revision.Revision.{Revision}
+use Rattle.case_acts.specs.Rules.{form_rules, determination_rules, petition_rules, disposal_rules, extension_rules, revision_rules, fcc_rules, abandon_rules}
+use Rattle.case_acts.specs.Effects.{filing_effect, form_came, determination_effect, petition_effect, disposal_effect, extension_effect, revision_effect, license_effect, abandonment_effect}
 
 -- the first broken rule; else the date limit, where there is no effect; else the effect
 abbrev pub by_first : Option Refusal → Option Effect → Result Effect Refusal
@@ -38,6 +39,9 @@ disposal_ruling number affirm today c = ruling (disposal_rules today c) (disposa
 
 abbrev pub extension_ruling : ℕ → Extension → Date → KeptCase → Result Effect Refusal
 extension_ruling number x today c = ruling (extension_rules x today c) (extension_effect number x c)
+
+abbrev pub revision_ruling : ℕ → Revision → List Date → KeptList → Date → KeptCase → Result Effect Refusal
+revision_ruling number x closed kept today c = ruling (revision_rules x kept today c) (revision_effect number x closed kept today c)
 
 abbrev pub fcc_ruling : ℕ → Option Date → Date → KeptCase → Result Effect Refusal
 fcc_ruling number completion today c = ruling (fcc_rules today c) (license_effect number completion today c)

@@ -23,7 +23,7 @@ is_standing Expired = false
 is_standing Abandoned = false
 is_standing Reversed = false
 
--- a determination of no hazard is in force: it may be extended, 77.35
+-- a determination of no hazard is in force: it may be extended or revised, 77.35
 abbrev pub is_in_force : Status → Bool
 is_in_force Awaiting = false
 is_in_force Pending = false

@@ -1,12 +1,14 @@
 //! Issuing determinations (77.31).
 
 ghost use Rattle.std.specs.Prelude.{◌≡◌, ◌≢◌, Ok, Err, IfOk, MatchResult};
+ghost use Rattle.std.specs.Option.{option_to_list};
 ghost use Rattle.finding_lists.specs.Verdicts.{is_obstruction as exceeds};
 ghost use Rattle.determination_dates.specs.Days.{IsLimited};
 ghost use Rattle.determination_dates.specs.Effects.{IsWithinRange};
 ghost use Rattle.case_acts.specs.Cases.{IsSound, IsSoundStep};
 ghost use Rattle.case_acts.specs.Decisions.{decision_by as decided, is_reviewable as reviewable};
 ghost use Rattle.case_acts.specs.Effects.{issue_effect as issued_effect};
+ghost use Rattle.case_acts.specs.Rules.{finding_rules};
 ghost use Rattle.case_acts.specs.Rulings.{determination_ruling};
 
 use crate::effect::{Effect, Step};
@@ -21,14 +23,14 @@ use jiff::civil::Date;
 use std::alloc::Global;
 
 /// Whether a standard is exceeded.
-fn is_obstruction(list: &Findings) -> bool
+pub(crate) fn is_obstruction(list: &Findings) -> bool
     ensures { result ≡ exceeds list.now }
 {
     list.as_slice().iter().any(|f| !f.rule.is_notice())
 }
 
 /// The decision from a finding: a substantial adverse effect is a hazard (77.31).
-fn decision_by(finding: Option<Impact>) -> Decision
+pub(crate) fn decision_by(finding: Option<Impact>) -> Decision
     ensures { result ≡ decided finding }
 {
     match finding {
@@ -39,13 +41,27 @@ fn decision_by(finding: Option<Impact>) -> Decision
 
 /// Whether the determination may be petitioned: not where it is no hazard and the structure is temporary or exceeds no standard
 /// (77.37(b)).
-fn is_reviewable(decision: Decision, filing: &Filing, list: &Findings) -> bool
+pub(crate) fn is_reviewable(decision: Decision, filing: &Filing, list: &Findings) -> bool
     ensures { result ≡ reviewable decision filing.now list.now }
 {
     match decision {
         Decision::Hazard => true,
         Decision::NoHazard => !filing.flags.temporary && is_obstruction(list),
     }
+}
+
+/// `FindingWanted` where a standard is exceeded and there is no finding, `FindingUnwanted` where none is exceeded and there is one (77.31).
+pub(crate) fn unfit(finding: Option<Impact>, kept: &KeptList) -> Option<Refusal>
+    ensures { option_to_list result ≡ finding_rules finding kept.now }
+{
+    let obstruction = is_obstruction(&kept.list);
+    if finding.is_none() && obstruction {
+        return Some(Refusal::FindingWanted);
+    }
+    if finding.is_some() && !obstruction {
+        return Some(Refusal::FindingUnwanted);
+    }
+    None
 }
 
 /// Outcome of issuing a record.
@@ -73,6 +89,7 @@ fn issued(
         },
         step: Step::Issued {
             number,
+            filing: case.submission.filing,
             life: Life {
                 end: case.life.end,
                 determination: Some(r),
@@ -111,12 +128,8 @@ pub fn determine(
     if !is_awaiting(status) {
         return Err(Refusal::NotStanding { status });
     }
-    let obstruction = is_obstruction(&kept.list);
-    if finding.is_none() && obstruction {
-        return Err(Refusal::FindingWanted);
-    }
-    if finding.is_some() && !obstruction {
-        return Err(Refusal::FindingUnwanted);
+    if let Some(why) = unfit(finding, &kept) {
+        return Err(why);
     }
     let decision = decision_by(finding);
     let reviewable = is_reviewable(decision, &case.submission.filing, &kept.list);

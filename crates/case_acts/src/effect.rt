@@ -1,5 +1,6 @@
 //! Effects of accepted requests: their outcome and their change to the state.
 
+use airfields::Filing;
 use airport_register::Amendment;
 use case_records::{KeptCase, KeptList, Outcome};
 use determination_dates::Life;
@@ -26,9 +27,10 @@ pub enum Step {
         number: u32,
         life: Life,
     },
-    /// The case's life is replaced, and the list of its determination is stored.
+    /// The case's life is replaced, and the structure and the list of its determination are stored.
     Issued {
         number: u32,
+        filing: Filing,
         life: Life,
         list: KeptList,
     },

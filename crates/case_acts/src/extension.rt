@@ -55,8 +55,8 @@ fn has_evidence(r: &Record, today: Date, filed: Option<Date>, warranted: bool) -
     is_in_time(r, day) && is_at_most(day, today) && warranted
 }
 
-/// `ExtensionLate` where the request is after the last day for an extension (77.35(a)(2)).
-fn late(r: &Record, today: Date) -> Option<Refusal>
+/// `ExtensionLate` where the request is after the last day for an extension or a revision (77.35(a)(2)).
+pub(crate) fn late(r: &Record, today: Date) -> Option<Refusal>
     requires { IsKept r.now }
     ensures { option_to_list result ≡ last_day_rules (last_date r.now) today }
 {

@@ -11,6 +11,7 @@ mod laws;
 mod notice;
 mod order;
 mod review;
+mod revision;
 mod standing;
 
 pub use determination::determine;
@@ -21,4 +22,5 @@ pub use laws::numbers;
 pub use notice::{PRESUMED_HEIGHT, file, form};
 pub use order::is_before;
 pub use review::{dispose, petition};
+pub use revision::{Revision, revise};
 pub use standing::{is_awaiting, is_in_force, is_planned, is_standing};

@@ -25,7 +25,7 @@ pub fn is_standing(s: Status) -> bool
     }
 }
 
-/// Whether a determination of no hazard is in force, so that it may be extended (77.35).
+/// Whether a determination of no hazard is in force, so that it may be extended or revised (77.35).
 pub fn is_in_force(s: Status) -> bool
     ensures { result ≡ in_force s }
 {

@@ -43,6 +43,20 @@ pub enum Outcome {
         /// The findings that the determination was made on.
         list: Findings,
     },
+    /// A determination was revised on new facts: this one was issued in its place (77.35(a)).
+    Revised {
+        case: u32,
+        decision: Decision,
+        /// The number of the last change that was accepted before the list was computed.
+        last: u64,
+        issued: Date,
+        /// The last day for a petition.
+        deadline: Option<Date>,
+        effective: Option<Date>,
+        expiry: Option<Date>,
+        /// The findings that the determination was made on.
+        list: Findings,
+    },
     /// A petition is pending.
     Petitioned {
         case: u32,
@@ -107,6 +121,25 @@ impl Outcome {
                 expiry,
                 list,
             } => Ok(Outcome::Determined {
+                case: *case,
+                decision: *decision,
+                last: *last,
+                issued: *issued,
+                deadline: *deadline,
+                effective: *effective,
+                expiry: *expiry,
+                list: list.copy(alloc)?,
+            }),
+            Outcome::Revised {
+                case,
+                decision,
+                last,
+                issued,
+                deadline,
+                effective,
+                expiry,
+                list,
+            } => Ok(Outcome::Revised {
                 case: *case,
                 decision: *decision,
                 last: *last,

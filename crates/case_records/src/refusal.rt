@@ -7,7 +7,7 @@ use jiff::civil::Date;
 /// Why a request is refused.
 #[derive(Clone, Copy, Debug, PartialEq, Eq)]
 pub enum Refusal {
-    /// 2: a utility runway has a precision end.
+    /// 2: a utility runway has an end that has, or is planned for, a precision approach.
     PrecisionOnUtility,
     /// 3: no airfield of this name is registered.
     UnknownAirfield,
@@ -51,7 +51,7 @@ pub enum Refusal {
     PetitionPending,
     /// 23: no petition is pending.
     NothingPending,
-    /// 24: the request is after the last day for an extension (77.35(a)).
+    /// 24: the request to extend or to revise is after the last day for it (77.35(a)).
     ExtensionLate { last_day: Date, day: Date },
     /// 25: structural work has started (77.35(a)).
     WorkStarted,
@@ -69,6 +69,10 @@ pub enum Refusal {
     NoMemory,
     /// 32: the case is no emergency, or its form was already received.
     NoFormDue,
+    /// 33: the ground and the height are those that the case has.
+    SameFacts,
+    /// 34: the determination was revised as often as it may be.
+    TooManyRevisions,
 }
 
 impl From<AmendRefusal> for Refusal {

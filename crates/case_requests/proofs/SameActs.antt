@@ -20,7 +20,7 @@ use Rattle.case_requests.specs.contracts.act.ActEq.TheImpl.Laws as laws
 use Rattle.case_requests.specs.declared.act.Impact.{Impact}
 use Rattle.case_requests.specs.declared.submission.Submission.{Submission}
 use Rattle.case_requests.specs.declared.act.Act.{Act}
-use Rattle.case_requests.specs.declared.act.Act.TheVariants.{Amend, Day, Closed, File, Form, Determine, Petition, Dispose, Extend, Fcc, Abandon}
+use Rattle.case_requests.specs.declared.act.Act.TheVariants.{Amend, Day, Closed, File, Form, Determine, Petition, Dispose, Extend, Revise, Fcc, Abandon}
 
 abbrev eq_days : Date → Date → Bool
 eq_days a b = int_eq (epoch_day a) (epoch_day b)
@@ -66,6 +66,9 @@ one_act (Dispose n a) (Dispose m b) h =
 one_act (Extend n l s f w) (Extend m k t g v) h =
     let k = (Decides-and _ _ (Decides-eqb n m) (Decides-and _ _ (Decides-eqb l k) (Decides-and _ _ (booleans_Decides s t) (Decides-and _ _ (same_days f g) (booleans_Decides w v))))).0 h in
     λ i. Extend (k.0 i) (k.1.0 i) (k.1.1.0 i) (k.1.1.1.0 i) (k.1.1.1.1 i)
+one_act (Revise n s g z f) (Revise m t k y e) h =
+    let both = (Decides-and _ _ (Decides-eqb n m) (Decides-and _ _ (booleans_Decides s t) (Decides-and _ _ (Decides-int_eq g k) (Decides-and _ _ (Decides-int_eq z y) (option_same {E = impact_eq.it} same_impact f e))))).0 h in
+    λ i. Revise (both.0 i) (both.1.0 i) (both.1.1.0 i) (both.1.1.1.0 i) (both.1.1.1.1 i)
 one_act (Fcc n c) (Fcc m d) h =
     let k = (Decides-and _ _ (Decides-eqb n m) (same_days c d)).0 h in
     λ i. Fcc (k.0 i) (k.1 i)

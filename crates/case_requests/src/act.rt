@@ -1,6 +1,10 @@
 //! Acts.
 
+ghost use Rattle.std.specs.Prelude.{◌≡◌};
+ghost use Rattle.case_requests.specs.Evaluated.{HasFacts, evaluated_case as case_evaluated, evaluated_of};
+
 use crate::submission::Submission;
+use airfields::Filing;
 use airport_register::Amendment;
 use jiff::civil::Date;
 
@@ -64,6 +68,18 @@ pub enum Act {
         /// Whether more time is warranted.
         warranted: bool,
     },
+    /// A request to revise the determination on new facts (77.35(a)): another is issued on them in its place.
+    Revise {
+        case: u32,
+        /// Whether structural work has started.
+        started: bool,
+        /// The new elevation of the ground at the structure, in tenths of a foot.
+        ground: i64,
+        /// The new height above ground, in tenths of a foot.
+        height: i64,
+        /// The finding where a standard is exceeded; `None` where none is.
+        finding: Option<Impact>,
+    },
     /// The FCC grants a permit with a completion date, or refuses it (77.35(b), (c)).
     Fcc {
         case: u32,
@@ -71,4 +87,31 @@ pub enum Act {
     },
     /// The sponsor abandons the structure (77.33(b)).
     Abandon(u32),
+}
+
+impl Act {
+    /// The number of the case whose structure the act evaluates: a determination does, and a revision.
+    pub fn evaluated_case(&self) -> Option<u32>
+        ensures { result ≡ case_evaluated self.now }
+    {
+        match self {
+            Act::Determine { case, .. } => Some(*case),
+            Act::Revise { case, .. } => Some(*case),
+            _ => None,
+        }
+    }
+
+    /// The structure that the act evaluates, where its case has this one: a revision evaluates it with the new facts (77.35(a)).
+    pub fn evaluated(&self, filing: &Filing) -> Filing
+        requires { HasFacts self.now }
+        ensures { result ≡ evaluated_of self.now filing.now }
+    {
+        match self {
+            Act::Revise { ground, height, .. } => match filing.revised(*ground, *height) {
+                Ok(revised) => revised,
+                Err(_) => unreachable!(),
+            },
+            _ => *filing,
+        }
+    }
 }

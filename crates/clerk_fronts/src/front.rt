@@ -40,7 +40,8 @@ pub trait Front<J: Opening> {
         ensures same { clerk self.new ≡ clerk self.old }
         ensures faults { faults self.new ≡ faults self.old };
 
-    /// Has a changing request decided, stored and published. A determination is made on the list that was evaluated, if one is given.
+    /// Has a changing request decided, stored and published. A determination or a revision is made on the list that was evaluated, if
+    /// one is given.
     ///
     /// # Errors
     ///

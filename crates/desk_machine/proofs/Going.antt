@@ -12,7 +12,7 @@ use Rattle.determination_dates.specs.declared.life.Status.{Status}
 use Rattle.determination_dates.specs.declared.life.Status.TheVariants as statuses
 use Rattle.determination_dates.specs.declared.timely.Timeliness.{Timeliness}
 use Rattle.determination_dates.specs.Statuses.{status_of}
-use Rattle.determination_dates.specs.Computed.{with_some, timeliness_of, issued_record, expiry_date, last_date, affirmed_record, extended_record}
+use Rattle.determination_dates.specs.Computed.{with_some, timeliness_of, issued_record, revised_record, expiry_date, last_date, affirmed_record, extended_record}
 use Rattle.case_requests.specs.declared.act.Act.{Act}
 use Rattle.case_requests.specs.declared.act.Act.TheVariants as acts
 use Rattle.case_requests.specs.declared.act.Impact.{Impact}
@@ -25,10 +25,11 @@ use Rattle.case_acts.specs.declared.effect.Effect.{Effect}
 use Rattle.case_acts.specs.declared.effect.Step.{Step}
 use Rattle.case_acts.specs.declared.effect.Step.TheVariants as steps
 use Rattle.case_acts.specs.declared.extension.Extension.{Extension}
+use Rattle.case_acts.specs.declared.revision.Revision.{Revision}
 use Rattle.case_acts.specs.Standing.{is_standing, is_in_force}
-use Rattle.case_acts.specs.Rules.{refusal_if, in_status, on_determination, of_record, review_rules, pending_rules, moving_rules, license_rules, determination_rules}
+use Rattle.case_acts.specs.Rules.{refusal_if, in_status, on_determination, of_record, review_rules, pending_rules, moving_rules, license_rules, determination_rules, revision_rules}
 use Rattle.case_acts.specs.Rulings.{by_first, ruling}
-use Rattle.case_acts.specs.Effects.{ended_life, petition_effect, disposal_effect, settlement_effect, extension_effect, moved, license_effect, abandonment_effect, determination_effect, issue_effect, filing_effect, form_came}
+use Rattle.case_acts.specs.Effects.{ended_life, petition_effect, disposal_effect, settlement_effect, extension_effect, moved, license_effect, abandonment_effect, determination_effect, issue_effect, revision_effect, revised_effect, site_with, filing_effect, form_came}
 use Rattle.case_acts.specs.Decisions.{decision_by, is_reviewable}
 use Rattle.desk_machine.specs.States.{State, case_at}
 use Rattle.desk_machine.specs.Machine.{ruling_of_act, on_day, on_kept, on_list, day_rules, file_rules}
@@ -178,6 +179,18 @@ determination_goes s number finding today c kept e h =
     goes_mapped Record s (issued_record today (decision_by finding) (is_reviewable (decision_by finding) c.submission.filing kept.list) s.closed) _ e (λ r. tt)
     (came (slice_get (determination_rules finding kept today c) 0) (determination_effect number finding s.closed kept today c) e h).some
 
+-- the record of a case, where an effect is of one
+through_record : (s : State) (o : Option Record) (f : Record → Option Effect) (e : Effect) → ((r : Record) → f r ≡ Some e → Goes s e.step) → with_some o f ≡ Some e → Goes s e.step
+through_record s None f e g h = absurd (cc (h))
+through_record s (Some r) f e g h = g r h
+
+revision_goes : (s : State) (number : ℕ) (x : Revision) (today : Date) (c : KeptCase) (kept : KeptList) (e : Effect)
+    → ruling (revision_rules x kept today c) (revision_effect number x s.closed kept today c) ≡ Ok e → Goes s e.step
+revision_goes s number x today c kept e h =
+    through_record s c.life.determination _ e
+    (λ r k. goes_mapped Record s (revised_record today (decision_by x.finding) (is_reviewable (decision_by x.finding) (site_with x c) kept.list) s.closed r) _ e (λ q. tt) k)
+    (came (slice_get (revision_rules x kept today c) 0) (revision_effect number x s.closed kept today c) e h).some
+
 pub on_list_shown : (o : Option KeptList) (act : KeptList → Result Effect Refusal) (e : Effect) (P : Type 0) → ((kept : KeptList) → o ≡ Some kept → act kept ≡ Ok e → P) → on_list o act ≡ Ok e → P
 on_list_shown None act e P f h = absurd (cc (h))
 on_list_shown (Some kept) act e P f h = f kept refl h
@@ -203,6 +216,10 @@ acted_goes s basis (acts.Extend number months started filing warranted) e h =
     (λ today c day at k.
     let x : Extension = record { months = months; started = started; filed = filing; warranted = warranted } in
     standing_act s number (of_record c.life.determination (moving_rules x today c.submission.fcc)) (extension_effect number x c) (is_in_force (status_of c.life (epoch_day today))) (refusals.NotStanding (status_of c.life (epoch_day today))) today c e day at (in_force_stands (status_of c.life (epoch_day today))) (extension_puts number x c e) k) h
+acted_goes s basis (acts.Revise number started ground height finding) e h =
+    let x : Revision = record { started = started; terrain = ground; height = height; finding = finding } in
+    on_case_shown s number _ e (Goes s e.step)
+    (λ today c day at k. on_list_shown basis _ e (Goes s e.step) (λ kept on m. revision_goes s number x today c kept e m) k) h
 acted_goes s basis (acts.Fcc number completion) e h =
     on_case_shown s number _ e (Goes s e.step)
     (λ today c day at k. standing_act s number (of_record c.life.determination (λ r. license_rules c)) (license_effect number completion today c) (is_in_force (status_of c.life (epoch_day today))) (refusals.NotStanding (status_of c.life (epoch_day today))) today c e day at (in_force_stands (status_of c.life (epoch_day today))) (license_puts number completion today c e) k) h

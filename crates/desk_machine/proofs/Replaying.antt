@@ -22,8 +22,9 @@ use Rattle.case_records.specs.declared.case.KeptCase.{KeptCase}
 use Rattle.case_acts.specs.declared.effect.Effect.{Effect}
 use Rattle.case_acts.specs.declared.effect.Step.{Step}
 use Rattle.case_acts.specs.declared.effect.Step.TheVariants as steps
-use Rattle.case_acts.specs.Effects.{issue_effect}
-use Rattle.case_acts.specs.Rulings.{by_first, determination_ruling}
+use Rattle.case_acts.specs.declared.revision.Revision.{Revision}
+use Rattle.case_acts.specs.Effects.{issue_effect, revised_effect, revision_effect, site_with}
+use Rattle.case_acts.specs.Rulings.{by_first, determination_ruling, revision_ruling}
 use Rattle.desk_machine.specs.declared.entry.Entry.{Entry}
 use Rattle.desk_machine.specs.States.{State, state_after_step, with_entry, entry_of, case_at}
 use Rattle.desk_machine.specs.Evaluations.{Given, same_site, own_list, evaluation_of, evaluated_site, site_of, basis_of}
@@ -68,6 +69,37 @@ determined_again s p given number finding f (Some today) (Some c) is =
     let told : Records kept (site_of c) f = records number c kept f _ _ is in
     ap Some (rw (told.0, told.1) (taken s (site_of c) kept))
 
+-- and so for a revision
+
+revision_records : (number : ℕ) (c : KeptCase) (site : Site) (kept : KeptList) (f : Effect) (r : Option Record) → option_map (revised_effect number c site kept) r ≡ Some f → Records kept site f
+revision_records number c site kept f None is = absurd (cc (is))
+revision_records number c site kept f (Some r) is =
+    let same : revised_effect number c site kept r ≡ f = cc (is) in
+    subst (Records kept site) same (refl, refl)
+
+record_records : (number : ℕ) (c : KeptCase) (site : Site) (kept : KeptList) (f : Effect) (why : Option Refusal) (o : Option Record) (g : Record → Option Record)
+    → by_first why (with_some o (λ r. option_map (revised_effect number c site kept) (g r))) ≡ Ok f → Records kept site f
+record_records number c site kept f (Some why) o g is = absurd (cc (is))
+record_records number c site kept f None None g is = absurd (cc (is))
+record_records number c site kept f None (Some r) g is = revision_records number c site kept f (g r) (by_effect (option_map (revised_effect number c site kept) (g r)) is)
+  where
+    by_effect : (o : Option Effect) → by_first None o ≡ Ok f → o ≡ Some f
+    by_effect None e = absurd (cc (e))
+    by_effect (Some x) e = let same : x ≡ f = cc (e) in ap Some same
+
+abbrev revised_on : ℕ → Revision → State → Option Date → Option KeptCase → Option KeptList → Result Effect Refusal
+revised_on number x s day v basis = on_day day (λ today. on_kept v (λ c. on_list basis (λ kept. revision_ruling number x s.closed kept today c)))
+
+revised_again : (s : State) (p : ℕ) (given : Option Given) (number : ℕ) (x : Revision) (f : Effect) (day : Option Date) (v : Option KeptCase)
+    → revised_on number x s day v (option_map (evaluation_of s p given) (option_map (site_with x) v)) ≡ Ok f
+    → option_map (evaluation_of s (version_of f.outcome) (with_some (option_map (site_with x) v) (list_given f.outcome))) (option_map (site_with x) v) ≡ option_map (evaluation_of s p given) (option_map (site_with x) v)
+revised_again s p given number x f None v is = absurd (cc (is))
+revised_again s p given number x f (Some today) None is = refl
+revised_again s p given number x f (Some today) (Some c) is =
+    let kept = evaluation_of s p given (site_with x c) in
+    let told : Records kept (site_with x c) f = record_records number c (site_with x c) kept f _ c.life.determination _ is in
+    ap Some (rw (told.0, told.1) (taken s (site_with x c) kept))
+
 -- so each act has the same basis again
 basis_again : (s : State) (p : ℕ) (given : Option Given) (a : Act) (f : Effect) → ruling_of_act s (basis_of s p given a) a ≡ Ok f
     → basis_of s (version_of f.outcome) (with_some (evaluated_site s a) (list_given f.outcome)) a ≡ basis_of s p given a
@@ -80,6 +112,8 @@ basis_again s p given (acts.Determine number finding) f is = determined_again s 
 basis_again s p given (acts.Petition number party) f is = refl
 basis_again s p given (acts.Dispose number affirm) f is = refl
 basis_again s p given (acts.Extend number months started filed warranted) f is = refl
+basis_again s p given (acts.Revise number started ground height finding) f is =
+    revised_again s p given number (record { started = started; terrain = ground; height = height; finding = finding }) f s.day (case_at s.cases number) is
 basis_again s p given (acts.Fcc number completion) f is = refl
 basis_again s p given (acts.Abandon number) f is = refl
 
@@ -173,7 +207,7 @@ same_entries (steps.DayClosed d) s = refl
 same_entries (steps.CaseFiled c) s = refl
 same_entries (steps.FormPut number day) s = refl
 same_entries (steps.LifePut number life) s = refl
-same_entries (steps.Issued number life list) s = refl
+same_entries (steps.Issued number site life list) s = refl
 
 repeated_new : (s : State) (n : ℕ) (q : Asked) (other : Option Given) (e : Entry) (step : Step) (r : Result Effect Refusal)
     → entry_of q.caller q.key s.entries ≡ None → decide_new s q r ≡ Done e step → decide (with_entry e (state_after_step step s)) n q other ≡ Kept e

@@ -135,7 +135,7 @@ unwanted : (at : Point) → told (asked (after_all empty (one_filed at)) (change
 unfolding d2026_08_31 d2026_12_01 days_from_civil day_count days_of_years days_of_months date_on weekday_number
 unwanted at = refl
 
--- what an answer tells, in numbers: 1 to 9 for what is accepted and the number of a refusal, then numbers and days
+-- what an answer tells, in numbers: 1 to 10 for what is accepted and the number of a refusal, then numbers and days
 abbrev dated : Option Date → ℤ
 dated None = pos 0
 dated (Some d) = epoch_day d
@@ -151,6 +151,7 @@ heard (Ok (outcomes.Plain plain)) = pos 1 ∷ []
 heard (Ok (outcomes.Filed number t fcc explained)) = pos 2 ∷ pos number ∷ lateness t ∷ []
 heard (Ok (outcomes.FormCame number n)) = pos 3 ∷ pos number ∷ pos n ∷ []
 heard (Ok (outcomes.Determined number decision last issued deadline effective expiry list)) = pos 4 ∷ pos last ∷ epoch_day issued ∷ dated deadline ∷ dated effective ∷ dated expiry ∷ pos (length list) ∷ []
+heard (Ok (outcomes.Revised number decision last issued deadline effective expiry list)) = pos 10 ∷ pos last ∷ epoch_day issued ∷ dated deadline ∷ dated effective ∷ dated expiry ∷ pos (length list) ∷ []
 heard (Ok (outcomes.Petitioned number)) = pos 5 ∷ []
 heard (Ok (outcomes.Disposed number affirmed effective expiry)) = pos 6 ∷ dated effective ∷ dated expiry ∷ []
 heard (Ok (outcomes.Extended number expiry last_day)) = pos 7 ∷ epoch_day expiry ∷ epoch_day last_day ∷ []
@@ -187,6 +188,8 @@ heard (Refused refusals.NoDay) = pos 29 ∷ []
 heard (Refused refusals.KeeperFault) = pos 30 ∷ []
 heard (Refused refusals.NoMemory) = pos 31 ∷ []
 heard (Refused refusals.NoFormDue) = pos 32 ∷ []
+heard (Refused refusals.SameFacts) = pos 33 ∷ []
+heard (Refused refusals.TooManyRevisions) = pos 34 ∷ []
 
 abbrev session : State → List Asked → List (List ℤ)
 session s [] = []

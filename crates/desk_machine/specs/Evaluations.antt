@@ -1,12 +1,13 @@
--- The list of findings that a determination is made on.
+-- The list of findings that a determination or a revision is made on.
 use Rattle.std.specs.Prelude.{ℕ, ◌&&◌, nat_le, cond, Bool, List, Option, Some, None}
 use Rattle.std.specs.Option.{option_map}
 use Rattle.airfields.specs.Sites.{Site}
 use Rattle.airfields.specs.contracts.structure.FilingPartialEq.TheImpl as filing
 use Rattle.finding_lists.specs.declared.finding.Finding.{Finding}
+use Rattle.determination_dates.specs.Computed.{with_some}
 use Rattle.oe_findings.specs.List.{findings_of}
 use Rattle.case_requests.specs.declared.act.Act.{Act}
-use Rattle.case_requests.specs.declared.act.Act.TheVariants as acts
+use Rattle.case_requests.specs.Evaluated.{evaluated_case, evaluated_of}
 use Rattle.case_records.specs.declared.case.KeptList.{KeptList}
 use Rattle.case_records.specs.declared.case.KeptCase.{KeptCase}
 use Rattle.desk_machine.specs.States.{State, last_number, case_at}
@@ -33,19 +34,9 @@ evaluation_of s p (Some g) site = cond (same_site g.filing site && nat_le g.last
 abbrev pub site_of : KeptCase → Site
 site_of c = c.submission.filing
 
--- the structure that an act evaluates: for a determination, that of its case
+-- the structure that an act evaluates: that of its case, for a revision with the new facts
 abbrev pub evaluated_site : State → Act → Option Site
-evaluated_site s (acts.Amend a) = None
-evaluated_site s (acts.Day d) = None
-evaluated_site s (acts.Closed d) = None
-evaluated_site s (acts.File n) = None
-evaluated_site s (acts.Form number) = None
-evaluated_site s (acts.Determine number finding) = option_map site_of (case_at s.cases number)
-evaluated_site s (acts.Petition number party) = None
-evaluated_site s (acts.Dispose number affirm) = None
-evaluated_site s (acts.Extend number months started filed warranted) = None
-evaluated_site s (acts.Fcc number completion) = None
-evaluated_site s (acts.Abandon number) = None
+evaluated_site s act = with_some (evaluated_case act) (λ number. option_map (λ c. evaluated_of act (site_of c)) (case_at s.cases number))
 
 -- the list that an act is decided on
 abbrev pub basis_of : State → ℕ → Option Given → Act → Option KeptList

@@ -18,6 +18,7 @@ register_after_act airfields (acts.Determine number finding) = airfields
 register_after_act airfields (acts.Petition number party) = airfields
 register_after_act airfields (acts.Dispose number affirm) = airfields
 register_after_act airfields (acts.Extend number months started filed warranted) = airfields
+register_after_act airfields (acts.Revise number started terrain height finding) = airfields
 register_after_act airfields (acts.Fcc number completion) = airfields
 register_after_act airfields (acts.Abandon number) = airfields
 

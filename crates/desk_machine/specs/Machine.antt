@@ -26,7 +26,7 @@ use Rattle.case_acts.specs.declared.effect.Step.{Step}
 use Rattle.case_acts.specs.declared.effect.Step.TheVariants as steps
 use Rattle.case_acts.specs.Rules.{refusal_if}
 use Rattle.case_acts.specs.Effects.{effect, filing_effect}
-use Rattle.case_acts.specs.Rulings.{by_first, ruling, form_ruling, determination_ruling, petition_ruling, disposal_ruling, extension_ruling, fcc_ruling, abandon_ruling}
+use Rattle.case_acts.specs.Rulings.{by_first, ruling, form_ruling, determination_ruling, petition_ruling, disposal_ruling, extension_ruling, revision_ruling, fcc_ruling, abandon_ruling}
 use Rattle.desk_machine.specs.declared.entry.Entry.{Entry}
 use Rattle.desk_machine.specs.declared.entry.TheConstants.{MOST_CASES}
 use Rattle.desk_machine.specs.States.{State, state_after_step, with_entry, entry_of, case_at, last_number}
@@ -72,6 +72,9 @@ ruling_of_act s basis (acts.Petition number party) = on_case s number (petition_
 ruling_of_act s basis (acts.Dispose number affirm) = on_case s number (disposal_ruling number affirm)
 ruling_of_act s basis (acts.Extend number months started filed warranted) =
     on_case s number (extension_ruling number (record { months = months; started = started; filed = filed; warranted = warranted }))
+ruling_of_act s basis (acts.Revise number started terrain height finding) =
+    on_case s number
+    (λ today c. on_list basis (λ kept. revision_ruling number (record { started = started; terrain = terrain; height = height; finding = finding }) s.closed kept today c))
 ruling_of_act s basis (acts.Fcc number completion) = on_case s number (fcc_ruling number completion)
 ruling_of_act s basis (acts.Abandon number) = on_case s number (abandon_ruling number)
 
@@ -83,7 +86,7 @@ register_rule register (steps.DayClosed d) = None
 register_rule register (steps.CaseFiled c) = None
 register_rule register (steps.FormPut number day) = None
 register_rule register (steps.LifePut number life) = None
-register_rule register (steps.Issued number life list) = None
+register_rule register (steps.Issued number site life list) = None
 
 abbrev pub register_effect : List Airfield → Result Effect Refusal → Result Effect Refusal
 register_effect register (Err why) = Err why
@@ -142,6 +145,7 @@ version_of (outcomes.Plain plain) = 0
 version_of (outcomes.Filed number in_time fcc explained) = 0
 version_of (outcomes.FormCame number late) = 0
 version_of (outcomes.Determined number decision last issued deadline effective expiry list) = last
+version_of (outcomes.Revised number decision last issued deadline effective expiry list) = last
 version_of (outcomes.Petitioned number) = 0
 version_of (outcomes.Disposed number affirmed effective expiry) = 0
 version_of (outcomes.Extended number expiry last_day) = 0
@@ -154,6 +158,7 @@ list_given (outcomes.Plain plain) site = None
 list_given (outcomes.Filed number in_time fcc explained) site = None
 list_given (outcomes.FormCame number late) site = None
 list_given (outcomes.Determined number decision last issued deadline effective expiry list) site = Some (record { filing = site; last = last; list = list })
+list_given (outcomes.Revised number decision last issued deadline effective expiry list) site = Some (record { filing = site; last = last; list = list })
 list_given (outcomes.Petitioned number) site = None
 list_given (outcomes.Disposed number affirmed effective expiry) site = None
 list_given (outcomes.Extended number expiry last_day) site = None

@@ -62,7 +62,7 @@ Goes s (steps.DayClosed d) = Unit {0}
 Goes s (steps.CaseFiled c) = (c.list ≡ None) × (s.day ≢ None)
 Goes s (steps.FormPut number day) = Unit {0}
 Goes s (steps.LifePut number life) = (c : KeptCase) → case_at s.cases number ≡ Some c → stands_on s.day c ≡ false → stands_on s.day (record c { life = life }) ≡ false
-Goes s (steps.Issued number life kept) = Unit {0}
+Goes s (steps.Issued number site life kept) = Unit {0}
 
 -- a determination is issued on the list of its structure over the present airfields
 abbrev pub IsPresent : State → Step → Type 0
@@ -72,4 +72,4 @@ IsPresent s (steps.DayClosed d) = Unit {0}
 IsPresent s (steps.CaseFiled c) = Unit {0}
 IsPresent s (steps.FormPut number day) = Unit {0}
 IsPresent s (steps.LifePut number life) = Unit {0}
-IsPresent s (steps.Issued number life kept) = (c : KeptCase) → case_at s.cases number ≡ Some c → kept.list ≡ findings_of s.register c.submission.filing
+IsPresent s (steps.Issued number site life kept) = kept.list ≡ findings_of s.register site

@@ -2,10 +2,14 @@
 use Rattle.std.specs.Prelude.{ℕ, ◌-◌, ◌==◌, List, [], ◌∷◌, ◌++◌, length, Option, Some, None, ◌&&◌, cond, nat_eq, slice_get, slice_set}
 use Rattle.std.specs.Cmp.Lexicographic.{pointwise}
 use Rattle.jiff_core.specs.declared.civil.date.Date.{Date}
+use Rattle.airfields.specs.Sites.{Site}
 use Rattle.airfields.specs.declared.airfield.Airfield.{Airfield}
 use Rattle.airport_register.specs.Amendments.{after_amendment}
 use Rattle.determination_dates.specs.Closed.{with_day}
+use Rattle.determination_dates.specs.declared.life.Life.{Life}
+use Rattle.case_requests.specs.declared.submission.Submission.{Submission}
 use Rattle.case_records.specs.declared.case.KeptCase.{KeptCase}
+use Rattle.case_records.specs.declared.case.KeptList.{KeptList}
 use Rattle.case_acts.specs.declared.effect.Step.{Step}
 use Rattle.case_acts.specs.declared.effect.Step.TheVariants as steps
 use Rattle.desk_machine.specs.declared.entry.Entry.{Entry}
@@ -47,6 +51,13 @@ cases_changed_at number f cases (Some c) = slice_set cases (number - 1) (f c)
 abbrev pub with_case : ℕ → (KeptCase → KeptCase) → List KeptCase → List KeptCase
 with_case number f cases = cases_changed_at number f cases (case_at cases number)
 
+abbrev pub with_filing : Site → Submission → Submission
+with_filing site n = record n { filing = site }
+
+-- the case after a determination was issued on this list of this structure
+abbrev pub issued_case : Site → Life → KeptList → KeptCase → KeptCase
+issued_case site life list c = record c { submission = with_filing site c.submission; life = life; list = Some list }
+
 -- the state after a step
 abbrev pub state_after_step : Step → State → State
 state_after_step (steps.Amended a) s = record s { register = after_amendment s.register a }
@@ -55,7 +66,7 @@ state_after_step (steps.DayClosed d) s = record s { closed = with_day d s.closed
 state_after_step (steps.CaseFiled c) s = record s { cases = s.cases ++ c ∷ [] }
 state_after_step (steps.FormPut number day) s = record s { cases = with_case number (λ c. record c { form = Some day }) s.cases }
 state_after_step (steps.LifePut number life) s = record s { cases = with_case number (λ c. record c { life = life }) s.cases }
-state_after_step (steps.Issued number life list) s = record s { cases = with_case number (λ c. record c { life = life; list = Some list }) s.cases }
+state_after_step (steps.Issued number site life list) s = record s { cases = with_case number (issued_case site life list) s.cases }
 
 -- and with its entry appended
 abbrev pub with_entry : Entry → State → State

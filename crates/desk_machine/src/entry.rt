@@ -10,7 +10,7 @@ use tree_versions::Version;
 use wire_requests::Change;
 
 /// The greatest number of cases.
-pub const MOST_CASES: usize = 100_000;
+pub const MOST_CASES: usize = 300_000;
 
 /// An accepted request, with its number and its outcome.
 #[derive(Drop)]

@@ -10,7 +10,6 @@ ghost use Rattle.link_gates.specs.Serving.{SessionOf, WorksOff};
 ghost use Rattle.link_gates.specs.Teams.{served_in};
 ghost use Rattle.link_gates.specs.declared.shift.TheConstants.{TURN_LIMIT};
 
-use clerk_fronts::Locked;
 use desk_machine::Entry;
 use grid_exact::NoMemory;
 use http_routes::Routes;
@@ -19,8 +18,7 @@ use line_session::Answering;
 use link_gates::{Port, Shift, TURN_LIMIT, Worked, worker};
 use oe_findings::Sky;
 use oe_keeper::Keeper;
-use publishing_clerk::{Opening, PublishingClerk};
-use seat_desk::SeatDesk;
+use seat_desk::{Locked, Opening, PublishingClerk, SeatDesk};
 use std::alloc::Global;
 use std::marker::Brand;
 use std::sync::ledger::{Blank, Ledger};

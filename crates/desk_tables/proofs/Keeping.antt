@@ -14,7 +14,7 @@ use Rattle.row_register.specs.Desk.{desk_key, desk_row}
 use Rattle.row_register.specs.declared.desk.DeskRow.TheVariants as rows
 use Rattle.oe_keeper.specs.Kept.{Kept, rows_after_changes, rows_after_change}
 use Rattle.oe_keeper.specs.declared.change.Table.TheVariants as tables
-use Rattle.desk_machine.specs.States.{State, state_after_step, with_entry, with_case, cases_changed_at, case_at, entry_of}
+use Rattle.desk_machine.specs.States.{State, state_after_step, with_entry, with_case, cases_changed_at, case_at, entry_of, issued_case}
 use Rattle.desk_machine.specs.declared.entry.Entry.{Entry}
 use Rattle.desk_machine.specs.declared.entry.TheConstants.{MOST_CASES}
 use Rattle.wire_values.specs.Words.{IsWord}
@@ -107,7 +107,7 @@ step_kept f s e (steps.CaseFiled c) kept fits are =
     (filing_added s.cases c _ _ are.filings fits.room (put_in kept tables.Filing (case_key (length s.cases + 1)) (filing_row c)))
 step_kept f s e (steps.FormPut number day) kept fits are = case_stepped f s kept number (λ c. record c { form = Some day }) (case_at s.cases number) are fits.most refl
 step_kept f s e (steps.LifePut number life) kept fits are = case_stepped f s kept number (λ c. record c { life = life }) (case_at s.cases number) are fits.most refl
-step_kept f s e (steps.Issued number life list) kept fits are = case_stepped f s kept number (λ c. record c { life = life; list = Some list }) (case_at s.cases number) are fits.most refl
+step_kept f s e (steps.Issued number site life list) kept fits are = case_stepped f s kept number (issued_case site life list) (case_at s.cases number) are fits.most refl
 
 -- the format of the tables is there from the first change on
 format_kept : (b : Bool) (s : State) (kept : Kept) → AreTables (not b) s kept → AreTables true s (rows_after_changes kept (cond b (put_desk rows.Format ∷ []) []))
@@ -123,7 +123,7 @@ same_entries (steps.DayClosed d) s = refl
 same_entries (steps.CaseFiled c) s = refl
 same_entries (steps.FormPut number day) s = refl
 same_entries (steps.LifePut number life) s = refl
-same_entries (steps.Issued number life list) s = refl
+same_entries (steps.Issued number site life list) s = refl
 
 entry_kept : (s : State) (e : Entry) (kept : Kept) → IsWord e.change.caller → entry_of e.change.caller e.change.key s.entries ≡ None → AreTables true s kept
     → AreTables true (with_entry e s) (rows_after_changes kept (put_receipt e ∷ []))

@@ -10,6 +10,7 @@ pub mod OneRows
 pub mod Bare
 pub mod RowFacts
 pub mod WalkFacts
+pub mod RenewalFacts
 pub mod SoundFacts
 pub mod FormatFacts
 pub mod RequestRows

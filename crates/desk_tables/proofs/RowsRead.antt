@@ -1,18 +1,18 @@
 -- The tables that a desk is opened by are the rows of its state.
 use Rattle.std.proofs.Common.{◌≡◌, refl, sym, ap, ◌∙◌, subst, ℕ, ◌==◌, List, [], ◌∷◌, length, Bool, false, not, cond}
-use Rattle.std.specs.List.{filter}
+use Rattle.std.specs.List.{filter, flat_map}
 use Rattle.std.specs.FinMap as maps
-use Rattle.row_register.specs.Desk.{desk_row}
 use Rattle.row_register.specs.declared.desk.DeskRow.TheVariants as rows
-use Rattle.oe_keeper.specs.Kept.{Kept, key_cmp, key_cmp_total}
+use Rattle.oe_keeper.specs.Kept.{Kept, key_cmp, key_cmp_total, rows_after_changes}
 use Rattle.oe_keeper.proofs.Keys.{key_cmp-same}
 use Rattle.oe_keeper.specs.declared.change.Table.TheVariants as tables
 use Rattle.desk_machine.specs.States.{State, empty}
 use Rattle.desk_machine.specs.declared.entry.Entry.{Entry}
+use Rattle.desk_tables.specs.Changes.{put_desk}
 use Rattle.desk_tables.specs.Rows.{AreRows, AreTables}
 use Rattle.desk_tables.proofs.Bare.{bare_rows}
 use Rattle.desk_tables.specs.Parts.{Part, state_of, unread_part}
-use Rattle.desk_tables.specs.Opening.{Opens, ReadsAll, count_of, in_format, is_in, is_older, is_older_row, layout_of, renewed, unread_of, with_wanting}
+use Rattle.desk_tables.specs.Opening.{Opens, ReadsAll, count_of, is_first, is_in, is_older, is_older_row, layout_of, renewed, renewed_filing, unread_of, with_wanting}
 use Rattle.desk_tables.proofs.RequestRows.{no_entries}
 use Rattle.desk_tables.proofs.RowsGrown.{grown}
 use Rattle.desk_tables.proofs.RowsWanting.{none_wanting, nothing_read, has_format_is}
@@ -40,9 +40,9 @@ these_read old kept q reads =
 
 pub rows_read : (kept : Kept) (s : State) → Opens kept s → AreRows s (renewed kept)
 rows_read kept s opens =
-    subst (λ (t : State). AreRows t (renewed kept)) (sym opens.state) (these_read (is_older kept) (renewed kept) opens.part opens.reads)
+    subst (λ (t : State). AreRows t (renewed kept)) (sym opens.state) (these_read (is_first kept) (renewed kept) opens.part opens.reads)
 
--- tables without a row are not of the older format
+-- tables without a row are of no older format
 nil : {A : Type 0} (xs : List A) → length xs ≡ 0 → xs ≡ []
 nil [] e = refl
 nil (x ∷ xs) e = absurd (cc (e))
@@ -53,12 +53,12 @@ none_older kept none =
     ap (λ es. not (length (filter is_older_row es) == 0)) no_row
 
 pub none_renewed : (kept : Kept) → maps.len kept ≡ 0 → renewed kept ≡ kept
-none_renewed kept none = ap (λ b. cond b (in_format (desk_row rows.Format) kept) kept) (none_older kept none)
+none_renewed kept none = ap (λ b. rows_after_changes kept (cond b (put_desk rows.Format ∷ flat_map renewed_filing (maps.entries kept)) [])) (none_older kept none)
 
 pub no_rows_read : (s : State) → Opens maps.empty s → s ≡ empty
 no_rows_read s opens =
     let q = opens.part in
-    let old = is_older maps.empty in
+    let old = is_first maps.empty in
     let reads : ReadsAll old (with_wanting maps.empty) q =
     subst (λ m. ReadsAll old (with_wanting m) q) (none_renewed maps.empty (maps.len-empty key_cmp (List ℕ))) opens.reads in
     let are : AreTables q.has_format (state_of q) (with_wanting maps.empty) = all_read old (with_wanting maps.empty) q reads in

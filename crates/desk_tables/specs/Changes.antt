@@ -20,7 +20,7 @@ use Rattle.oe_keeper.specs.declared.change.Table.TheVariants as tables
 use Rattle.oe_keeper.specs.declared.change.RowChange.{RowChange}
 use Rattle.oe_keeper.specs.declared.change.RowChange.TheVariants.{Put, Remove}
 use Rattle.wire_values.specs.Words.{IsWord}
-use Rattle.desk_machine.specs.States.{State, case_at, entry_of}
+use Rattle.desk_machine.specs.States.{State, case_at, entry_of, issued_case}
 use Rattle.desk_machine.specs.Machine.{register_rule}
 use Rattle.desk_machine.specs.declared.entry.Entry.{Entry}
 use Rattle.desk_machine.specs.declared.entry.TheConstants.{MOST_CASES}
@@ -69,7 +69,7 @@ step_changes s (steps.DayClosed d) = put_desk (rows.Closed d) ∷ []
 step_changes s (steps.CaseFiled c) = put_filing (length s.cases + 1) c ∷ []
 step_changes s (steps.FormPut number day) = case_changes number (λ c. record c { form = Some day }) (case_at s.cases number)
 step_changes s (steps.LifePut number life) = case_changes number (λ c. record c { life = life }) (case_at s.cases number)
-step_changes s (steps.Issued number life list) = case_changes number (λ c. record c { life = life; list = Some list }) (case_at s.cases number)
+step_changes s (steps.Issued number site life list) = case_changes number (issued_case site life list) (case_at s.cases number)
 
 -- all of them, in order: first the format row, where the tables are empty
 abbrev pub changes : State → Entry → Step → List RowChange
@@ -85,7 +85,7 @@ IsNamed (steps.DayClosed d) = Unit {0}
 IsNamed (steps.CaseFiled c) = Unit {0}
 IsNamed (steps.FormPut number day) = Unit {0}
 IsNamed (steps.LifePut number life) = Unit {0}
-IsNamed (steps.Issued number life list) = Unit {0}
+IsNamed (steps.Issued number site life list) = Unit {0}
 
 -- there is room for one more case
 abbrev pub HasRoom : List KeptCase → Step → Type 0
@@ -95,7 +95,7 @@ HasRoom cases (steps.DayClosed d) = Unit {0}
 HasRoom cases (steps.CaseFiled c) = length cases < MOST_CASES
 HasRoom cases (steps.FormPut number day) = Unit {0}
 HasRoom cases (steps.LifePut number life) = Unit {0}
-HasRoom cases (steps.Issued number life list) = Unit {0}
+HasRoom cases (steps.Issued number site life list) = Unit {0}
 
 -- the entry and the step of a request that was accepted in this state
 pub record Fits (s : State) (e : Entry) (step : Step) : Type 0 where

@@ -28,7 +28,7 @@ NamesBad kept NoMemory = Unit {0}
 
 -- ---- for proofs alone
 
--- the same for tables without missing rows, that were of the older format or not
+-- the same for tables without missing rows, that were of the first format or not
 abbrev pub NamesBadHere : Bool → Kept → Unread → Type 0
 NamesBadHere is_old kept (Bad row) = (i : ℕ) × IsBadAt is_old kept i (place row.table, row.key)
 NamesBadHere is_old kept NoMemory = Unit {0}

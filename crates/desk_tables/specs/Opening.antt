@@ -1,14 +1,17 @@
 -- Opening a desk from its tables, and the first bad row of tables that do not open.
-use Rattle.std.specs.Prelude.{◌≡◌, ◌==◌, ℕ, Bool, ◌&&◌, not, cond, List, [], length, Some, codes, slice_get, take}
-use Rattle.std.specs.List.{filter}
+use Rattle.std.specs.Prelude.{◌≡◌, ◌==◌, ℕ, Bool, ◌&&◌, ◌||◌, not, cond, List, [], ◌∷◌, length, Some, codes, slice_get, take}
+use Rattle.std.specs.List.{filter, flat_map}
 use Rattle.std.specs.Str.{bytes_eq}
 use Rattle.std.specs.FinMap as maps
-use Rattle.oe_keeper.specs.Kept.{Key, Kept, place}
+use Rattle.oe_keeper.specs.Kept.{Key, Kept, place, rows_after_changes}
+use Rattle.oe_keeper.specs.declared.change.RowChange.{RowChange}
+use Rattle.oe_keeper.specs.declared.change.RowChange.TheVariants.{Put}
 use Rattle.oe_keeper.specs.declared.change.Table.{Table}
 use Rattle.oe_keeper.specs.declared.change.Table.TheVariants as tables
-use Rattle.row_register.specs.Desk.{desk_row}
 use Rattle.row_register.specs.declared.desk.DeskRow.TheVariants as rows
+use Rattle.row_cases.specs.Older.{renewed_row}
 use Rattle.desk_machine.specs.States.{State}
+use Rattle.desk_tables.specs.Changes.{put_desk}
 use Rattle.desk_tables.specs.Values.{Row, IsRowOf}
 use Rattle.desk_tables.specs.Parts.{Part, unread_part, IsNext, Reads, state_of}
 use Rattle.desk_tables.specs.declared.layout.Layout.{Layout}
@@ -47,26 +50,41 @@ with_today kept = cond (count_of (is_in tables.Filing) kept == 0) kept (cond (co
 abbrev pub with_wanting : Kept → Kept
 with_wanting kept = with_today (with_format kept)
 
--- ---- tables of the older format
+-- ---- tables of older formats
 
 -- the format row of tables from before there were planned approaches
-abbrev pub older_format : List ℕ
-older_format = codes "1"
+abbrev pub first_format : List ℕ
+first_format = codes "1"
+
+-- and of those from before there were revisions
+abbrev pub second_format : List ℕ
+second_format = codes "2"
+
+abbrev pub is_first_row : Row → Bool
+is_first_row r = is_at tables.Desk format_key r && bytes_eq r.1 first_format
 
 abbrev pub is_older_row : Row → Bool
-is_older_row r = is_at tables.Desk format_key r && bytes_eq r.1 older_format
+is_older_row r = is_at tables.Desk format_key r && (bytes_eq r.1 first_format || bytes_eq r.1 second_format)
 
--- the tables are of that format
+-- the tables are of the format from before there were planned approaches
+abbrev pub is_first : Kept → Bool
+is_first kept = not (count_of is_first_row kept == 0)
+
+-- the tables are of a format from before there were revisions
 abbrev pub is_older : Kept → Bool
 is_older kept = not (count_of is_older_row kept == 0)
 
--- the tables with this format row
-abbrev pub in_format : List ℕ → Kept → Kept
-in_format text kept = maps.insert kept (place tables.Desk, format_key) text
+-- the row of a case that has a determination, with no revisions
+abbrev pub renewed_filing : Row → List RowChange
+renewed_filing r = cond (is_in tables.Filing r && not (bytes_eq (renewed_row r.1) r.1)) (Put tables.Filing r.0.1 (renewed_row r.1) ∷ []) []
 
--- the same tables in the format of today, in which all others are
+-- the changes that bring tables of an older format to that of today; none for all others
+abbrev pub renewal : Kept → List RowChange
+renewal kept = cond (is_older kept) (put_desk rows.Format ∷ flat_map renewed_filing (maps.entries kept)) []
+
+-- the same tables in the format of today
 abbrev pub renewed : Kept → Kept
-renewed kept = cond (is_older kept) (in_format (desk_row rows.Format) kept) kept
+renewed kept = rows_after_changes kept (renewal kept)
 
 -- ---- the desk that the tables open as
 
@@ -80,14 +98,15 @@ layout_of is_old kept = record { is_lone = is_lone kept; is_old = is_old }
 abbrev pub unread_of : Kept → Part
 unread_of kept = unread_part (count_of (is_in tables.Receipt) kept)
 
--- all rows are read, of tables that were of the older format or not
+-- all rows are read, of tables that were of the first format or not
 abbrev pub ReadsAll : Bool → Kept → Part → Type 0
 ReadsAll is_old kept q = Reads (layout_of is_old kept) (unread_of kept) (maps.entries kept) q
 
--- the tables open as a desk in this state; those of the older format as the same tables in the format of today, where nothing in them is planned
+-- the tables open as a desk in this state; those of an older format as the same tables in the format of today, where nothing is planned in those
+-- of the first
 pub record Opens (kept : Kept) (s : State) : Type 0 where
   pub part : Part
-  pub reads : ReadsAll (is_older kept) (with_wanting (renewed kept)) part
+  pub reads : ReadsAll (is_first kept) (with_wanting (renewed kept)) part
   pub state : s ≡ state_of part
 
 -- the row at this index is bad: those before it are read, and it has no value that may come after them
@@ -101,4 +120,4 @@ pub record IsBadAt (is_old : Bool) (kept : Kept) (i : ℕ) (k : Key) : Type 0 wh
 -- the first bad or missing row of the tables has this key
 pub record IsFirstBad (kept : Kept) (k : Key) : Type 0 where
   pub place_of : ℕ
-  pub at : IsBadAt (is_older kept) (with_wanting (renewed kept)) place_of k
+  pub at : IsBadAt (is_first kept) (with_wanting (renewed kept)) place_of k

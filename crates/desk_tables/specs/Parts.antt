@@ -85,7 +85,7 @@ Follows is_lone p (Desk v) = IsNextDay is_lone v
 Follows is_lone p (Case v) = IsNextCase p v
 Follows is_lone p (Request v) = IsNewRequest p v
 
--- tables of the older format have no row with a planned approach
+-- tables from before there were planned approaches have no row with one
 abbrev pub IsInFormat : Bool → RowValue → Type 0
 IsInFormat is_old v = (is_old && plans_row v) ≡ false
 

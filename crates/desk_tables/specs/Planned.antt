@@ -31,6 +31,7 @@ plans_act (acts.Determine n finding) = false
 plans_act (acts.Petition n party) = false
 plans_act (acts.Dispose n affirm) = false
 plans_act (acts.Extend n months started filed warranted) = false
+plans_act (acts.Revise n started terrain height finding) = false
 plans_act (acts.Fcc n completion) = false
 plans_act (acts.Abandon n) = false
 

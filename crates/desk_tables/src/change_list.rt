@@ -1,18 +1,20 @@
 //! A list of row changes.
 
-ghost use Rattle.std.specs.Prelude.{◌≡◌, ◌++◌, ◌∷◌, [], IfOk, OnOk, string_bytes};
+ghost use Rattle.std.specs.Prelude.{◌≡◌, ◌++◌, ◌∷◌, [], OnOk, string_bytes};
+ghost use Rattle.determination_dates.specs.Closed.{is_none_of};
+ghost use Rattle.oe_keeper.specs.Kept.{place};
 ghost use Rattle.oe_keeper.specs.declared.change.Table.TheVariants as tables;
 ghost use Rattle.oe_keeper.specs.declared.change.RowChange.TheVariants.{Put, Remove};
 ghost use Rattle.row_register.specs.Runways.{runway_key_text};
-ghost use Rattle.row_register.specs.declared.desk.DeskRow.TheVariants as days;
 ghost use Rattle.desk_tables.specs.Changes.{put_airfield, put_runway_row, put_desk, put_filing, put_receipt, remove_runway};
+ghost use Rattle.desk_tables.specs.Opening.{renewed_filing};
 
 use airfields::{Airfield, FieldId, Runway, RunwayName};
 use case_records::KeptCase;
 use desk_machine::Entry;
 use grid_exact::{NoMemory, Text};
 use oe_keeper::{RowChange, Table};
-use row_cases::{append_filing_key, append_filing_row};
+use row_cases::{append_filing_key, append_filing_row, append_renewed_row};
 use row_receipts::{append_receipt_key, append_receipt_row};
 use row_register::{
     DeskRow, RunwayRow, append_airfield_key, append_airfield_row, append_desk_key, append_desk_row,
@@ -47,24 +49,18 @@ impl ChangeList {
         }
     }
 
-    /// The change that brings tables of the format from before there were planned approaches to that of today.
-    ///
-    /// # Errors
-    ///
-    /// `NoMemory` where memory was refused.
-    pub fn renewal(alloc: Global) -> Result<ChangeList, NoMemory>
-        ensures { IfOk result (λ l. l ≡ put_desk days.Format ∷ []) }
-    {
-        let mut list = ChangeList::new(alloc);
-        list.put_desk(alloc, &DeskRow::Format)?;
-        Ok(list)
-    }
-
     /// The changes in their order.
     pub fn as_slice(&self) -> &[RowChange]
         ensures { result.now ≡ self.now }
     {
         self.changes.as_slice()
+    }
+
+    /// Whether there is no change.
+    pub fn is_empty(&self) -> bool
+        ensures { result ≡ is_none_of self.now }
+    {
+        self.changes.is_empty()
     }
 
     /// Stores a row under a key.
@@ -196,6 +192,31 @@ impl ChangeList {
         let mut row = String::new(alloc);
         append_filing_row(&mut row, case)?;
         self.put(Table::Filing, key, row)
+    }
+
+    /// Stores the row of a case from before there were revisions as a row of today, where that is another.
+    ///
+    /// # Errors
+    ///
+    /// `NoMemory` where memory was refused.
+    #[tactic(auto, using(crate::proofs::RenewalFacts::row_same, crate::proofs::RenewalFacts::row_other))]
+    pub(crate) fn renew_filing(
+        &mut self,
+        alloc: Global,
+        key: &str,
+        row: &str,
+    ) -> Result<(), NoMemory>
+        ensures { OnOk result (self.new ≡ self.old
+            ++ renewed_filing ((place tables.Filing, key.now), row.now)) }
+    {
+        let mut renewed = String::new(alloc);
+        append_renewed_row(&mut renewed, row)?;
+        if renewed.as_str() == row {
+            return Ok(());
+        }
+        let mut under = String::new(alloc);
+        append_text(&mut under, key)?;
+        self.put(Table::Filing, under, renewed)
     }
 
     /// Stores the row of an accepted request.

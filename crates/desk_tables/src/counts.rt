@@ -1,14 +1,13 @@
 //! Counts of rows by kind, and missing rows.
 
-ghost use Rattle.std.specs.Prelude.{◌≡◌, ◌<◌, IfOk, OnOk, Some, slice_get};
+ghost use Rattle.std.specs.Prelude.{◌≡◌, ◌<◌, OnOk, Some, slice_get};
 ghost use Rattle.std.specs.FinMap as maps;
 ghost use Rattle.oe_keeper.specs.Kept.{place};
-ghost use Rattle.desk_tables.specs.Opening.{count_of, is_older, put_wanting, renewed, with_format, with_today, with_wanting};
+ghost use Rattle.desk_tables.specs.Opening.{count_of, put_wanting, with_format, with_today, with_wanting};
 ghost use Rattle.desk_tables.specs.Counts.{is_of};
 
 use grid_exact::{NoMemory, Text};
 use oe_keeper::{RowChange, Table, Tables};
-use row_register::{DeskRow, append_desk_row};
 use std::alloc::Global;
 
 /// A kind of rows.
@@ -19,6 +18,8 @@ pub(crate) enum Kind {
     /// The row of the table `desk` with the format version.
     Format,
     /// That row, with the version from before there were planned approaches.
+    FirstFormat,
+    /// That row, with a version from before there were revisions.
     OlderFormat,
     /// The row of the table `desk` with the desk's day.
     Today,
@@ -29,7 +30,10 @@ const FORMAT: &str = "format";
 const TODAY: &str = "now";
 
 /// The text of the format row in tables from before there were planned approaches.
-const OLDER: &str = "1";
+const FIRST: &str = "1";
+
+/// The text of the format row in tables from before there were revisions.
+const SECOND: &str = "2";
 
 /// Whether a row is of this kind.
 fn is_of_kind(kind: Kind, table: Table, key: &str, row: &str) -> bool
@@ -38,8 +42,11 @@ fn is_of_kind(kind: Kind, table: Table, key: &str, row: &str) -> bool
     match kind {
         Kind::In(wanted) => table.place() == wanted.place(),
         Kind::Format => table.place() == Table::Desk.place() && key == FORMAT,
+        Kind::FirstFormat => {
+            table.place() == Table::Desk.place() && key == FORMAT && row == FIRST
+        }
         Kind::OlderFormat => {
-            table.place() == Table::Desk.place() && key == FORMAT && row == OLDER
+            table.place() == Table::Desk.place() && key == FORMAT && (row == FIRST || row == SECOND)
         }
         Kind::Today => table.place() == Table::Desk.place() && key == TODAY,
     }
@@ -69,34 +76,6 @@ pub(crate) fn count(tables: &Tables, kind: Kind) -> usize
         }
     }
     count
-}
-
-/// Whether the tables are of the format from before there were planned approaches.
-fn is_older(tables: &Tables) -> bool
-    ensures { result ≡ is_older tables.now }
-{
-    count(tables, Kind::OlderFormat) != 0
-}
-
-/// Puts the format row of today in tables of the older format. Returns whether they were of that.
-pub(crate) fn renew(alloc: Global, tables: &mut Tables) -> Result<bool, NoMemory>
-    ensures older { IfOk result (λ b. b ≡ is_older tables.old) }
-    ensures renewed { OnOk result (tables.new ≡ renewed tables.old) }
-{
-    if !is_older(tables) {
-        return Ok(false);
-    }
-    let mut row = String::new(alloc);
-    append_desk_row(&mut row, &DeskRow::Format)?;
-    tables.change(
-        alloc,
-        &RowChange::Put {
-            table: Table::Desk,
-            key: Text::from_str(alloc, FORMAT)?,
-            row: Text::from_string(row),
-        },
-    )?;
-    Ok(true)
 }
 
 /// Adds a row without a text under this key of the table `desk`.

@@ -15,7 +15,7 @@ pub struct Layout {
 }
 
 impl Layout {
-    /// Whether a row of this value may stand in such tables: no approach is planned in those of the older format.
+    /// Whether a row of this value may stand in such tables: no approach is planned in those of the first format.
     pub(crate) fn allows(self, value: &RowValue) -> bool
         ensures { result ≡ not (self.is_old && plans_row value.now) }
     {

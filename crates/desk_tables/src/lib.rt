@@ -11,6 +11,7 @@ mod layout;
 mod opening;
 mod opening_laws;
 mod part;
+mod renewal;
 mod row_laws;
 mod unread;
 mod value;

@@ -3,14 +3,16 @@
 ghost use Rattle.std.specs.Prelude.{◌≡◌, IfOk, IfErr, OnOk};
 ghost use Rattle.oe_keeper.specs.Kept.{place};
 ghost use Rattle.desk_tables.specs.Desks.{IsSoundDesk, NamesBad, NamesBadHere, desk_of};
-ghost use Rattle.desk_tables.specs.Opening.{Opens, ReadsAll, is_older};
+ghost use Rattle.desk_tables.specs.Opening.{Opens, ReadsAll, renewal};
 ghost use Rattle.desk_tables.specs.Parts.{IsNext, entries_of as entries_in, with_row};
 ghost use Rattle.desk_tables.specs.Values.{IsRowOf};
 ghost use Rattle.desk_tables.specs.declared.value.RowValue.{RowValue as Value};
 
-use crate::counts::{Kind, count, put_wanting_rows, renew, row_at};
+use crate::change_list::ChangeList;
+use crate::counts::{Kind, count, put_wanting_rows, row_at};
 use crate::layout::Layout;
 use crate::part::Part;
+use crate::renewal::{is_first, renew};
 use crate::unread::{BadRow, Unread, Untaken};
 use crate::value::read_row;
 use airport_register::Register;
@@ -28,8 +30,8 @@ use std::alloc::Global;
 /// The data of a desk, read from its rows.
 #[derive(Drop)]
 pub struct OpenedDesk {
-    /// Whether the tables were of the format from before there were planned approaches.
-    pub is_older: bool,
+    /// The changes that bring the tables to the format of today; none where they are of it.
+    pub renewal: ChangeList,
     pub register: Register,
     pub day: Option<Date>,
     pub closed: ClosedDays,
@@ -65,7 +67,7 @@ fn read_one(
     }
 }
 
-/// Reads all rows in their order. `is_old` says that the tables were of the older format.
+/// Reads all rows in their order. `is_old` says that the tables were of the format from before there were planned approaches.
 fn read_all(alloc: Global, tables: &Tables, is_old: bool) -> Result<Part, Unread>
     ensures read { IfOk result (λ p. ReadsAll is_old tables.now p) }
     ensures bad { IfErr result (λ why. NamesBadHere is_old tables.now why) }
@@ -103,26 +105,27 @@ fn entries_of(alloc: Global, requests: Vec<Option<Entry>>) -> Result<Vec<Entry>,
 
 /// Opens the desk with these rows.
 ///
-/// Empty tables open as an empty desk. Tables of the format from before there were planned approaches open as if their format row were that
-/// of today.
+/// Empty tables open as an empty desk. Tables of an older format open as the same tables in the format of today: no determination in them was
+/// revised.
 ///
 /// # Errors
 ///
 /// `Bad` gives the first row, in order of table and key, that is not a row of a desk: its key or text does not have the form of its table,
 /// it breaks a rule of the register after the rows before it, it is a case or a request with a wrong number, or an approach is planned in it
-/// in tables of the older format. A missing format row, and the missing day of a desk with a case, are given likewise. `NoMemory` where memory ran out.
+/// in tables from before there were planned approaches. A missing format row, and the missing day of a desk with a case, are given likewise. `NoMemory` where memory ran out.
 pub fn read_desk(alloc: Global, tables: Tables) -> Result<OpenedDesk, Unread>
     ensures opened { IfOk result (λ d. Opens tables (desk_of d)) }
-    ensures older { IfOk result (λ d. d.is_older ≡ is_older tables) }
+    ensures renewal { IfOk result (λ d. d.renewal ≡ renewal tables) }
     ensures sound { IfOk result (λ d. IsSoundDesk (desk_of d)) }
     ensures bad { IfErr result (λ why. NamesBad tables why) }
 {
     let mut tables = tables;
-    let is_older = renew(alloc, &mut tables)?;
+    let is_first = is_first(&tables);
+    let renewal = renew(alloc, &mut tables)?;
     put_wanting_rows(alloc, &mut tables)?;
-    let part = read_all(alloc, &tables, is_older)?;
+    let part = read_all(alloc, &tables, is_first)?;
     Ok(OpenedDesk {
-        is_older,
+        renewal,
         register: part.register,
         day: part.day,
         closed: part.closed,

@@ -69,6 +69,7 @@ fn version_of(outcome: &Outcome) -> u64
 {
     match outcome {
         Outcome::Determined { last, .. } => *last,
+        Outcome::Revised { last, .. } => *last,
         _ => 0,
     }
 }

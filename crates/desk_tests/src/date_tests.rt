@@ -1,12 +1,9 @@
-//! Dates, taken from the calendar by hand.
+//! A revised determination, its dates taken from the calendar by hand.
 
 ghost use Rattle.std.specs.Prelude.{IfOk};
 ghost use Rattle.determination_dates.specs.Days.{IsLimited};
 
-use determination_dates::{
-    ClosedDays, Decision, Record, date_bytes, expiry, last_extension_day, petition_deadline,
-    read_date,
-};
+use determination_dates::{ClosedDays, Decision, Record, date_bytes, expiry, read_date};
 use jiff::civil::Date;
 use std::test::Fail;
 
@@ -32,39 +29,24 @@ fn shown(date: Option<Date>) -> [u8; 10] {
     }
 }
 
-/// Day 30 after 2026-01-14 is a Friday; that after 2026-01-15 is a Saturday before a closed Monday. At the end of the calendar there is none.
+/// A revised determination is issued anew, and keeps the extensions that were granted.
 #[test]
-fn deadlines(rt: HostRuntime) -> Result<(), Fail> {
-    let mut closed = ClosedDays::empty(rt.alloc());
-    closed.with(day("2026-02-16")?)?;
-    for (issued, deadline) in [
-        ("2026-01-14", "2026-02-13"),
-        ("2026-01-15", "2026-02-17"),
-        ("2999-12-01", "2999-12-31"),
-        ("2999-12-02", "----------"),
-    ] {
-        let found = petition_deadline(day(issued)?, &closed).ok();
-        assert_eq!(rt; shown(found).as_slice(), deadline.as_bytes());
-    }
-    Ok(())
-}
-
-#[test]
-fn determinations_at_the_limit(rt: HostRuntime) -> Result<(), Fail> {
+fn determinations_are_revised(rt: HostRuntime) -> Result<(), Fail> {
     let closed = ClosedDays::empty(rt.alloc());
-    let mut petitioned = Record::issue(day("2998-05-20")?, Decision::NoHazard, true, &closed)?;
-    petitioned.pending = true;
-    let mut affirmed = petitioned;
-    assert!(rt; affirmed.affirm(day("2998-06-30")?).is_ok());
-    let mut refused = petitioned;
-    assert!(rt; refused.affirm(day("2998-07-15")?).is_err());
-    assert!(rt; refused == petitioned);
     let mut record = Record::issue(day("2026-01-15")?, Decision::NoHazard, false, &closed)?;
-    record.set_expiry = Some(day("2999-12-01")?);
-    assert_eq!(rt; shown(expiry(&record)), *b"2999-12-01");
-    let mut extended = record;
-    assert!(rt; extended.extend(1).is_err());
-    record.set_expiry = Some(day("1900-01-05")?);
-    assert_eq!(rt; shown(last_extension_day(&record)), *b"1899-12-21");
+    record.extend(18)?;
+    record.revise(day("2026-08-31")?, Decision::NoHazard, true, &closed)?;
+    assert_eq!(rt; shown(record.deadline), *b"2026-09-30");
+    assert_eq!(rt; shown(expiry(&record)), *b"2028-04-10");
+    assert_eq!(rt; record.extensions, 1);
+    assert_eq!(rt; record.revisions, 1);
+    assert!(rt; record.set_expiry.is_none());
+    let before = record;
+    assert!(rt;
+        record
+            .revise(day("2999-12-02")?, Decision::NoHazard, true, &closed)
+            .is_err()
+    );
+    assert!(rt; record == before);
     Ok(())
 }

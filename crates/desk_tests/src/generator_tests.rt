@@ -1,4 +1,4 @@
-//! Draws, and small desks.
+//! Draws, and a small desk.
 
 use desk_generator::{COUNT_LIMIT, Draws, Tally, generated};
 use grid_exact::NoMemory;
@@ -15,19 +15,15 @@ const DRAWS: [(u64, [u64; 7]); 2] = [
     ),
 ];
 
+/// A desk of two cases has accepted a day, two requests for each airport, two for each case, and one for the first airport again.
 #[test]
-fn draws(rt: HostRuntime) {
+fn draws_and_a_small_desk(rt: HostRuntime) -> Result<(), NoMemory> {
     for (seed, wanted) in &DRAWS {
         let mut draws = Draws::new(*seed);
         for (n, value) in SIZES.iter().zip(wanted) {
             assert_eq!(rt; draws.draw(*n), *value);
         }
     }
-}
-
-/// A desk of two cases has accepted a day, two requests for each airport, two for each case, and one for the first airport again.
-#[test]
-fn small_desks(rt: HostRuntime) -> Result<(), NoMemory> {
     let tally = Tally::of(&generated(rt.alloc(), 7, 2)?);
     assert_eq!(rt; tally.airfields, 2);
     assert_eq!(rt; tally.cases, 2);

@@ -1,12 +1,7 @@
-//! Replies and reports that no session has.
+//! Replies that no session has.
 
 use case_records::{Outcome, Refusal};
-use determination_dates::Decision;
 use finding_lists::Verdict;
-use grid_exact::Text;
-use jiff::civil::Date;
-use oe_reports::{ExpiryRow, ReviewRow, expiry_table, review_table};
-use std::alloc::Global;
 use std::test::Fail;
 use wire_replies::{Plain, Reply, write_reply};
 
@@ -35,38 +30,5 @@ fn rare_replies(rt: HostRuntime) -> Result<(), Fail> {
     for (reply, want) in &table {
         assert_eq!(rt; write_reply(rt.alloc(), reply)?.as_str(), *want);
     }
-    Ok(())
-}
-
-fn reviewed(alloc: Global) -> Result<Text, Fail> {
-    let first = ReviewRow {
-        case: 1,
-        decision: Decision::NoHazard,
-        issued: Date::new(2026, 1, 15)?,
-    };
-    let last = ReviewRow {
-        case: 999_999,
-        decision: Decision::Hazard,
-        issued: Date::new(2999, 12, 31)?,
-    };
-    Ok(review_table(alloc, &[first, last])?)
-}
-
-/// Case numbers of one digit and of six.
-#[test]
-fn columns_of_reports(rt: HostRuntime) -> Result<(), Fail> {
-    let alloc = rt.alloc();
-    assert_eq!(rt;
-        reviewed(alloc)?.as_str(),
-        "report,review,2\n     1  nohazard  2026-01-15\n999999  hazard    2999-12-31\n"
-    );
-    let row = ExpiryRow {
-        expiry: Date::new(2027, 7, 16)?,
-        case: 123_456,
-    };
-    assert_eq!(rt;
-        expiry_table(alloc, &[row])?.as_str(),
-        "report,expiry,1\n2027-07-16  123456\n"
-    );
     Ok(())
 }

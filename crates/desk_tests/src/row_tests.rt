@@ -1,11 +1,10 @@
 //! Rows, read and written again.
 
-use jiff::civil::Date;
 use row_cases::{append_filing_key, append_filing_row, read_filing_row};
 use row_receipts::{append_receipt_key, append_receipt_row, read_receipt_row};
 use row_register::{
-    DeskRow, append_airfield_key, append_airfield_row, append_desk_key, append_desk_row,
-    append_runway_key, append_runway_row, read_airfield_row, read_desk_row, read_runway_row,
+    append_airfield_key, append_airfield_row, append_runway_key, append_runway_row,
+    read_airfield_row, read_runway_row,
 };
 use std::alloc::Global;
 
@@ -56,10 +55,13 @@ fn joins(text: Option<String>, key: &str, row: &str) -> bool {
 }
 
 const FILING: &str =
-    "2401-12-31,-,-,normal,yes,-265984,280776,-300,4977,water,1000,SDRIGT,-,2401-11-01,2401-11-02,reversed,hazard,18446744073709551615,2401-11-01,2401-12-03,2401-12-11,pending,2401-12-01,-,255,2,17a2 H1 - 4294967295,19e H1 09/27.1 2964";
+    "2401-12-31,-,-,normal,yes,-265984,280776,-300,4977,water,1000,SDRIGT,-,2401-11-01,2401-11-02,reversed,hazard,18446744073709551615,2401-11-01,2401-12-03,2401-12-11,pending,2401-12-01,-,255,255,2,17a2 H1 - 4294967295,19e H1 09/27.1 2964";
 
 const RECEIPT: &str =
     "5\ndetermine,u,1,7,substantial\ndetermine,7,hazard,18446744073709551615,2026-01-20,2026-02-19,2026-03-01,-,2,17a1 - - 4294967295,19e H1 09/27.1 2964";
+
+const REVISED: &str =
+    "6\nrevise,u,2,7,unstarted,-20000,100000,none\nrevise,7,nohazard,5,2026-01-20,2026-02-19,2026-03-01,2027-09-01,1,17a1 - - 1";
 
 #[test]
 fn rows_are_written_as_they_are_read(rt: HostRuntime) {
@@ -80,23 +82,5 @@ fn rows_are_written_as_they_are_read(rt: HostRuntime) {
     }
     assert!(rt; joins(filing_again(alloc, "999999", FILING), "999999", FILING));
     assert!(rt; joins(receipt_again(alloc, "u 1", RECEIPT), "u 1", RECEIPT));
-}
-
-#[test]
-fn rows_of_the_desk(rt: HostRuntime) {
-    let day = Date::new(2026, 3, 1).expect(&rt, "it is a date");
-    for (value, key, row) in [
-        (DeskRow::Format, "format", "2"),
-        (DeskRow::Now(day), "now", "2026-03-01"),
-        (DeskRow::Closed(day), "closed 2026-03-01", "-"),
-    ] {
-        let mut key_text = String::new(rt.alloc());
-        let mut row_text = String::new(rt.alloc());
-        append_desk_key(&mut key_text, &value).expect(&rt, "there is memory");
-        append_desk_row(&mut row_text, &value).expect(&rt, "there is memory");
-        assert_eq!(rt; key_text.as_str(), key);
-        assert_eq!(rt; row_text.as_str(), row);
-        assert!(rt; read_desk_row(key.as_bytes(), row.as_bytes()) == Some(value));
-    }
-    assert!(rt; read_desk_row(b"format", b"1").is_none());
+    assert!(rt; joins(receipt_again(alloc, "u 2", REVISED), "u 2", REVISED));
 }

@@ -15,9 +15,9 @@ use Rattle.determination_dates.specs.Notices.{by_days, days_late}
 use Rattle.determination_dates.specs.Days.{IsDay, IsLimited, IsExpiryDay}
 use Rattle.determination_dates.specs.Deadlines.{IsDeadline}
 use Rattle.determination_dates.specs.Effects.{expiry_day, last_day, IsKept, IsInRange, IsWithinRange}
-use Rattle.determination_dates.specs.Determinations.{fresh_record, ordinary_day, HasDeadline, IsIssued, record_affirmed_on, record_extended_to}
+use Rattle.determination_dates.specs.Determinations.{fresh_record, ordinary_day, HasDeadline, IsIssued, record_affirmed_on, record_extended_to, record_revised_as}
 use Rattle.determination_dates.specs.Dates.{is_day, date_on, limited_date}
-use Rattle.determination_dates.specs.Computed.{Computes, affirmed_record, extended_record, expiry_date, last_date, timeliness_of, with_some, deadline_date, within_range, in_range, reviewable_record, issued_record}
+use Rattle.determination_dates.specs.Computed.{Computes, affirmed_record, extended_record, revised_record, expiry_date, last_date, timeliness_of, with_some, deadline_date, within_range, in_range, reviewable_record, issued_record}
 use Rattle.determination_dates.proofs.DateFacts.{date_again, day_true, true_day, limited_by, limited_none, limited_sound}
 use Rattle.determination_dates.proofs.EffectFacts.{effective_limited}
 use Rattle.determination_dates.proofs.Issues.{deadline_same, one_record}
@@ -60,10 +60,10 @@ whole r f e h = ap in_range e ∙ in_range_is (expiry_day r) r h.computed.expiry
 
 made_of : (issued : Date) (decision : Decision) (closed : List Date) (d o : Date) → IsDeadline closed (epoch_day issued) (epoch_day d) → epoch_day o ≡ ordinary_day (epoch_day issued) (Some (epoch_day d))
     → IsIssued issued decision true closed (fresh_record issued decision (Some d) o)
-made_of issued decision closed d o h e = record { on = refl; as_decided = refl; deadline = h; ordinary = e; pending = refl; affirmed = refl; set_expiry = refl; extensions = refl }
+made_of issued decision closed d o h e = record { on = refl; as_decided = refl; deadline = h; ordinary = e; pending = refl; affirmed = refl; set_expiry = refl; extensions = refl; revisions = refl }
 
 final_of : (issued : Date) (decision : Decision) (closed : List Date) → IsIssued issued decision false closed (fresh_record issued decision None issued)
-final_of issued decision closed = record { on = refl; as_decided = refl; deadline = tt; ordinary = refl; pending = refl; affirmed = refl; set_expiry = refl; extensions = refl }
+final_of issued decision closed = record { on = refl; as_decided = refl; deadline = tt; ordinary = refl; pending = refl; affirmed = refl; set_expiry = refl; extensions = refl; revisions = refl }
 
 reviewable_made : (issued : Date) (decision : Decision) (closed : List Date) (r : Record) (o : Option Date) → r.deadline ≡ o → IsIssued issued decision true closed r → IsWithinRange r
     → HasDeadline closed issued true o → issued_record issued decision true closed ≡ Some r
@@ -143,6 +143,23 @@ pub extended_none : (months : ℕ) (r : Record) (e : Date) → Some e ≡ expiry
 extended_none months r e h n =
     ap (λ o. with_some o (λ e. option_map (λ x. record_extended_to x r) (limited_date (add_months e (pos months))))) (sym h)
     ∙ ap (option_map (λ x. record_extended_to x r)) (limited_none _ n)
+
+-- ---- a revision
+
+pub revised_range : (issued r : Record) → IsWithinRange issued → IsWithinRange (record_revised_as issued r)
+revised_range issued r h =
+    let k = h.kept in
+    let x = h.computed in
+    record {
+      kept = record { issued = k.issued; deadline = k.deadline; ordinary = k.ordinary; affirmed = k.affirmed; set_expiry = k.set_expiry };
+      computed = record { effective = x.effective; expiry = x.expiry };
+    }
+
+pub revised_made : (day : Date) (decision : Decision) (t : Bool) (closed : List Date) (issued r : Record) → issued_record day decision t closed ≡ Some issued → revised_record day decision t closed r ≡ Some (record_revised_as issued r)
+revised_made day decision t closed issued r e = ap (option_map (λ x. record_revised_as x r)) e
+
+pub revised_none : (day : Date) (decision : Decision) (t : Bool) (closed : List Date) (r : Record) → issued_record day decision t closed ≡ None → revised_record day decision t closed r ≡ None
+revised_none day decision t closed r e = ap (option_map (λ x. record_revised_as x r)) e
 
 -- ---- the expiry and the last day for an extension
 

@@ -15,10 +15,10 @@ use Rattle.determination_dates.specs.Days.{IsLimited, IsExpiryDay}
 use Rattle.determination_dates.specs.Deadlines.{IsDeadline}
 use Rattle.determination_dates.specs.Notices.{days_late, HasLimitedDue, IsTimeliness}
 use Rattle.determination_dates.specs.Effects.{effective_date, expiry_by, expiry_day, IsKept, IsInRange, IsWithinRange}
-use Rattle.determination_dates.specs.Determinations.{IsIssued, record_affirmed_on, record_extended_to, IsExtension}
+use Rattle.determination_dates.specs.Determinations.{IsIssued, record_affirmed_on, record_extended_to, record_revised_as, IsExtension}
 use Rattle.determination_dates.specs.Dates.{date_on, limited_date}
-use Rattle.determination_dates.specs.Computed.{affirmed_record, deadline_date, expiry_date, extended_record, issued_record, timeliness_of, with_some}
-use Rattle.determination_dates.proofs.ComputedFacts.{affirmed_kept, affirmed_made, deadline_made, expiry_is, extended_made, issued_made, issued_sound, urgent_made, within_some}
+use Rattle.determination_dates.specs.Computed.{affirmed_record, deadline_date, expiry_date, extended_record, issued_record, revised_record, timeliness_of, with_some}
+use Rattle.determination_dates.proofs.ComputedFacts.{affirmed_kept, affirmed_made, deadline_made, expiry_is, extended_made, issued_made, issued_sound, revised_made, urgent_made, within_some}
 use Rattle.determination_dates.proofs.DateFacts.{date_there, limited_sound}
 use Rattle.determination_dates.proofs.EffectFacts.{effective_limited, near}
 use Rattle.determination_dates.proofs.Notices.{due_by_days, planned, urgent}
@@ -126,4 +126,18 @@ extended_record_is months r s k = (
   λ h. extended_from months r s k (expiry_date r) refl h,
   λ x. let e = x.1.0 in
       extended_made months r e x.0 (expiry_found r e k x.1.1) x.1.2 x.2 ∙ ap Some (sym x.3),
+)
+
+-- ---- a revision
+
+abbrev IsRevised : Date → Decision → Bool → List Date → Record → Record → Type 0
+IsRevised day decision reviewable closed r s = (x : Record) × IsIssued day decision reviewable closed x × IsWithinRange x × (s ≡ record_revised_as x r)
+
+pub revised_record_is : (day : Date) (decision : Decision) (reviewable : Bool) (closed : List Date) (r s : Record) → IsLimited day
+    → (revised_record day decision reviewable closed r ≡ Some s) ↔ IsRevised day decision reviewable closed r s
+revised_record_is day decision reviewable closed r s l = (
+  λ e. let m = mapped (λ x. record_revised_as x r) (issued_record day decision reviewable closed) s e in
+      let k = issued_sound day decision reviewable closed m.0 l m.1 in
+      (m.0, k.0, k.1, sym m.2),
+  λ h. revised_made day decision reviewable closed h.0 r (issued_made day decision reviewable closed h.0 h.1 h.2) ∙ ap Some (sym h.3),
 )

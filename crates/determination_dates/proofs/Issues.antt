@@ -42,6 +42,7 @@ one_record issued d t closed r s h k =
     let affirmed = h.affirmed ∙ sym k.affirmed in
     let set_expiry = h.set_expiry ∙ sym k.set_expiry in
     let extensions = h.extensions ∙ sym k.extensions in
+    let revisions = h.revisions ∙ sym k.revisions in
     λ i. record {
       issued = on i;
       decision = decided i;
@@ -51,6 +52,7 @@ one_record issued d t closed r s h k =
       affirmed = affirmed i;
       set_expiry = set_expiry i;
       extensions = extensions i;
+      revisions = revisions i;
     }
 
 -- so one is within the limit exactly where another is

@@ -90,7 +90,7 @@ ordinary_bounds issued z low high i = grind (arith, ints, signed_arith)
 
 pub record_made : (issued : Date) (d : Decision) (t : Bool) (closed : List Date) → IsLimited issued → All IsLimited closed → (r : Record) × IsIssued issued d t closed r
 record_made issued d false closed i h =
-    (fresh_record issued d None issued, record { on = refl; as_decided = refl; deadline = tt; ordinary = refl; pending = refl; affirmed = refl; set_expiry = refl; extensions = refl })
+    (fresh_record issued d None issued, record { on = refl; as_decided = refl; deadline = tt; ordinary = refl; pending = refl; affirmed = refl; set_expiry = refl; extensions = refl; revisions = refl })
 record_made issued d true closed i h =
     let last = deadline_day closed (epoch_day issued) in
     let l = deadline_is closed (epoch_day issued) in
@@ -108,5 +108,6 @@ record_made issued d true closed i h =
         affirmed = refl;
         set_expiry = refl;
         extensions = refl;
+        revisions = refl;
       },
     )

@@ -14,7 +14,7 @@ use Rattle.determination_dates.specs.declared.notice.TheConstants.{FORM_DAYS}
 use Rattle.determination_dates.specs.Closed.{is_closed}
 use Rattle.determination_dates.specs.Notices.{days_late, by_days}
 use Rattle.determination_dates.specs.Effects.{expiry_day, last_day}
-use Rattle.determination_dates.specs.Determinations.{fresh_record, ordinary_day, record_affirmed_on, record_extended_to}
+use Rattle.determination_dates.specs.Determinations.{fresh_record, ordinary_day, record_affirmed_on, record_extended_to, record_revised_as}
 use Rattle.determination_dates.specs.Dates.{date_on, is_day, limited_date}
 
 -- a call returns the computed value, or an error exactly where there is none
@@ -88,3 +88,7 @@ affirmed_record day r = in_range (record_affirmed_on day r)
 -- the record after an extension by a number of months
 abbrev pub extended_record : ℕ → Record → Option Record
 extended_record months r = with_some (expiry_date r) (λ e. option_map (λ x. record_extended_to x r) (limited_date (add_months e (pos months))))
+
+-- the record after a revision on a day
+abbrev pub revised_record : Date → Decision → Bool → List Date → Record → Option Record
+revised_record day decision reviewable closed r = option_map (λ x. record_revised_as x r) (issued_record day decision reviewable closed)

@@ -1,4 +1,4 @@
--- Issuing, affirming and extending a determination: 77.31, 77.33(a), 77.37 and 77.35.
+-- Issuing, affirming, extending and revising a determination: 77.31, 77.33(a), 77.37 and 77.35.
 use Rattle.std.specs.Prelude.{◌≡◌, ℕ, ◌+◌, Bool, true, false, Option, Some, None, ℤ, pos, ◌+ℤ◌, int_lt, nat_lt, if◌then◌else◌, List}
 use Rattle.std.specs.Option.{option_map}
 use Rattle.jiff_core.specs.declared.civil.date.Date.{Date}
@@ -25,7 +25,7 @@ ordinary_day issued (Some deadline) = if int_lt deadline (issued +ℤ EFFECTIVE_
 
 -- the record of a new determination
 abbrev pub fresh_record : Date → Decision → Option Date → Date → Record
-fresh_record issued decision deadline ordinary = record { issued = issued; decision = decision; deadline = deadline; ordinary = ordinary; pending = false; affirmed = None; set_expiry = None; extensions = 0 }
+fresh_record issued decision deadline ordinary = record { issued = issued; decision = decision; deadline = deadline; ordinary = ordinary; pending = false; affirmed = None; set_expiry = None; extensions = 0; revisions = 0 }
 
 -- the record made at issuance
 pub record IsIssued (issued : Date) (decision : Decision) (reviewable : Bool) (closed : List Date) (r : Record) : Type 0 where
@@ -37,6 +37,7 @@ pub record IsIssued (issued : Date) (decision : Decision) (reviewable : Bool) (c
   pub affirmed : r.affirmed ≡ None
   pub set_expiry : r.set_expiry ≡ None
   pub extensions : r.extensions ≡ 0
+  pub revisions : r.revisions ≡ 0
 
 -- the record after an affirmation on a day ended the petition
 abbrev pub record_affirmed_on : Date → Record → Record
@@ -53,3 +54,7 @@ record_extended_to x r = record r { set_expiry = Some x; extensions = counted r.
 -- x is that many months after the expiry
 abbrev pub IsExtension : Record → ℕ → Date → Type 0
 IsExtension r months x = (e : Date) × (expiry_day r ≡ Some (epoch_day e)) × (epoch_day x ≡ add_months e (pos months))
+
+-- the record that was issued in the place of another, on new facts: the extensions of that one still count, and there is one revision more
+abbrev pub record_revised_as : Record → Record → Record
+record_revised_as issued r = record issued { extensions = r.extensions; revisions = r.revisions + 1 }

@@ -1,13 +1,13 @@
-//! Determinations: issuing one (77.31), affirming it after a petition (77.37) and extending it (77.35).
+//! Determinations: issuing one (77.31), affirming it after a petition (77.37), extending it and revising it (77.35).
 
-ghost use Rattle.std.specs.Prelude.{◌≡◌, ◌≤◌, IsSome, IfOk, OnOk, OnErr, List, true, false, Some, None, MatchResult};
+ghost use Rattle.std.specs.Prelude.{◌≡◌, ◌<◌, ◌≤◌, IsSome, IfOk, OnOk, OnErr, List, true, false, Some, None, MatchResult};
 ghost use Rattle.jiff_core.specs.Date.{epoch_day};
 ghost use Rattle.jiff_core.specs.declared.civil.date.Date.{Date as Plain};
 ghost use Rattle.determination_dates.specs.declared.determination.Record.{Record as Seen};
 ghost use Rattle.determination_dates.specs.Days.{IsLimited};
 ghost use Rattle.determination_dates.specs.Effects.{expiry_day, IsKept, IsInRange, IsWithinRange};
-ghost use Rattle.determination_dates.specs.Computed.{Computes, issued_record, affirmed_record, extended_record};
-ghost use Rattle.determination_dates.specs.Determinations.{ordinary_day, fresh_record, IsIssued, record_affirmed_on, record_extended_to, IsExtension};
+ghost use Rattle.determination_dates.specs.Computed.{Computes, issued_record, affirmed_record, extended_record, revised_record};
+ghost use Rattle.determination_dates.specs.Determinations.{ordinary_day, fresh_record, IsIssued, record_affirmed_on, record_extended_to, record_revised_as, IsExtension};
 
 use crate::closed::ClosedDays;
 use crate::days::{days_later, months_later, number};
@@ -24,6 +24,9 @@ pub const EXTENSION_MONTHS: u8 = 18;
 
 /// Greatest count of extensions that is stored; the count stays there.
 pub const MOST_EXTENSIONS: u32 = 255;
+
+/// Most revisions of one determination on new facts.
+pub const MOST_REVISIONS: u32 = 255;
 
 /// Whether a structure would be a hazard to air navigation (77.31).
 #[derive(Clone, Copy, Debug, PartialEq, Eq)]
@@ -50,6 +53,8 @@ pub struct Record {
     pub set_expiry: Option<Date>,
     /// The number of extensions granted, counted up to `MOST_EXTENSIONS`.
     pub extensions: u32,
+    /// The number of revisions on new facts, at most `MOST_REVISIONS`.
+    pub revisions: u32,
 }
 
 /// The ordinary effective day of a determination that may be petitioned up to a deadline: 40 days after issuance (77.33(a)), or
@@ -80,6 +85,7 @@ impl Record {
             affirmed: None,
             set_expiry: None,
             extensions: 0,
+            revisions: 0,
         }
     }
 
@@ -208,6 +214,43 @@ impl Record {
         if self.extensions < MOST_EXTENSIONS {
             self.extensions += 1;
         }
+        Ok(())
+    }
+
+    /// Revises the determination on new facts (77.35(a)): the one that `issue` makes on that day takes its place. The extensions that were
+    /// granted still count, and there is one revision more.
+    ///
+    /// # Errors
+    ///
+    /// `DateRange` exactly where `issue` refuses; the record is then unchanged.
+    #[tactic(auto, using(crate::proofs::ComputedFacts::revised_made, crate::proofs::ComputedFacts::revised_none, crate::proofs::ComputedFacts::revised_range))]
+    pub fn revise(
+        &mut self,
+        day: Date,
+        decision: Decision,
+        reviewable: bool,
+        closed: &ClosedDays,
+    ) -> Result<(), DateRange>
+        requires day { IsLimited day }
+        requires few { self.old.revisions < MOST_REVISIONS }
+        ensures revised { OnOk result ((r : Seen) × IsIssued day decision reviewable closed.now r
+            × (self.new ≡ record_revised_as r self.old)) }
+        ensures range { OnOk result (IsWithinRange self.new) }
+        ensures same { OnErr result (self.new ≡ self.old) }
+        ensures beyond { OnErr result ((r : Seen) →
+            IsIssued day decision reviewable closed.now r → ¬ IsWithinRange r) }
+        ensures computed { MatchResult result
+            (λ _. revised_record day decision reviewable closed.now self.old ≡ Some self.new)
+            (λ _. revised_record day decision reviewable closed.now self.old ≡ None) }
+    {
+        let Ok(issued) = Record::issue(day, decision, reviewable, closed) else {
+            return Err(DateRange);
+        };
+        *self = Record {
+            extensions: self.extensions,
+            revisions: self.revisions + 1,
+            ..issued
+        };
         Ok(())
     }
 }

@@ -7,10 +7,10 @@ ghost use Rattle.jiff_core.specs.Date.{epoch_day};
 ghost use Rattle.jiff_core.specs.declared.civil.date.Date.{Date as Plain};
 ghost use Rattle.determination_dates.specs.Days.{IsLimited};
 ghost use Rattle.determination_dates.specs.Closed.{is_closed, with_day};
-ghost use Rattle.determination_dates.specs.Computed.{affirmed_record, deadline_date, deadline_day, extended_record, issued_record, timeliness_of};
+ghost use Rattle.determination_dates.specs.Computed.{affirmed_record, deadline_date, deadline_day, extended_record, issued_record, revised_record, timeliness_of};
 ghost use Rattle.determination_dates.specs.Dates.{date_on};
 ghost use Rattle.determination_dates.specs.Deadlines.{IsDeadline};
-ghost use Rattle.determination_dates.specs.Determinations.{record_affirmed_on, record_extended_to, IsExtension, IsIssued, ordinary_day};
+ghost use Rattle.determination_dates.specs.Determinations.{record_affirmed_on, record_extended_to, record_revised_as, IsExtension, IsIssued, ordinary_day};
 ghost use Rattle.determination_dates.specs.Effects.{IsInRange, IsKept, IsWithinRange};
 ghost use Rattle.determination_dates.specs.Notices.{HasLimitedDue, IsTimeliness};
 ghost use Rattle.determination_dates.specs.Text.{date_text};
@@ -20,7 +20,7 @@ ghost use Rattle.determination_dates.specs.declared.timely.Timeliness.{Timelines
 
 use crate::closed::ClosedDays;
 use crate::deadline::PETITION_DAYS;
-use crate::determination::{EFFECTIVE_DAYS, EXTENSION_MONTHS, MOST_EXTENSIONS};
+use crate::determination::{EFFECTIVE_DAYS, EXTENSION_MONTHS, MOST_EXTENSIONS, MOST_REVISIONS};
 use crate::effects::{EXTENSION_DAYS, PERIOD_MONTHS};
 use crate::evidence::EVIDENCE_MONTHS;
 use crate::limit::{FIRST_DAY, LAST_DAY};
@@ -84,7 +84,7 @@ pub fn some_limited_record(closed: &ClosedDays)
 /// the notice (77.7(e)). A petition is received within 30 days (77.39(a)), and a determination that may be petitioned is effective after
 /// 40 (77.33(a)). It expires after 18 months (77.33(b)). An extension is requested 15 days before the expiry (77.35(a)(2)) and is for at
 /// most 18 months (77.35(b), (c)); an application to the FCC is filed within 6 months of issuance (77.35(c)(1)). Dates are from
-/// 1900-01-01 to 2999-12-31, as days from 1970-01-01, and extensions are counted up to 255.
+/// 1900-01-01 to 2999-12-31, as days from 1970-01-01, and extensions are counted up to 255. A determination is revised at most 255 times.
 pub fn numbers()
     ensures notice { NOTICE_DAYS ≡ pos 45 }
     ensures form { FORM_DAYS ≡ pos 5 }
@@ -97,6 +97,7 @@ pub fn numbers()
     ensures first_day { FIRST_DAY ≡ neg_ℤ (pos 25_567) }
     ensures last_day { LAST_DAY ≡ pos 376_199 }
     ensures extensions { MOST_EXTENSIONS ≡ 255 }
+    ensures revisions { MOST_REVISIONS ≡ 255 }
 {}
 
 /// From 1899-01-01 on, for more than 1,700 years, `date_on` is the date with the day number.
@@ -135,4 +136,13 @@ pub fn affirmed_record_is()
 pub fn extended_record_is()
     ensures { (months : ℕ) (r s : Record) → IsKept r → (extended_record months r ≡ Some s)
         ↔ ((x : Plain) × IsExtension r months x × IsLimited x × (s ≡ record_extended_to x r)) }
+{}
+
+/// `revised_record` is the record that is issued on the day of a revision in the place of the old one, where its dates are within the limit,
+/// and else none.
+pub fn revised_record_is()
+    ensures { (day : Plain) (decision : Decision) (reviewable : Bool) (closed : List Plain)
+        (r s : Record) → IsLimited day → (revised_record day decision reviewable closed r ≡ Some s)
+        ↔ ((x : Record) × IsIssued day decision reviewable closed x × IsWithinRange x
+        × (s ≡ record_revised_as x r)) }
 {}

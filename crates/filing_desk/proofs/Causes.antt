@@ -6,6 +6,8 @@ use Rattle.finding_lists.specs.Verdicts.{is_obstruction}
 use Rattle.determination_dates.specs.Computed.{last_date}
 use Rattle.determination_dates.specs.Statuses.{status_of}
 use Rattle.determination_dates.specs.declared.determination.Record.{Record}
+use Rattle.determination_dates.specs.declared.determination.TheConstants.{MOST_REVISIONS}
+use Rattle.airfields.specs.Sites.{Site}
 use Rattle.determination_dates.specs.declared.life.Status.{Status}
 use Rattle.airport_register.specs.declared.amendment.AmendRefusal.{AmendRefusal}
 use Rattle.airport_register.specs.declared.amendment.AmendRefusal.TheVariants as amends
@@ -19,10 +21,11 @@ use Rattle.case_records.specs.declared.refusal.Refusal.{Refusal}
 use Rattle.case_records.specs.declared.refusal.Refusal.TheVariants as refusals
 use Rattle.case_acts.specs.declared.effect.Effect.{Effect}
 use Rattle.case_acts.specs.declared.extension.Extension.{Extension}
+use Rattle.case_acts.specs.declared.revision.Revision.{Revision}
 use Rattle.case_acts.specs.Standing.{is_awaiting, is_standing, is_in_force, is_planned}
-use Rattle.case_acts.specs.Rules.{refusal_if, of_record, in_status, on_determination, form_rules, finding_rules, determination_rules, deadline_rules, review_rules, pending_rules, last_day_rules, has_evidence, evidence_rules, moving_rules, license_rules}
+use Rattle.case_acts.specs.Rules.{refusal_if, of_record, in_status, on_determination, form_rules, finding_rules, determination_rules, deadline_rules, review_rules, pending_rules, last_day_rules, has_evidence, evidence_rules, moving_rules, change_rules, has_same_facts, revising_rules, license_rules}
 use Rattle.case_acts.specs.Rulings.{ruling}
-use Rattle.case_acts.specs.Effects.{petition_effect, disposal_effect, extension_effect, license_effect, abandonment_effect, determination_effect, filing_effect, form_came}
+use Rattle.case_acts.specs.Effects.{petition_effect, disposal_effect, extension_effect, license_effect, abandonment_effect, determination_effect, revision_effect, filing_effect, form_came}
 use Rattle.desk_machine.specs.declared.entry.TheConstants.{MOST_CASES}
 use Rattle.desk_machine.specs.States.{State, case_at}
 use Rattle.desk_machine.specs.Machine.{ruling_of_act, on_day, on_kept, on_list, day_rules, file_rules}
@@ -95,6 +98,14 @@ others_moving x today application r =
     others_more _ _ (others_more _ _ (others_last (last_date r) today) (others_when x.started refusals.WorkStarted (λ e. cc (e))))
     (others_evidence application r (has_evidence r today x.filed x.warranted))
 
+others_change : (x : Revision) (site : Site) (r : Record) → Others (change_rules x site r)
+others_change x site r =
+    others_more _ _ (others_more _ _ (others_when x.started refusals.WorkStarted (λ e. cc (e))) (others_when (has_same_facts site x) refusals.SameFacts (λ e. cc (e))))
+    (others_when (nat_le MOST_REVISIONS r.revisions) refusals.TooManyRevisions (λ e. cc (e)))
+
+others_revising : (x : Revision) (site : Site) (kept : KeptList) (today : Date) (r : Record) → Others (revising_rules x site kept today r)
+others_revising x site kept today r = others_more _ _ (others_more _ _ (others_finding x.finding kept) (others_last (last_date r) today)) (others_change x site r)
+
 -- ---- acts
 
 abbrev IsFault : Result Effect Refusal → Type 0
@@ -142,6 +153,11 @@ acted_never s basis (acts.Extend number months started filing warranted) e =
     let x : Extension = record { months = months; started = started; filed = filing; warranted = warranted } in
     never_on_case s number _ (λ today c k. never_ruled _ (extension_effect number x c)
     (others_act is_in_force (moving_rules x today c.submission.fcc) today c (others_moving x today c.submission.fcc)) k) e
+acted_never s basis (acts.Revise number started ground height finding) e =
+    let x : Revision = record { started = started; terrain = ground; height = height; finding = finding } in
+    never_on_case s number _ (λ today c k. never_on_list basis _
+    (λ kept m. never_ruled _ (revision_effect number x s.closed kept today c)
+    (others_act is_in_force (revising_rules x c.submission.filing kept today) today c (others_revising x c.submission.filing kept today)) m) k) e
 acted_never s basis (acts.Fcc number completion) e =
     never_on_case s number _ (λ today c k. never_ruled _ (license_effect number completion today c)
     (others_act is_in_force (λ r. license_rules c) today c (λ r. others_when (is_none c.submission.fcc) refusals.FccEvidence (λ x. cc (x)))) k) e

@@ -4,6 +4,7 @@ use Rattle.std.proofs.lemmas.Grind.{common_steps}
 use Rattle.std.specs.Option.{option_map, option_map_or}
 use Rattle.jiff_core.specs.declared.civil.date.Date.{Date}
 use Rattle.jiff_core.specs.Date.{epoch_day}
+use Rattle.airfields.specs.Sites.{Site}
 use Rattle.airfields.specs.declared.airfield.Airfield.{Airfield}
 use Rattle.oe_findings.specs.List.{findings_of}
 use Rattle.determination_dates.specs.declared.life.Life.{Life}
@@ -27,7 +28,7 @@ use Rattle.review_marks.specs.Turns.{Leads, row_after_change}
 use Rattle.review_marks.specs.declared.row.Row.{Row}
 use Rattle.review_marks.proofs.Unconcerned.{unconcerned}
 use Rattle.review_marks.proofs.Turning.{apart, by_places, eq_suc, same_number, suc_zero, zero_suc}
-use Rattle.desk_machine.specs.States.{State, case_at, cases_changed_at, with_case, state_after_step}
+use Rattle.desk_machine.specs.States.{State, case_at, cases_changed_at, issued_case, with_case, state_after_step}
 use Rattle.desk_machine.proofs.CaseFacts.{case_changed, case_past}
 use Rattle.desk_machine.specs.Marks.{Goes, is_marked, marks, stands_on, stands_in, comparison_row, watched_row}
 use Rattle.filing_desk.specs.Desks.{with_register}
@@ -216,26 +217,27 @@ marks_fallen s k f rows are fallen n =
 
 -- ---- a determination is issued
 
-abbrev issued_case : Life → KeptList → KeptCase → KeptCase
-issued_case life kept c = record c { life = life; list = Some kept }
+-- the row of a determination on this list of this structure
+abbrev pub issued_row : State → Site → KeptList → Row
+issued_row s site kept = record { filing = site; stored = kept.list; marked = differs kept.list (findings_of s.register site) }
 
-issued_at : (s : State) (life : Life) (kept : KeptList) (there : KeptCase) (b : Bool) (o : Option KeptCase)
-    → (b ≡ true → (o ≡ Some there) × (stands_on s.day (issued_case life kept there) ≡ true))
-    → cond b (Some (comparison_row s there kept)) (with_some o (watched_row s)) ≡ with_some (option_map (λ c. cond b (issued_case life kept c) c) o) (watched_row s)
-issued_at s life kept there false None h = refl
-issued_at s life kept there false (Some c) h = refl
-issued_at s life kept there true o h =
+issued_at : (s : State) (site : Site) (life : Life) (kept : KeptList) (there : KeptCase) (b : Bool) (o : Option KeptCase)
+    → (b ≡ true → (o ≡ Some there) × (stands_on s.day (issued_case site life kept there) ≡ true))
+    → cond b (Some (issued_row s site kept)) (with_some o (watched_row s)) ≡ with_some (option_map (λ c. cond b (issued_case site life kept c) c) o) (watched_row s)
+issued_at s site life kept there false None h = refl
+issued_at s site life kept there false (Some c) h = refl
+issued_at s site life kept there true o h =
     let p = h refl in
-    ap (λ (x : Bool). cond x (Some (comparison_row s (issued_case life kept there) kept)) None) (sym p.1)
-    ∙ ap (λ o. with_some (option_map (λ c. issued_case life kept c) o) (watched_row s)) (sym p.0)
+    ap (λ (x : Bool). cond x (Some (issued_row s site kept)) None) (sym p.1)
+    ∙ ap (λ o. with_some (option_map (λ c. issued_case site life kept c) o) (watched_row s)) (sym p.0)
 
-pub marks_issued : (s : State) (k : ℕ) (life : Life) (kept : KeptList) (there : KeptCase) (rows : List (Option Row)) → AreMarks s rows → 1 ≤ k → k ≤ length rows → case_at s.cases k ≡ Some there
-    → stands_in (record s { cases = with_case k (issued_case life kept) s.cases }) k ≡ true
-    → AreMarks (record s { cases = with_case k (issued_case life kept) s.cases }) (slice_set rows (k - 1) (Some (comparison_row s there kept)))
-marks_issued s k life kept there rows are low high at stands n =
-    put_row rows (comparison_row s there kept) k n low high ∙ ap (cond (nat_eq k n) (Some (comparison_row s there kept))) (are n)
-    ∙ issued_at s life kept there (nat_eq k n) (case_at s.cases n) (λ e. (ap (case_at s.cases) (sym (same_number k n e)) ∙ at, stands_then s k (issued_case life kept) there true at stands))
-    ∙ ap (λ o. with_some o (watched_row s)) (sym (case_changed k (issued_case life kept) s.cases n))
+pub marks_issued : (s : State) (k : ℕ) (site : Site) (life : Life) (kept : KeptList) (there : KeptCase) (rows : List (Option Row)) → AreMarks s rows → 1 ≤ k → k ≤ length rows → case_at s.cases k ≡ Some there
+    → stands_in (record s { cases = with_case k (issued_case site life kept) s.cases }) k ≡ true
+    → AreMarks (record s { cases = with_case k (issued_case site life kept) s.cases }) (slice_set rows (k - 1) (Some (issued_row s site kept)))
+marks_issued s k site life kept there rows are low high at stands n =
+    put_row rows (issued_row s site kept) k n low high ∙ ap (cond (nat_eq k n) (Some (issued_row s site kept))) (are n)
+    ∙ issued_at s site life kept there (nat_eq k n) (case_at s.cases n) (λ e. (ap (case_at s.cases) (sym (same_number k n e)) ∙ at, stands_then s k (issued_case site life kept) there true at stands))
+    ∙ ap (λ o. with_some o (watched_row s)) (sym (case_changed k (issued_case site life kept) s.cases n))
 
 -- where it does not stand, the row that was put is closed again
 closed_over : (rows : List (Option Row)) (r : Row) (k n : ℕ) (b : Bool) (o : Option Row) → cond b None (cond b (Some r) o) ≡ cond b None o
@@ -383,19 +385,19 @@ pub kept_alive : (s : State) (k : ℕ) (life : Life) (rows : List (Option Row)) 
     → AreKept (state_after_step (steps.LifePut k life) s) (cond (stands_in (state_after_step (steps.LifePut k life) s) k) rows (rows_after_close k rows))
 kept_alive s k life rows goes h = (lived s k life rows (stands_in (state_after_step (steps.LifePut k life) s) k) refl goes h.0, day_formed s k (λ c. record c { life = life }) h.1)
 
-issued_rows : (s : State) (k : ℕ) (life : Life) (kept : KeptList) (there : KeptCase) (rows : List (Option Row)) (b : Bool) → stands_in (record s { cases = with_case k (issued_case life kept) s.cases }) k ≡ b
+issued_rows : (s : State) (k : ℕ) (site : Site) (life : Life) (kept : KeptList) (there : KeptCase) (rows : List (Option Row)) (b : Bool) → stands_in (record s { cases = with_case k (issued_case site life kept) s.cases }) k ≡ b
     → 1 ≤ k → k ≤ length rows → case_at s.cases k ≡ Some there → AreMarks s rows
-    → AreMarks (record s { cases = with_case k (issued_case life kept) s.cases }) (cond b (slice_set rows (k - 1) (Some (comparison_row s there kept))) (rows_after_close k (slice_set rows (k - 1) (Some (comparison_row s there kept)))))
-issued_rows s k life kept there rows true is low high at are = marks_issued s k life kept there rows are low high at is
-issued_rows s k life kept there rows false is low high at are =
-    λ n. closed_put rows (comparison_row s there kept) k low high n ∙ marks_fallen s k (issued_case life kept) rows are is n
+    → AreMarks (record s { cases = with_case k (issued_case site life kept) s.cases }) (cond b (slice_set rows (k - 1) (Some (issued_row s site kept))) (rows_after_close k (slice_set rows (k - 1) (Some (issued_row s site kept)))))
+issued_rows s k site life kept there rows true is low high at are = marks_issued s k site life kept there rows are low high at is
+issued_rows s k site life kept there rows false is low high at are =
+    λ n. closed_put rows (issued_row s site kept) k low high n ∙ marks_fallen s k (issued_case site life kept) rows are is n
 
-pub kept_issued : (s : State) (k : ℕ) (life : Life) (kept : KeptList) (there : KeptCase) (old rows : List (Option Row)) → case_at s.cases k ≡ Some there → ((n : ℕ) → row_at rows n ≡ row_at old n)
+pub kept_issued : (s : State) (k : ℕ) (site : Site) (life : Life) (kept : KeptList) (there : KeptCase) (old rows : List (Option Row)) → case_at s.cases k ≡ Some there → ((n : ℕ) → row_at rows n ≡ row_at old n)
     → k ≤ length rows → AreKept s old
-    → AreKept (state_after_step (steps.Issued k life kept) s)
-    (cond (stands_in (state_after_step (steps.Issued k life kept) s) k) (slice_set rows (k - 1) (Some (comparison_row s there kept))) (rows_after_close k (slice_set rows (k - 1) (Some (comparison_row s there kept)))))
-kept_issued s k life kept there old rows at same high h =
-    (issued_rows s k life kept there rows (stands_in (state_after_step (steps.Issued k life kept) s) k) refl (not_zero k at) high at (λ n. same n ∙ h.0 n), day_formed s k (issued_case life kept) h.1)
+    → AreKept (state_after_step (steps.Issued k site life kept) s)
+    (cond (stands_in (state_after_step (steps.Issued k site life kept) s) k) (slice_set rows (k - 1) (Some (issued_row s site kept))) (rows_after_close k (slice_set rows (k - 1) (Some (issued_row s site kept)))))
+kept_issued s k site life kept there old rows at same high h =
+    (issued_rows s k site life kept there rows (stands_in (state_after_step (steps.Issued k site life kept) s) k) refl (not_zero k at) high at (λ n. same n ∙ h.0 n), day_formed s k (issued_case site life kept) h.1)
   where
     not_zero : (k : ℕ) → case_at s.cases k ≡ Some there → 1 ≤ k
     not_zero zero e = absurd (cc (e))

@@ -3,7 +3,7 @@ use Rattle.std.proofs.Common.{◌≡◌, ◌+◌, refl, subst, sym, arith, ℕ, 
 use Rattle.std.specs.Option.{option_map}
 use Rattle.std.proofs.lemmas.Grind.{common_steps}
 use Rattle.determination_dates.specs.declared.determination.Record.{Record}
-use Rattle.determination_dates.specs.Computed.{issued_record}
+use Rattle.determination_dates.specs.Computed.{issued_record, revised_record, with_some}
 use Rattle.case_requests.specs.declared.act.Act.{Act}
 use Rattle.case_requests.specs.declared.act.Act.TheVariants as acts
 use Rattle.case_records.specs.declared.case.KeptCase.{KeptCase}
@@ -14,8 +14,9 @@ use Rattle.case_acts.specs.declared.effect.Effect.{Effect}
 use Rattle.case_acts.specs.declared.effect.Step.{Step}
 use Rattle.case_acts.specs.declared.effect.Step.TheVariants as steps
 use Rattle.case_acts.specs.declared.extension.Extension.{Extension}
+use Rattle.case_acts.specs.declared.revision.Revision.{Revision}
 use Rattle.case_acts.specs.Rules.{refusal_if}
-use Rattle.case_acts.specs.Effects.{petition_effect, disposal_effect, extension_effect, license_effect, abandonment_effect, determination_effect, filing_effect, form_came}
+use Rattle.case_acts.specs.Effects.{petition_effect, disposal_effect, extension_effect, license_effect, abandonment_effect, determination_effect, revision_effect, site_with, filing_effect, form_came}
 use Rattle.case_acts.specs.Decisions.{decision_by, is_reviewable}
 use Rattle.desk_machine.specs.declared.entry.TheConstants.{MOST_CASES}
 use Rattle.desk_machine.specs.States.{State}
@@ -30,7 +31,7 @@ room_for_any cases (steps.DayClosed d) h = tt
 room_for_any cases (steps.CaseFiled c) h = h
 room_for_any cases (steps.FormPut number day) h = tt
 room_for_any cases (steps.LifePut number life) h = tt
-room_for_any cases (steps.Issued number life list) h = tt
+room_for_any cases (steps.Issued number site life list) h = tt
 
 room_as : (cases : List KeptCase) (x e : Effect) → HasRoom cases x.step → x ≡ e → HasRoom cases e.step
 room_as cases x e h is = subst (λ (y : Effect). HasRoom cases y.step) is h
@@ -49,6 +50,10 @@ not_full cases false is none = grind (arith, common_steps, is)
 on_list_shown : (o : Option KeptList) (act : KeptList → Result Effect Refusal) (e : Effect) (P : Type 0) → ((kept : KeptList) → act kept ≡ Ok e → P) → on_list o act ≡ Ok e → P
 on_list_shown None act e P f h = absurd (cc (h))
 on_list_shown (Some kept) act e P f h = f kept h
+
+room_of_record : (cases : List KeptCase) (o : Option Record) (f : Record → Option Effect) (e : Effect) → ((r : Record) → f r ≡ Some e → HasRoom cases e.step) → with_some o f ≡ Some e → HasRoom cases e.step
+room_of_record cases None f e g h = absurd (cc (h))
+room_of_record cases (Some r) f e g h = g r h
 
 pub acted_room : (s : State) (basis : Option KeptList) (act : Act) (e : Effect) → ruling_of_act s basis act ≡ Ok e → HasRoom s.cases e.step
 acted_room s basis (acts.Amend a) e h = room_as s.cases _ e tt (ok_same _ e h)
@@ -73,6 +78,13 @@ acted_room s basis (acts.Extend number months started filing warranted) e h =
     (λ today c day at k.
     let x : Extension = record { months = months; started = started; filed = filing; warranted = warranted } in
     room_put s.cases number e (extension_puts number x c e (came _ (extension_effect number x c) e k).some)) h
+acted_room s basis (acts.Revise number started ground height finding) e h =
+    let x : Revision = record { started = started; terrain = ground; height = height; finding = finding } in
+    on_case_shown s number _ e (HasRoom s.cases e.step)
+    (λ today c day at k. on_list_shown basis _ e (HasRoom s.cases e.step)
+    (λ kept m. room_of_record s.cases c.life.determination _ e
+    (λ r n. room_mapped Record s.cases (revised_record today (decision_by finding) (is_reviewable (decision_by finding) (site_with x c) kept.list) s.closed r) _ e (λ q. tt) n)
+    (came _ (revision_effect number x s.closed kept today c) e m).some) k) h
 acted_room s basis (acts.Fcc number completion) e h =
     on_case_shown s number _ e (HasRoom s.cases e.step) (λ today c day at k. room_put s.cases number e (license_puts number completion today c e (came _ (license_effect number completion today c) e k).some)) h
 acted_room s basis (acts.Abandon number) e h =

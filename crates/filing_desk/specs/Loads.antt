@@ -1,22 +1,21 @@
 -- Opening a clerk, and why it fails.
-use Rattle.std.specs.Prelude.{◌≡◌, ℕ, Bool, true, false, List, [], ◌∷◌, Option}
+use Rattle.std.specs.Prelude.{◌≡◌, ◌≢◌, ℕ, List, [], Option}
 use Rattle.oe_keeper.specs.Kept.{Kept, place}
 use Rattle.oe_keeper.specs.Keeping.{HasAll, StaysSilent}
-use Rattle.row_register.specs.declared.desk.DeskRow.TheVariants as days
-use Rattle.desk_tables.specs.Changes.{put_desk}
-use Rattle.desk_tables.specs.Opening.{Opens, IsFirstBad, is_older}
+use Rattle.oe_keeper.specs.declared.change.RowChange.{RowChange}
+use Rattle.desk_tables.specs.Opening.{Opens, IsFirstBad, renewal}
 use Rattle.filing_desk.specs.Clerks.{Clerking}
 use Rattle.filing_desk.specs.Keepers.{IsLater, HasFailed, HasLoaded}
 use Rattle.filing_desk.specs.declared.opening.OpenRefusal.{OpenRefusal}
 use Rattle.filing_desk.specs.declared.opening.OpenRefusal.TheVariants.{KeeperFault, BadRow, NoMemory}
 
--- the keeper after the rows of the older format were brought to that of today by one change; without them it was not asked
-pub record HasRenewed {K : Type 0} (Tells : K → Kept → Type 0) (is_old : Bool) (old new : K) : Type 0 where
-  pub made : is_old ≡ true → HasAll Tells old new (put_desk days.Format ∷ [])
-  pub same : is_old ≡ false → new ≡ old
+-- the keeper after these changes were made, as one list; where there are none it was not asked
+pub record HasRenewed {K : Type 0} (Tells : K → Kept → Type 0) (changes : List RowChange) (old new : K) : Type 0 where
+  pub made : changes ≢ [] → HasAll Tells old new changes
+  pub same : changes ≡ [] → new ≡ old
   pub silent : StaysSilent Tells old new
 
--- why it could not be brought there: the keeper failed, or memory ran out
+-- why they could not be made: the keeper failed, or memory ran out
 abbrev pub StopsRenewal : {K : Type 0} → (K → Type 0) → (K → ℕ) → K → K → OpenRefusal → Type 0
 StopsRenewal IsSteady faults old new KeeperFault = HasFailed IsSteady faults old new
 StopsRenewal IsSteady faults old new (BadRow table key) = ⊥
@@ -29,7 +28,7 @@ pub record IsOpened {K : Type 0} (Tells : K → Kept → Type 0) (Finds : K → 
   -- the keeper after the load, and then the clerk's
   pub between : K
   pub loaded : HasLoaded Tells Finds keeper path kept between
-  pub renewed : HasRenewed Tells (is_older kept) between clerk.keeper
+  pub renewed : HasRenewed Tells (renewal kept) between clerk.keeper
   pub later : IsLater IsSteady faults keeper clerk.keeper
   pub opens : Opens kept clerk.state
   pub accepted : clerk.accepted ≡ []

@@ -2,17 +2,19 @@
 
 ghost use Rattle.std.specs.Prelude.{◌≡◌, ◌≢◌, ◌<◌, ◌≤◌, true, None, Ok, Err, IfOk, IfSome, MatchResult, option_copied};
 ghost use Rattle.wire_requests.specs.Limits.{IsValidAct};
+ghost use Rattle.case_requests.specs.Evaluated.{HasFacts};
 ghost use Rattle.case_requests.specs.declared.act.Act.TheVariants as acts;
 ghost use Rattle.case_acts.specs.Cases.{HasLimitedDates, IsSoundStep};
 ghost use Rattle.determination_dates.specs.Days.{IsLimited};
 ghost use Rattle.determination_dates.specs.declared.determination.TheConstants.{EXTENSION_MONTHS};
-ghost use Rattle.desk_machine.specs.Evaluations.{basis_of, evaluation_of};
+ghost use Rattle.airfields.specs.Sites.{AreFacts, revised_site};
+ghost use Rattle.desk_machine.specs.Evaluations.{basis_of, evaluated_site, evaluation_of};
 ghost use Rattle.desk_machine.specs.Machine.{ruling_of_act};
 
 use crate::desk::Desk;
 use crate::evaluated::Evaluated;
 use airfields::Filing;
-use case_acts::{Effect, Extension, Step, is_before};
+use case_acts::{Effect, Extension, Revision, Step, is_before};
 use case_records::{KeptList, Outcome, Refusal};
 use case_requests::{Act, Impact, Party, Submission};
 use desk_machine::MOST_CASES;
@@ -22,6 +24,17 @@ use review_marks::findings;
 use std::alloc::Global;
 use wire_requests::plain_of;
 use wire_values::Plain;
+
+/// The structure with the new facts of a revision.
+fn with_facts(filing: &Filing, asked: &Revision) -> Filing
+    requires { AreFacts asked.now.terrain asked.now.height }
+    ensures { result ≡ revised_site filing.now asked.now.terrain asked.now.height }
+{
+    let Ok(revised) = filing.revised(asked.terrain, asked.height) else {
+        unreachable!()
+    };
+    revised
+}
 
 impl Desk {
     /// Outcome of a new day.
@@ -70,6 +83,20 @@ impl Desk {
         case_acts::form(number, today, case)
     }
 
+    /// The structure that an act evaluates; `None` where it evaluates none, or there is no such case.
+    fn structure(&self, act: &Act) -> Option<Filing>
+        requires { HasFacts act.now }
+        ensures { result ≡ evaluated_site self.now act.now }
+    {
+        let Some(number) = act.evaluated_case() else {
+            return None;
+        };
+        match self.case(number) {
+            Some(case) => Some(act.evaluated(&case.submission.filing)),
+            None => None,
+        }
+    }
+
     /// The list that a determination of this structure is made on: the given one, where it is of this structure and its number is at most
     /// `p`; else that over the present airfields.
     ///
@@ -102,17 +129,15 @@ impl Desk {
 
     /// Whether the act is surely not made on the given list.
     pub(crate) fn is_own(&self, act: &Act, p: u64, given: Option<&Evaluated>) -> bool
+        requires { HasFacts act.now }
         ensures { result ≡ true → basis_of self.now p (option_copied given.entry) act.now
             ≡ basis_of self.now p None act.now }
     {
         let Some(evaluated) = given else {
             return true;
         };
-        let Act::Determine { case: number, .. } = act else {
-            return true;
-        };
-        match self.case(*number) {
-            Some(case) => !evaluated.fits(&case.submission.filing, p),
+        match self.structure(act) {
+            Some(filing) => !evaluated.fits(&filing, p),
             None => true,
         }
     }
@@ -188,6 +213,41 @@ impl Desk {
             return Err(Refusal::UnknownCase);
         };
         case_acts::extend(number, asked, today, case)
+    }
+
+    /// Outcome of a revision on new facts, made on the given list or on the findings over the present airfields.
+    fn on_revise(
+        &self,
+        alloc: Global,
+        number: u32,
+        asked: &Revision,
+        p: u64,
+        given: Option<&Evaluated>,
+    ) -> Result<Effect, Refusal>
+        requires facts { AreFacts asked.now.terrain asked.now.height }
+        ensures value { MatchResult result
+            (λ e. ruling_of_act self.now (basis_of self.now p (option_copied given.entry)
+            (acts.Revise number asked.now.started asked.now.terrain asked.now.height asked.now.finding))
+            (acts.Revise number asked.now.started asked.now.terrain asked.now.height asked.now.finding)
+            ≡ Ok e)
+            (λ why. why ≢ Refusal.NoMemory → ruling_of_act self.now (basis_of self.now p
+            (option_copied given.entry)
+            (acts.Revise number asked.now.started asked.now.terrain asked.now.height asked.now.finding))
+            (acts.Revise number asked.now.started asked.now.terrain asked.now.height asked.now.finding)
+            ≡ Err why) }
+        ensures sound { IfOk result (λ e. IsSoundStep e.step) }
+    {
+        let Some(today) = self.day() else {
+            return Err(Refusal::NoDay);
+        };
+        let Some(case) = self.case(number) else {
+            return Err(Refusal::UnknownCase);
+        };
+        let filing = with_facts(&case.submission.filing, asked);
+        let Ok(kept) = self.evaluation(alloc, &filing, p, given) else {
+            return Err(Refusal::NoMemory);
+        };
+        case_acts::revise(alloc, number, asked, &self.closed, kept, today, case)
     }
 
     /// Outcome of an act of the FCC.
@@ -270,6 +330,21 @@ impl Desk {
                     warranted: *warranted,
                 },
             ),
+            Act::Revise {
+                case,
+                started,
+                ground,
+                height,
+                finding,
+            } => {
+                let asked = Revision {
+                    started: *started,
+                    terrain: *ground,
+                    height: *height,
+                    finding: *finding,
+                };
+                self.on_revise(alloc, *case, &asked, p, given)
+            }
             Act::Fcc { case, completion } => self.on_fcc(*case, *completion),
             Act::Abandon(case) => self.on_abandon(*case),
         }

@@ -157,6 +157,7 @@ impl Office {
             None => {}
         }
         c.has_record();
+        c.has_facts();
         let own = self.desk.is_own(&c.act, p, given);
         match self.desk.acted(alloc, &c.act, p, given) {
             Ok(effect) => self.accept(alloc, keeper, c, effect, own),

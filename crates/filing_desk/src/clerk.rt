@@ -68,8 +68,8 @@ impl<K: Keeper> Clerk<K> {
         self.apply_with(alloc, c, None)
     }
 
-    /// As `apply`, where a list may be given that was evaluated before. A determination is made on it where it is of the structure of the
-    /// case and its number is at most that of the last entry; else on the list over the present airfields. It is marked exactly where its
+    /// As `apply`, where a list may be given that was evaluated before. A determination or a revision is made on it where it is of the
+    /// structure that the act evaluates and its number is at most that of the last entry; else on the list over the present airfields. It is marked exactly where its
     /// list differs from the one over the present airfields.
     ///
     /// # Errors

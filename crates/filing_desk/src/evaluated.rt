@@ -46,7 +46,7 @@ impl Evaluated {
         }
     }
 
-    /// Whether a determination of this structure is made on it where `p` is the number of the last published entry.
+    /// Whether an act that evaluates this structure is made on it where `p` is the number of the last published entry.
     pub(crate) fn fits(&self, filing: &Filing, p: u64) -> bool
         ensures { result ≡ (same_site self.now.filing filing.now && nat_le self.now.last p) }
     {

@@ -1,4 +1,4 @@
-//! The mark of a determination as it is issued.
+//! The mark of a determination as it is issued, or issued in the place of another.
 
 ghost use Rattle.std.specs.Prelude.{◌≡◌, ◌<◌, ◌≤◌, ℕ, true, IfOk, OnOk, length};
 ghost use Rattle.oe_findings.specs.List.{findings_of};
@@ -35,7 +35,11 @@ fn compared<L: Ledger>(
           marked = differs list.now (findings_of sky.now filing.now);
         })) }
 {
-    marks.added(number, filing, list, sky, &mut Steps::<L>::new(blank))
+    let mut steps = Steps::<L>::new(blank);
+    if marks.has(number) {
+        return marks.revised(number, filing, list, sky, &mut steps);
+    }
+    marks.added(number, filing, list, sky, &mut steps)
 }
 
 /// The change of the marks by a determination that is issued on this list: it is marked exactly where the list differs from that over the

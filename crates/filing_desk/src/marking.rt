@@ -16,6 +16,7 @@ use crate::handing::Accepted;
 use crate::issued_mark::issued_mark;
 use crate::office::Office;
 use crate::register_change::mark_change;
+use airfields::Filing;
 use airport_register::Amendment;
 use case_acts::Step;
 use case_records::{KeptCase, KeptList, Refusal};
@@ -181,15 +182,16 @@ impl Office {
         Ok(())
     }
 
-    /// Replaces the life of a case and stores the list of its determination, where the case exists. The determination is watched from then
-    /// on, as long as it stands, and is marked exactly where its list differs from that over the present airfields; where `own` is true it
-    /// is that list.
+    /// Replaces the life of a case, and stores the structure and the list of its determination, where the case exists. The determination is
+    /// watched from then on, as long as it stands, and is marked exactly where its list differs from that of the structure over the present
+    /// airfields; where `own` is true it is that list.
     fn issue<K: Keeper>(
         &mut self,
         alloc: Global,
         keeper: &mut K,
         accepted: Accepted,
         number: u32,
+        filing: &Filing,
         life: Life,
         list: KeptList,
         own: bool,
@@ -197,20 +199,20 @@ impl Office {
         requires new { IsNew accepted.entry self.old.entries }
         requires loaded { ∥ K.IsLoaded keeper.old ∥₁ }
         requires kept { IfSome life.determination IsKept }
-        requires present { own ≡ true → IsPresent self.old (steps.Issued number life list) }
+        requires present { own ≡ true → IsPresent self.old (steps.Issued number filing.now life list) }
         ensures { Keeps K.Tells K.IsLoaded K.IsSteady K.faults keeper.old keeper.new
             accepted.changes self.old
-            (with_entry accepted.entry (state_after_step (steps.Issued number life list) self.old))
+            (with_entry accepted.entry
+            (state_after_step (steps.Issued number filing.now life list) self.old))
             self.new result }
     {
-        let Some(case) = self.desk.case(number) else {
+        let Some(_) = self.desk.case(number) else {
             return self.desk.keep(alloc, keeper, accepted);
         };
-        let filing = case.submission.filing;
         let change = match issued_mark(
             &mut self.marks,
             number,
-            &filing,
+            filing,
             &list.list,
             &self.desk,
             own,
@@ -219,7 +221,7 @@ impl Office {
             Err(_) => return Err(Refusal::NoMemory),
         };
         self.desk.keep(alloc, keeper, accepted)?;
-        self.desk.issue(number, life, list);
+        self.desk.issue(number, filing, life, list);
         self.marks.commit(change);
         close_fallen_one(&self.desk, &mut self.marks, number);
         Ok(())
@@ -256,9 +258,12 @@ impl Office {
             Step::DaySet(day) => self.set_day(alloc, keeper, accepted, day),
             Step::FormPut { number, day } => self.put_form(alloc, keeper, accepted, number, day),
             Step::LifePut { number, life } => self.put_life(alloc, keeper, accepted, number, life),
-            Step::Issued { number, life, list } => self.issue(
-                alloc, keeper, accepted, number, life, list, own,
-            ),
+            Step::Issued {
+                number,
+                filing,
+                life,
+                list,
+            } => self.issue(alloc, keeper, accepted, number, &filing, life, list, own),
         }
     }
 }

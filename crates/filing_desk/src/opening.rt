@@ -1,10 +1,11 @@
 //! Opening a clerk.
 
-ghost use Rattle.std.specs.Prelude.{◌≡◌, true, [], IfOk, IfErr, OnOk, option_copied};
-ghost use Rattle.desk_tables.specs.Opening.{Opens, is_older, renewed};
+ghost use Rattle.std.specs.Prelude.{◌≡◌, [], IfOk, IfErr, OnOk, option_copied};
+ghost use Rattle.desk_tables.specs.Opening.{Opens, renewal, renewed};
 ghost use Rattle.desk_tables.specs.Rows.{AreRows};
 ghost use Rattle.desk_machine.specs.States.{empty};
 ghost use Rattle.filing_desk.specs.Handed.{Told};
+ghost use Rattle.oe_keeper.specs.Keeping.{HasAll, StaysSilent};
 ghost use Rattle.filing_desk.specs.Keepers.{IsLater};
 ghost use Rattle.filing_desk.specs.Loads.{HasOpenCause, HasRenewed, IsOpened, NamesBadRow, StopsRenewal};
 
@@ -43,8 +44,8 @@ impl From<NoMemory> for OpenRefusal {
 #[derive(Drop)]
 struct OpenedOffice {
     office: Office,
-    /// Whether the tables were of the format from before there were planned approaches.
-    is_older: bool,
+    /// The changes that bring the tables to the format of today.
+    renewal: ChangeList,
 }
 
 /// Opens an office from the rows of a desk.
@@ -55,15 +56,15 @@ struct OpenedOffice {
 fn office_of(alloc: Global, tables: Tables) -> Result<OpenedOffice, OpenRefusal>
     ensures opened { IfOk result (λ o. Opens tables o.office) }
     ensures rows { IfOk result (λ o. AreRows o.office (renewed tables)) }
-    ensures older { IfOk result (λ o. o.is_older ≡ is_older tables) }
+    ensures renewal { IfOk result (λ o. o.renewal ≡ renewal tables) }
     ensures bad { IfErr result (λ why. NamesBadRow tables why) }
 {
     opened_rows();
     match read_desk(alloc, tables) {
         Ok(opened) => {
-            let is_older = opened.is_older;
-            let office = Office::of(alloc, Desk::of(alloc, opened)?)?;
-            Ok(OpenedOffice { office, is_older })
+            let (desk, renewal) = Desk::of(alloc, opened)?;
+            let office = Office::of(alloc, desk)?;
+            Ok(OpenedOffice { office, renewal })
         }
         Err(Unread::Bad(row)) => Err(OpenRefusal::BadRow {
             table: row.table,
@@ -73,44 +74,48 @@ fn office_of(alloc: Global, tables: Tables) -> Result<OpenedOffice, OpenRefusal>
     }
 }
 
-/// Has the keeper put the format row of today, by one change.
+/// Has the keeper make these changes, all or none.
 ///
 /// # Errors
 ///
 /// `KeeperFault` only where the keeper failed, `NoMemory` where memory ran out.
 #[tactic(auto, using(crate::proofs::Opened::not_asked))]
-fn put_format<K: Keeper>(alloc: Global, keeper: &mut K) -> Result<(), OpenRefusal>
+fn put_all<K: Keeper>(
+    alloc: Global,
+    keeper: &mut K,
+    changes: &ChangeList,
+) -> Result<(), OpenRefusal>
     requires loaded { ∥ K.IsLoaded keeper.old ∥₁ }
-    ensures renewed { OnOk result (HasRenewed K.Tells true keeper.old keeper.new) }
+    ensures made { OnOk result (HasAll K.Tells keeper.old keeper.new changes.now) }
+    ensures silent { OnOk result (StaysSilent K.Tells keeper.old keeper.new) }
     ensures loaded { ∥ K.IsLoaded keeper.new ∥₁ }
     ensures later { IsLater K.IsSteady K.faults keeper.old keeper.new }
     ensures cause { IfErr result (StopsRenewal K.IsSteady K.faults keeper.old keeper.new) }
 {
-    let list = ChangeList::renewal(alloc)?;
-    match keeper.apply(alloc, list.as_slice()) {
+    match keeper.apply(alloc, changes.as_slice()) {
         Ok(()) => Ok(()),
         Err(KeepErr::Failed) => Err(OpenRefusal::KeeperFault),
         Err(KeepErr::NoMemory) => Err(OpenRefusal::NoMemory),
     }
 }
 
-/// Brings a keeper's rows of the older format to that of today. A keeper of others is not asked.
+/// Brings a keeper's rows of an older format to that of today, by these changes. A keeper of others, for which there are none, is not asked.
 ///
 /// # Errors
 ///
-/// As `put_format`.
-#[tactic(auto, using(crate::proofs::Opened::renewed_where, crate::proofs::Opened::not_asked))]
-fn renew<K: Keeper>(alloc: Global, keeper: &mut K, is_older: bool) -> Result<(), OpenRefusal>
+/// As `put_all`.
+#[tactic(auto, using(crate::proofs::Opened::not_asked))]
+fn renew<K: Keeper>(alloc: Global, keeper: &mut K, changes: &ChangeList) -> Result<(), OpenRefusal>
     requires loaded { ∥ K.IsLoaded keeper.old ∥₁ }
-    ensures renewed { OnOk result (HasRenewed K.Tells is_older keeper.old keeper.new) }
+    ensures renewed { OnOk result (HasRenewed K.Tells changes.now keeper.old keeper.new) }
     ensures loaded { ∥ K.IsLoaded keeper.new ∥₁ }
     ensures later { IsLater K.IsSteady K.faults keeper.old keeper.new }
     ensures cause { IfErr result (StopsRenewal K.IsSteady K.faults keeper.old keeper.new) }
 {
-    if !is_older {
+    if changes.is_empty() {
         return Ok(());
     }
-    put_format(alloc, keeper)
+    put_all(alloc, keeper, changes)
 }
 
 impl<K: Keeper> Clerk<K> {
@@ -130,8 +135,8 @@ impl<K: Keeper> Clerk<K> {
 }
 
 impl<K: Keeper + Drop> Clerk<K> {
-    /// Opens the desk from the rows that the keeper has at this place; an empty desk where it has none. Rows of the format from before there
-    /// were planned approaches are brought to that of today, by one change.
+    /// Opens the desk from the rows that the keeper has at this place; an empty desk where it has none. Rows of an older format are brought
+    /// to that of today, by one list of changes.
     ///
     /// # Errors
     ///
@@ -154,7 +159,7 @@ impl<K: Keeper + Drop> Clerk<K> {
             Ok(opened) => opened,
             Err(why) => return Err(why),
         };
-        match renew(alloc, &mut keeper, opened.is_older) {
+        match renew(alloc, &mut keeper, &opened.renewal) {
             Ok(()) => {
                 let base = opened.office.accepted();
                 Ok(Clerk {

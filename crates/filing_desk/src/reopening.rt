@@ -7,7 +7,7 @@ ghost use Rattle.filing_desk.specs.Marked.{AreMarks, AreMarksTo, HasDay};
 use crate::desk::Desk;
 use crate::office::Office;
 use crate::receipts::Receipts;
-use desk_tables::OpenedDesk;
+use desk_tables::{ChangeList, OpenedDesk};
 use grid_exact::{NoMemory, Steps};
 use oe_findings::Sky;
 use review_marks::MarkBook;
@@ -69,22 +69,24 @@ fn marks_of(alloc: Global, desk: &Desk) -> Result<MarkBook, NoMemory>
 }
 
 impl Desk {
-    /// A desk with the data from its rows.
+    /// A desk with the data from its rows, and the changes that bring these to the format of today.
     ///
     /// # Errors
     ///
     /// `NoMemory` where memory was refused.
-    pub(crate) fn of(alloc: Global, opened: OpenedDesk) -> Result<Desk, NoMemory>
+    pub(crate) fn of(alloc: Global, opened: OpenedDesk) -> Result<(Desk, ChangeList), NoMemory>
         requires { IsSoundDesk (desk_of opened) }
-        ensures { IfOk result (λ d. d ≡ desk_of opened) }
+        ensures desk { IfOk result (λ d. d.0 ≡ desk_of opened) }
+        ensures renewal { IfOk result (λ d. d.1 ≡ opened.renewal) }
     {
-        Ok(Desk {
+        let desk = Desk {
             sky: Sky::of(alloc, &opened.register)?,
             today: opened.day,
             closed: opened.closed,
             cases: opened.cases,
             receipts: Receipts::of(alloc, opened.entries)?,
-        })
+        };
+        Ok((desk, opened.renewal))
     }
 }
 

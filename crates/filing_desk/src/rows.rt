@@ -3,13 +3,15 @@
 ghost use Rattle.std.specs.Prelude.{◌≡◌, ◌++◌, Some, IfOk, OnOk};
 ghost use Rattle.oe_keeper.specs.Kept.{Kept};
 ghost use Rattle.case_records.specs.declared.case.KeptCase.{KeptCase as SomeCase};
-ghost use Rattle.desk_machine.specs.States.{case_at};
+ghost use Rattle.desk_machine.specs.States.{case_at, issued_case};
 ghost use Rattle.desk_tables.specs.Rows.{is_bare};
 ghost use Rattle.desk_tables.specs.Changes.{case_changes, changes, step_changes, HasRoom};
 
 use crate::desk::Desk;
+use airfields::Filing;
 use case_acts::Step;
 use case_records::{KeptCase, KeptList};
+use case_requests::Submission;
 use desk_machine::Entry;
 use desk_tables::ChangeList;
 use determination_dates::Life;
@@ -90,24 +92,27 @@ impl Desk {
         list.put_filing(alloc, number, &case)
     }
 
-    /// The row change that replaces the life of a case and stores the list of its determination.
+    /// The row change that replaces the life of a case, and stores the structure and the list of its determination.
     fn change_issued(
         &self,
         alloc: Global,
         list: &mut ChangeList,
         number: u32,
+        filing: &Filing,
         life: Life,
         rests_on: &KeptList,
     ) -> Result<(), NoMemory>
-        ensures { OnOk result (list.new ≡ list.old ++ case_changes number (λ
-            (c : SomeCase). record c { life = life; list = Some rests_on.now })
-            (case_at self.now.cases number)) }
+        ensures { OnOk result (list.new ≡ list.old ++ case_changes number
+            (issued_case filing.now life rests_on.now) (case_at self.now.cases number)) }
     {
         let Some(case) = self.case(number) else {
             return Ok(());
         };
         let case = KeptCase {
-            submission: case.submission,
+            submission: Submission {
+                filing: *filing,
+                ..case.submission
+            },
             received: case.received,
             form: case.form,
             life,
@@ -130,9 +135,10 @@ impl Desk {
             Step::LifePut { number, life } => self.change_life(alloc, list, *number, *life),
             Step::Issued {
                 number,
+                filing,
                 life,
                 list: rests_on,
-            } => self.change_issued(alloc, list, *number, *life, rests_on),
+            } => self.change_issued(alloc, list, *number, filing, *life, rests_on),
         }
     }
 

@@ -16,6 +16,7 @@ ghost use Rattle.filing_desk.specs.Handed.{IsNew, Keeps};
 
 use crate::desk::Desk;
 use crate::handing::Accepted;
+use airfields::Filing;
 use airport_register::{Amendment, Changed};
 use case_records::{KeptCase, KeptList, Refusal};
 use determination_dates::Life;
@@ -172,10 +173,10 @@ impl Desk {
         self.cases[place].life = life;
     }
 
-    /// Replaces the life of a case and stores the list of its determination, where the case exists.
-    pub(crate) fn issue(&mut self, number: u32, life: Life, list: KeptList)
+    /// Replaces the life of a case, and stores the structure and the list of its determination, where the case exists.
+    pub(crate) fn issue(&mut self, number: u32, filing: &Filing, life: Life, list: KeptList)
         requires kept { IfSome life.determination IsKept }
-        ensures { self.new ≡ state_after_step (steps.Issued number life list) self.old }
+        ensures { self.new ≡ state_after_step (steps.Issued number filing.now life list) self.old }
     {
         if number == 0 {
             return;
@@ -185,6 +186,7 @@ impl Desk {
             return;
         }
         let case = &mut self.cases[place];
+        case.submission.filing = *filing;
         case.life = life;
         case.list = Some(list);
     }

@@ -41,6 +41,8 @@ refused refusals.NoDay = refl
 refused refusals.KeeperFault = refl
 refused refusals.NoMemory = refl
 refused refusals.NoFormDue = refl
+refused refusals.SameFacts = refl
+refused refusals.TooManyRevisions = refl
 
 pub reply_has : (reply : Reply) → status_of (reply_text reply) ≡ reply_status reply
 reply_has (replies.Refused why) = refused why

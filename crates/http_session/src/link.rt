@@ -12,7 +12,7 @@ ghost use Rattle.http_messages.specs.Responses.{response_text};
 ghost use Rattle.http_messages.specs.Statuses.{HasStatus};
 ghost use Rattle.http_messages.specs.declared.request.Incoming.TheVariants as incoming;
 ghost use Rattle.http_messages.specs.declared.status.TheConstants.{NO_MEMORY};
-ghost use Rattle.line_session.specs.Session.{HasCauses};
+ghost use Rattle.line_session.specs.Session.{Completes, HasCauses};
 ghost use Rattle.http_session.specs.Machine.{Reply, reply_text, refusal_text};
 ghost use Rattle.http_session.specs.Endings.{EndsSo, Finishes, GivesUp, Goes, IsRequest, RefusesSo, Stops, WroteFront};
 
@@ -437,6 +437,9 @@ pub fn session<A: Replying, L: TwoWay>(alloc: Global, desk: &mut A, link: &mut L
     ensures causes { HasCauses result (L.Source.left link.old) (L.Source.left link.new)
         (L.Source.faults link.old) (L.Source.faults link.new) (L.Sink.faults link.old)
         (L.Sink.faults link.new) }
+    // Where neither end failed, the session ended with its requests, at what it refuses, at the limit of the input, or out of memory.
+    ensures complete { Completes result (L.Source.faults link.old) (L.Source.faults link.new)
+        (L.Sink.faults link.old) (L.Sink.faults link.new) }
 {
     let mut held = Held::new(alloc);
     let mut waiting = Vec::new(alloc);

@@ -1,15 +1,13 @@
-//! Tests of streams, sessions over lines, and HTTP, with streams that fail.
+//! Tests of sessions over lines and over HTTP with streams that fail, and of workers, over links in memory and on loopback.
 #![tactic(auto)]
 
 #[cfg(test)]
-mod front_tests;
-#[cfg(test)]
-mod head_tests;
+mod echo;
 #[cfg(test)]
 mod line_tests;
 #[cfg(test)]
-mod message_tests;
+mod loopback_tests;
 #[cfg(test)]
 mod session_tests;
 #[cfg(test)]
-mod stream_tests;
+mod worker_tests;

@@ -69,70 +69,6 @@ const A: &[u8] = b"GET /a HTTP/1.1\r\n\r\n";
 
 const A_TOLD: &str = "HTTP/1.1 200 OK\r\nContent-Type: text/plain\r\nContent-Length: 2\r\n\r\n/a";
 
-#[test]
-fn requests_are_replied_to_in_order_until_the_session_ends(rt: HostRuntime) -> Result<(), Fail> {
-    let alloc = rt.alloc();
-    // what comes behind the first request, how much in one read, the read and the write that fail (none: 0), how the session ends,
-    // and what is written behind the first response
-    let table = [
-        (b"".as_slice(), 1, 0, 0, Ended::Closed, ""),
-        (
-            b"\r\nPOST /b HTTP/1.1\r\ncontent-length: 3\r\n\r\nabc".as_slice(),
-            4096,
-            0,
-            0,
-            Ended::Closed,
-            "HTTP/1.1 200 OK\r\nContent-Type: text/plain\r\nContent-Length: 5\r\n\r\n/babc",
-        ),
-        (
-            b"POST /b HTTP/1.1\r\ncontent-length: 3\r\n\r\nab".as_slice(),
-            7,
-            0,
-            0,
-            Ended::Truncated,
-            "",
-        ),
-        (
-            b"GET /b HTTP/1.1\r\n\r\n".as_slice(),
-            19,
-            2,
-            0,
-            Ended::ReadFault,
-            "",
-        ),
-        (
-            b"GET /b HTTP/1.1\r\n\r\n".as_slice(),
-            19,
-            0,
-            2,
-            Ended::WriteFault,
-            "",
-        ),
-        // want of memory is told, and the session ends
-        (
-            b"POST /b HTTP/1.1\r\ncontent-length: 1\r\n\r\n\xffGET /c HTTP/1.1\r\n\r\n".as_slice(),
-            4096,
-            0,
-            0,
-            Ended::NoMemory,
-            "HTTP/1.1 507 Insufficient Storage\r\nContent-Type: text/plain\r\nContent-Length: 0\r\nConnection: close\r\n\r\n",
-        ),
-    ];
-    for (more, most, read, write, ended, told) in table {
-        let mut bytes = A.to_vec(alloc)?;
-        bytes.extend_from_slice(more)?;
-        let source = FakeSource::new(Bytes::from_vec(bytes), most.max(1), vec![in alloc; read]?);
-        let mut link = FakeLink::new(source, FakeSink::new(alloc, 1000, vec![in alloc; write]?)?);
-        assert_eq!(rt;
-            echo_all(alloc, &mut Echo { requests: 0 }, &mut link),
-            ended
-        );
-        let wanted = format!(in alloc; "{A_TOLD}{told}")?;
-        assert_eq!(rt; link.sink().bytes(), wanted.as_bytes());
-    }
-    Ok(())
-}
-
 /// A text so many times.
 fn times(alloc: Global, text: &[u8], count: u8) -> Result<Vec<u8>, Fail> {
     let mut all = Vec::new(alloc);
@@ -143,21 +79,104 @@ fn times(alloc: Global, text: &[u8], count: u8) -> Result<Vec<u8>, Fail> {
 }
 
 #[test]
-fn responses_are_gathered_and_written_before_a_read(rt: HostRuntime) -> Result<(), Fail> {
+fn requests_are_replied_to_in_order_until_the_session_ends(rt: HostRuntime) -> Result<(), Fail> {
     let alloc = rt.alloc();
-    // how many requests come whole in the first read, what comes behind them, the read and the write that fail (none: 0), how the session
-    // ends, and how many responses are written
+    // how many requests come first, what comes behind them, how much in one read, the read and the write that fail (none: 0), how the session
+    // ends, how many responses are written first, and what is written behind them
     let table = [
-        // there is no second write
-        (3, b"".as_slice(), 0, 2, Ended::Closed, 3),
+        (1, b"".as_slice(), 1, 0, 0, Ended::Closed, 1, ""),
+        (
+            1,
+            b"\r\nPOST /b HTTP/1.1\r\ncontent-length: 3\r\n\r\nabc".as_slice(),
+            4096,
+            0,
+            0,
+            Ended::Closed,
+            1,
+            "HTTP/1.1 200 OK\r\nContent-Type: text/plain\r\nContent-Length: 5\r\n\r\n/babc",
+        ),
+        (
+            1,
+            b"POST /b HTTP/1.1\r\ncontent-length: 3\r\n\r\nab".as_slice(),
+            7,
+            0,
+            0,
+            Ended::Truncated,
+            1,
+            "",
+        ),
+        (1, A, 19, 2, 0, Ended::ReadFault, 1, ""),
+        (1, A, 19, 0, 2, Ended::WriteFault, 1, ""),
+        // want of memory is told, and the session ends
+        (
+            1,
+            b"POST /b HTTP/1.1\r\ncontent-length: 1\r\n\r\n\xffGET /c HTTP/1.1\r\n\r\n".as_slice(),
+            4096,
+            0,
+            0,
+            Ended::NoMemory,
+            1,
+            "HTTP/1.1 507 Insufficient Storage\r\nContent-Type: text/plain\r\nContent-Length: 0\r\nConnection: close\r\n\r\n",
+        ),
+        // responses are gathered: there is no second write
+        (3, b"".as_slice(), 4096, 0, 2, Ended::Closed, 3, ""),
         // the first write comes before the second read
-        (1, b"GET /b HT".as_slice(), 2, 1, Ended::WriteFault, 0),
-        (1, b"GET /b HT".as_slice(), 2, 0, Ended::ReadFault, 1),
+        (
+            1,
+            b"GET /b HT".as_slice(),
+            4096,
+            2,
+            1,
+            Ended::WriteFault,
+            0,
+            "",
+        ),
+        (
+            1,
+            b"GET /b HT".as_slice(),
+            4096,
+            2,
+            0,
+            Ended::ReadFault,
+            1,
+            "",
+        ),
     ];
-    for (whole, part, read, write, ended, told) in table {
-        let mut bytes = times(alloc, A, whole)?;
-        bytes.extend_from_slice(part)?;
-        let source = FakeSource::new(Bytes::from_vec(bytes), 4096, vec![in alloc; read]?);
+    for (first, more, most, read, write, ended, responses, told) in table {
+        let mut bytes = times(alloc, A, first)?;
+        bytes.extend_from_slice(more)?;
+        let source = FakeSource::new(Bytes::from_vec(bytes), most.max(1), vec![in alloc; read]?);
+        let mut link = FakeLink::new(source, FakeSink::new(alloc, 1000, vec![in alloc; write]?)?);
+        assert_eq!(rt;
+            echo_all(alloc, &mut Echo { requests: 0 }, &mut link),
+            ended
+        );
+        let mut wanted = times(alloc, A_TOLD.as_bytes(), responses)?;
+        wanted.extend_from_slice(told.as_bytes())?;
+        assert_eq!(rt; link.sink().bytes(), wanted.as_slice());
+    }
+    Ok(())
+}
+
+/// Three requests come byte by byte: each of their bytes is a read, one more finds the end, and each response is a write.
+#[test]
+fn a_link_that_fails_at_each_call(rt: HostRuntime) -> Result<(), Fail> {
+    let alloc = rt.alloc();
+    // the read that fails, the write that fails (none: 0), how the session ends, and how many responses are written
+    let mut table = Vec::new(alloc);
+    let mut call: u64 = 0;
+    for told in 0..3u8 {
+        table.push((0, u64::from(told) + 1, Ended::WriteFault, told))?;
+        for _ in A {
+            call = call.saturating_add(1);
+            table.push((call, 0, Ended::ReadFault, told))?;
+        }
+    }
+    table.push((call.saturating_add(1), 0, Ended::ReadFault, 3))?;
+    table.push((call.saturating_add(2), 4, Ended::Closed, 3))?;
+    for (read, write, ended, told) in table {
+        let bytes = Bytes::from_vec(times(alloc, A, 3)?);
+        let source = FakeSource::new(bytes, 1, vec![in alloc; read]?);
         let mut link = FakeLink::new(source, FakeSink::new(alloc, 1000, vec![in alloc; write]?)?);
         assert_eq!(rt;
             echo_all(alloc, &mut Echo { requests: 0 }, &mut link),

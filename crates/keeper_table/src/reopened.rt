@@ -1,6 +1,6 @@
 //! The first load of a store that was just opened.
 
-ghost use Rattle.std.specs.Prelude.{◌≡◌, ◌≤◌, false, IsTrue, IfOk, IfSome, OnOk};
+ghost use Rattle.std.specs.Prelude.{◌≡◌, ◌≤◌, false, IsTrue, IfOk, OnOk};
 ghost use Rattle.std.specs.FinMap as maps;
 ghost use Rattle.sqlite.specs.Effect.{IsDatabase};
 ghost use Rattle.sqlite.specs.Held.{state};
@@ -19,24 +19,28 @@ use sqlite_trees::store::Store;
 use std::alloc::Global;
 
 /// Opens the same store once more, which shows that its rowids rise.
-fn opened_again<S: Alter + Drop>(alloc: Global, conn: Connection<S>) -> Option<Connection<S>>
-    ensures shaped { IfSome result (λ c. HasCleanDisk (state S.Store c)
+///
+/// # Errors
+///
+/// `Refused` where the store refuses, `NotReady` where it is broken, `NoMemory` where memory ran out.
+fn opened_again<S: Alter + Drop>(alloc: Global, conn: Connection<S>) -> Result<Connection<S>, Stop>
+    ensures shaped { IfOk result (λ c. HasCleanDisk (state S.Store c)
         → (state S.Store c).now.schema ≡ kept_schema
         → IsShaped Table ((state S.Store c).now.trees 0)) }
-    ensures same { IfSome result (λ c. HasCleanDisk (state S.Store c)
+    ensures same { IfOk result (λ c. HasCleanDisk (state S.Store c)
         → ((state S.Store c).now.trees ≡ (state S.Store conn).committed.trees)
         × IsDatabase (state S.Store c).now) }
-    ensures clean { IfSome result (λ c. doubt (state S.Store conn).is_clean ≤ doubt
+    ensures clean { IfOk result (λ c. doubt (state S.Store conn).is_clean ≤ doubt
         (state S.Store c).is_clean) }
 {
     let mut store = conn.into_store();
     store.rollback();
     if store.is_broken() {
-        return None;
+        return Err(Stop::NotReady);
     }
     match Connection::over(alloc, store) {
-        Ok(conn) => Some(conn),
-        Err(_) => None,
+        Ok(conn) => Ok(conn),
+        Err((error, _)) => Err(error.into()),
     }
 }
 
@@ -117,9 +121,7 @@ pub fn load_opened<S: Alter + Drop>(alloc: Global, conn: Connection<S>) -> Resul
         });
     }
     create(&mut conn)?;
-    let Some(mut conn) = opened_again(alloc, conn) else {
-        return Err(Stop::NotReady);
-    };
+    let mut conn = opened_again(alloc, conn)?;
     let (tables, is_told) = load_shaped(alloc, &mut conn)?;
     Ok(Opened {
         conn,

@@ -14,10 +14,10 @@ use Rattle.filing_desk.specs.declared.answer.Answer.TheVariants as answers
 use Rattle.line_desk.specs.Desk.{Tells, Decided, NoRoom, NotKept, change_reply, serving}
 
 -- the ways in which a request is refused
-abbrev Ways : Refusal → Type 0
+abbrev pub Ways : Refusal → Type 0
 Ways why = (why ≡ refusals.NoMemory) ⊎ (why ≡ refusals.KeeperFault) ⊎ ((why ≢ refusals.NoMemory) × (why ≢ refusals.KeeperFault))
 
-ways : (why : Refusal) → Ways why
+pub ways : (why : Refusal) → Ways why
 ways refusals.NoMemory = inl refl
 ways refusals.PrecisionOnUtility = inr (inr (λ e. cc (e), λ e. cc (e)))
 ways refusals.UnknownAirfield = inr (inr (λ e. cc (e), λ e. cc (e)))
@@ -49,6 +49,8 @@ ways (refusals.KeyReused n) = inr (inr (λ e. cc (e), λ e. cc (e)))
 ways refusals.NoDay = inr (inr (λ e. cc (e), λ e. cc (e)))
 ways refusals.KeeperFault = inr (inl refl)
 ways refusals.NoFormDue = inr (inr (λ e. cc (e), λ e. cc (e)))
+ways refusals.SameFacts = inr (inr (λ e. cc (e), λ e. cc (e)))
+ways refusals.TooManyRevisions = inr (inr (λ e. cc (e), λ e. cc (e)))
 
 module _ {K : Type 0} (IsSteady : K → Type 0) (faults : K → ℕ) (k l : Clerking K) (q : Asked) where
   refused : (why : Refusal) (old new : List ℕ) → Ways why → Advances (decision k.state q) k l (answers.Refused why)

@@ -3,3 +3,4 @@ pub mod QueryFacts
 pub mod StepFacts
 pub mod SeenFacts
 pub mod PlainFacts
+pub mod CompleteFacts

@@ -1,11 +1,12 @@
 -- What a session leaves, by how it ended.
-use Rattle.std.proofs.Common.{◌≡◌, ◌≢◌, ◌⊎◌, inl, inr, ℕ, List, Option}
+use Rattle.std.proofs.Common.{arith, ◌≡◌, ◌≢◌, ◌≤◌, ◌⊎◌, inl, inr, refl, ℕ, List, Option}
+use Rattle.oe_http.specs.Causes.{Rose}
 use Rattle.oe_http.specs.Lines.{TakesPart}
 use Rattle.oe_http.specs.Pending.{Pending, unread_bytes}
 use Rattle.oe_http.specs.declared.lines.ReadError.{ReadError}
 use Rattle.oe_http.specs.declared.lines.ReadError.TheVariants as errors
 use Rattle.line_session.specs.Machine.{Step}
-use Rattle.line_session.specs.Session.{WritesWhole}
+use Rattle.line_session.specs.Session.{Completes, WritesWhole}
 use Rattle.line_session.specs.Replies.{EndsRead, ending_of}
 use Rattle.line_session.specs.declared.session.Ended.{Ended}
 use Rattle.line_session.specs.declared.session.Ended.TheVariants as endings
@@ -55,3 +56,35 @@ written_end step a b after x y left h k m p ended u e other = record {
   whole = λ w. absurd (not_whole ended other w);
   memory = λ n. absurd (not_memory ended other n);
 }
+
+-- ---- over streams that did not fail
+
+-- a count that rose later has risen
+pub rose_since : (a b n : ℕ) → a ≤ b → Rose b n → Rose a n
+rose_since a b n l rose = omega (arith, l, rose)
+
+-- a session ends by a fault only where a count rose
+pub completes : (ended : Ended) (r0 r1 w0 w1 : ℕ) → (ended ≡ endings.ReadFault → Rose r0 r1) → (ended ≡ endings.WriteFault → Rose w0 w1) → Completes ended r0 r1 w0 w1
+completes endings.Closed r0 r1 w0 w1 read write = record { unharmed = λ calm. tt }
+completes endings.Truncated r0 r1 w0 w1 read write = record { unharmed = λ calm. tt }
+completes (endings.Refused status) r0 r1 w0 w1 read write = record { unharmed = λ calm. tt }
+completes endings.ReadFault r0 r1 w0 w1 read write = record { unharmed = λ calm. calm.read (read refl) }
+completes endings.WriteFault r0 r1 w0 w1 read write = record { unharmed = λ calm. calm.write (write refl) }
+completes endings.Long r0 r1 w0 w1 read write = record { unharmed = λ calm. tt }
+completes endings.NoMemory r0 r1 w0 w1 read write = record { unharmed = λ calm. tt }
+
+pub not_read : (ended : Ended) → (ended ≡ endings.Closed) ⊎ (ended ≡ endings.WriteFault) → ended ≡ endings.ReadFault → ⊥
+not_read ended (inl p) r = cc
+not_read ended (inr p) r = cc
+
+pub failed_read : (e : ReadError) (ended : Ended) → (ended ≡ ending_of e) ⊎ (ended ≡ endings.WriteFault) → ended ≡ endings.ReadFault → e ≡ errors.Failed
+failed_read errors.Failed ended other r = refl
+failed_read errors.InputLong ended (inl p) r = absurd (cc)
+failed_read errors.InputLong ended (inr p) r = absurd (cc)
+failed_read errors.NoMemory ended (inl p) r = absurd (cc)
+failed_read errors.NoMemory ended (inr p) r = absurd (cc)
+
+pub no_write : (e : ReadError) → ending_of e ≢ endings.WriteFault
+no_write errors.Failed f = cc
+no_write errors.InputLong f = cc
+no_write errors.NoMemory f = cc

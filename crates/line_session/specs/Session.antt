@@ -76,3 +76,22 @@ IsOfLines endings.ReadFault = Unit {0}
 IsOfLines endings.WriteFault = Unit {0}
 IsOfLines endings.Long = Unit {0}
 IsOfLines endings.NoMemory = Unit {0}
+
+-- neither count of faults rose, or stands at the end of its type
+pub record Unfailed (read_old read_new write_old write_new : ℕ) : Type 0 where
+  pub read : Rose read_old read_new → ⊥
+  pub write : Rose write_old write_new → ⊥
+
+-- the ways in which a session ends over streams that do not fail
+abbrev pub IsUnharmed : Ended → Type 0
+IsUnharmed endings.Closed = Unit {0}
+IsUnharmed endings.Truncated = Unit {0}
+IsUnharmed (endings.Refused status) = Unit {0}
+IsUnharmed endings.ReadFault = ⊥
+IsUnharmed endings.WriteFault = ⊥
+IsUnharmed endings.Long = Unit {0}
+IsUnharmed endings.NoMemory = Unit {0}
+
+-- where neither stream failed, the session ended with its input, or at what it refuses, or at the limit of its input, or out of memory
+pub record Completes (ended : Ended) (read_old read_new write_old write_new : ℕ) : Type 0 where
+  pub unharmed : Unfailed read_old read_new write_old write_new → IsUnharmed ended

@@ -5,7 +5,7 @@ ghost use Rattle.oe_http.specs.Lines.{HasFeed};
 ghost use Rattle.oe_http.specs.Causes.{Rose, HasCause};
 ghost use Rattle.oe_http.specs.Written.{Sent};
 ghost use Rattle.oe_http.specs.Pending.{unread_bytes, most_left, Reads};
-ghost use Rattle.line_session.specs.Session.{Answered, Begun, HasCauses, IsOfLines, WritesWhole};
+ghost use Rattle.line_session.specs.Session.{Answered, Begun, Completes, HasCauses, IsOfLines, WritesWhole};
 ghost use Rattle.line_session.specs.Replies.{ending_of, Replies};
 
 use crate::Answering;
@@ -141,6 +141,9 @@ pub fn records<A: Answering, S: Source, O: Sink>(
     ensures lines { IsOfLines result }
     ensures causes { HasCauses result (S.left input.old) (S.left input.new) (S.faults input.old)
         (S.faults input.new) (O.faults output.old) (O.faults output.new) }
+    // Where neither stream failed, the input was read to its end or up to its limit, or memory ran out.
+    ensures complete { Completes result (S.faults input.old) (S.faults input.new)
+        (O.faults output.old) (O.faults output.new) }
 {
     let mut reader = LineReader::new();
     let mut line = Vec::new(alloc);

@@ -4,3 +4,4 @@ pub mod RunFacts
 pub mod LinkFacts
 pub mod OpenFacts
 pub mod UnkeptFacts
+pub mod CompleteFacts

@@ -116,3 +116,7 @@ module _ (law : (s : State) → Opens maps.empty s → s ≡ empty) (service : S
 pub unkept_no_bad : (words : List (List ℕ)) (keeper : NoKeeper) (t : Table) (k : List ℕ)
     → ((path : Option (List ℕ)) × AskToOpen words path × ((rows : Kept) × unkept.ghosts.Finds keeper path rows × IsFirstBad rows (place t, k))) → ⊥
 unkept_no_bad words keeper t k (path, said, (rows, found, bad)) = none_bad rows (place t, k) (ap maps.len found ∙ maps.len-empty key_cmp (List ℕ)) bad
+
+-- of no rows none is bad
+pub unkept_good : (rows : Kept) (k : Key) → rows ≡ maps.empty → IsFirstBad rows k → ⊥
+unkept_good rows k found bad = none_bad rows k (ap maps.len found ∙ maps.len-empty key_cmp (List ℕ)) bad

@@ -2,7 +2,7 @@
 use Rattle.std.specs.Prelude.{ℕ, List, [], ◌≡◌, ◌⊎◌, Option}
 use Rattle.oe_http.specs.Causes.{Rose}
 use Rattle.oe_http.specs.declared.lines.TheConstants.{INPUT_LIMIT}
-use Rattle.oe_keeper.specs.Kept.{Kept, place}
+use Rattle.oe_keeper.specs.Kept.{Key, Kept, place}
 use Rattle.line_session.specs.Machine.{Step}
 use Rattle.line_session.specs.Session.{Answered, AnsweredFront, AnsweredRead, Begun, ReadToEnd, TookAtLeast}
 use Rattle.desk_tables.specs.Opening.{Opens, IsFirstBad}
@@ -19,6 +19,7 @@ use Rattle.command_words.specs.declared.commands.Service.{Service}
 use Rattle.command_words.specs.declared.commands.Service.TheVariants as services
 use Rattle.desk_service.specs.Services.{Serves}
 use Rattle.desk_service.specs.declared.service.ServiceEnd.{ServiceEnd}
+use Rattle.oe_commands.specs.Commands.{AskToOpen}
 use Rattle.oe_commands.specs.Statuses.{served_status}
 use Rattle.oe_commands.specs.declared.status.Status.{Status}
 use Rattle.oe_commands.specs.declared.status.Status.TheVariants as statuses
@@ -135,3 +136,19 @@ pub record RunCauses (status : Status) (input left : Option (List ℕ)) (read_ol
   pub read : status ≡ statuses.ReadFault → Rose read_old read_new
   pub write : status ≡ statuses.WriteFault → Rose write_old write_new
   pub long : status ≡ statuses.InputLong → TookAtLeast INPUT_LIMIT input left
+
+-- of the rows that a load of the keeper may find, where these words ask for a desk, none is bad or missing
+abbrev pub HasGoodRows : {K : Type 0} → (K → Option (List ℕ) → Kept → Type 0) → K → List (List ℕ) → Type 0
+HasGoodRows Finds keeper words = (path : Option (List ℕ)) (rows : Kept) (k : Key) → AskToOpen words path → Finds keeper path rows → IsFirstBad rows k → ⊥
+
+-- the statuses of a command where nothing outside of the program failed: done, or memory ran out, or the input was taken up to its limit
+abbrev pub IsComplete : Status → Type 0
+IsComplete statuses.Done = Unit {0}
+IsComplete statuses.Usage = ⊥
+IsComplete statuses.ReadFault = ⊥
+IsComplete statuses.WriteFault = ⊥
+IsComplete statuses.KeeperFault = ⊥
+IsComplete (statuses.BadRow table key) = ⊥
+IsComplete statuses.NoMemory = Unit {0}
+IsComplete statuses.InputLong = Unit {0}
+IsComplete statuses.GateFault = ⊥

@@ -4,7 +4,7 @@ ghost use Rattle.std.specs.Prelude.{◌≡◌, ◌≢◌, ◌<◌, ◌≤◌, �
 ghost use Rattle.oe_keeper.specs.Kept.{Kept, place};
 ghost use Rattle.oe_keeper.specs.declared.change.Table.{Table};
 ghost use Rattle.desk_tables.specs.Opening.{IsFirstBad};
-ghost use Rattle.line_session.specs.Session.{Answered, Begun, HasCauses, IsOfLines, WritesWhole};
+ghost use Rattle.line_session.specs.Session.{Answered, Begun, HasCauses, IsOfLines, Unfailed, WritesWhole};
 ghost use Rattle.filing_desk.specs.Handed.{Told};
 ghost use Rattle.line_desk.specs.Desk.{Serving, StepOver, serving};
 ghost use Rattle.desk_machine.specs.States.{last_number};
@@ -12,7 +12,7 @@ ghost use Rattle.site_questions.specs.Questions.{QuestionSession};
 ghost use Rattle.command_words.specs.Commands.{AskFor, AsksToServe, IsCommand, IsGenerate};
 ghost use Rattle.oe_commands.specs.Commands.{AskToOpen, TellsUsage};
 ghost use Rattle.oe_commands.specs.Generating.{GenerateWrites, IsGenerateEnd};
-ghost use Rattle.oe_commands.specs.Runs.{IsSessionEnd, IsUnopened, IsUntouched, PlainRun, RunCauses, RunOver, Served, ServedLinks};
+ghost use Rattle.oe_commands.specs.Runs.{HasGoodRows, IsSessionEnd, IsUnopened, IsUntouched, IsComplete, PlainRun, RunCauses, RunOver, Served, ServedLinks};
 ghost use Rattle.oe_http.specs.Causes.{Rose};
 ghost use Rattle.tree_versions.specs.declared.publisher.TheConstants.{MOST_SEATS};
 ghost use Rattle.link_gates.specs.declared.shift.TheConstants.{TURN_LIMIT};
@@ -244,6 +244,13 @@ pub fn run<R: Threads + Wait + Sync, S: Source, O: Sink, K: Keeper + Drop + Send
     // A fault is reported only where that stream's count of faults rose.
     ensures causes { RunCauses result (S.left input.old) (S.left input.new)
         (S.faults input.old) (S.faults input.new) (O.faults output.old) (O.faults output.new) }
+    // A command over a keeper and a gate that never fail, over good rows, and over streams that did not fail is done, or has taken 2^40 bytes, or
+    // memory ran out.
+    ensures complete { IsCommand words.now → K.IsSteady keeper → G.IsSteady gate.old
+        → HasGoodRows K.Finds keeper words.now
+        → Unfailed (S.faults input.old) (S.faults input.new)
+        (O.faults output.old) (O.faults output.new)
+        → IsComplete result }
 {
     let Ok(command) = words.asks_for() else {
         return Status::NoMemory;

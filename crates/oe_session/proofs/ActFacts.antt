@@ -5,7 +5,7 @@ use Rattle.jiff_core.specs.declared.civil.date.Date.{Date}
 use Rattle.airfields.specs.Sites.{Site}
 use Rattle.airfields.specs.declared.airfield.Airfield.{Airfield}
 use Rattle.determination_dates.specs.declared.determination.Record.{Record}
-use Rattle.determination_dates.specs.Computed.{with_some, timeliness_of, affirmed_record, extended_record, expiry_date, last_date}
+use Rattle.determination_dates.specs.Computed.{with_some, timeliness_of, affirmed_record, extended_record, revised_record, expiry_date, last_date}
 use Rattle.wire_requests.specs.Changes.{Asked}
 use Rattle.case_requests.specs.contracts.act.ActPartialEq.TheImpl as act
 use Rattle.case_requests.specs.declared.act.Act.{Act}
@@ -17,10 +17,11 @@ use Rattle.case_records.specs.declared.case.KeptList.{KeptList}
 use Rattle.case_records.specs.declared.case.KeptCase.{KeptCase}
 use Rattle.case_acts.specs.declared.effect.Effect.{Effect}
 use Rattle.case_acts.specs.declared.effect.Step.{Step}
-use Rattle.case_acts.specs.Effects.{issue_effect, settlement_effect, moved, form_came, abandonment_effect, filing_effect, determination_effect, petition_effect, disposal_effect, extension_effect, license_effect}
-use Rattle.case_acts.specs.Rules.{form_rules, determination_rules, petition_rules, disposal_rules, extension_rules, fcc_rules, abandon_rules}
+use Rattle.case_acts.specs.Effects.{issue_effect, revised_effect, revision_effect, site_with, settlement_effect, moved, form_came, abandonment_effect, filing_effect, determination_effect, petition_effect, disposal_effect, extension_effect, license_effect}
+use Rattle.case_acts.specs.Rules.{form_rules, determination_rules, revision_rules, petition_rules, disposal_rules, extension_rules, fcc_rules, abandon_rules}
 use Rattle.case_acts.specs.Rulings.{by_first}
 use Rattle.case_acts.specs.declared.extension.Extension.{Extension}
+use Rattle.case_acts.specs.declared.revision.Revision.{Revision}
 use Rattle.desk_machine.specs.declared.entry.Entry.{Entry}
 use Rattle.desk_machine.specs.States.{State, state_after_step, entry_of, case_at}
 use Rattle.desk_machine.specs.Evaluations.{Given, evaluation_of, site_of, basis_of}
@@ -86,6 +87,18 @@ determines s number finding e (Some today) (Some c) over h =
     by_rules (Does (acts.Determine number finding) (Some (over (site_of c)))) (slice_get (determination_rules finding (over (site_of c)) today c) 0) _ e
     (λ x k. mapped (Does (acts.Determine number finding) (Some (over (site_of c)))) _ (issue_effect number c (over (site_of c))) x (λ r. record { register = λ s. refl; list = refl }) k) h
 
+revises : (s : State) (a : Act) (number : ℕ) (x : Revision) (e : Effect) (day : Option Date) (v : Option KeptCase) (over : Site → KeptList)
+    → ((r : List Airfield) → register_after_act r a ≡ r)
+    → on_day day (λ today. on_kept v (λ c. on_list (option_map over (option_map (site_with x) v)) (λ kept. by_first (slice_get (revision_rules x kept today c) 0) (revision_effect number x s.closed kept today c)))) ≡ Ok e
+    → Does a (option_map over (option_map (site_with x) v)) e
+revises s a number x e None v over same h = absurd (cc (h))
+revises s a number x e (Some today) None over same h = absurd (cc (h))
+revises s a number x e (Some today) (Some c) over same h =
+    let kept = over (site_with x c) in
+    by_rules (Does a (Some kept)) (slice_get (revision_rules x kept today c) 0) _ e
+    (λ y k. through (Does a (Some kept)) c.life.determination _ y
+    (λ r m. mapped (Does a (Some kept)) _ (revised_effect number c (site_with x c) kept) y (λ q. record { register = λ s. sym (same s.register); list = refl }) m) k) h
+
 pub does : (s : State) (p : ℕ) (given : Option Given) (a : Act) (e : Effect) → ruling_of_act s (basis_of s p given a) a ≡ Ok e → Does a (basis_of s p given a) e
 does s p given (acts.Amend a) e h = come (Does (acts.Amend a) None) _ e (simply _ _ (λ s. refl) refl) h
 does s p given (acts.Day d) e h = by_rules (Does (acts.Day d) None) (slice_get (day_rules s.day d) 0) _ e (λ x k. one (Does (acts.Day d) None) _ x (simply _ _ (λ s. refl) refl) k) h
@@ -113,6 +126,9 @@ does s p given (acts.Extend number months started filing warranted) e h =
     (λ today c k. by_rules P (slice_get (extension_rules x today c) 0) (extension_effect number x c) e
     (λ y m. through P c.life.determination _ y (λ r n. through P (extended_record x.months r) (moved number c) y
     (λ q o. through P (expiry_date q) _ y (λ d t. mapped P (last_date q) _ y (λ l. simply _ _ (λ s. refl) refl) t) o) n) m) k) h
+does s p given (acts.Revise number started ground height finding) e h =
+    revises s (acts.Revise number started ground height finding) number (record { started = started; terrain = ground; height = height; finding = finding }) e s.day (case_at s.cases number)
+    (evaluation_of s p given) (λ r. refl) h
 does s p given (acts.Fcc number completion) e h =
     on_both (Does (acts.Fcc number completion) None) s number _ e
     (λ today c k. by_rules (Does (acts.Fcc number completion) None) (slice_get (fcc_rules today c) 0) (license_effect number completion today c) e

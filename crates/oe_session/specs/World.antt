@@ -111,12 +111,13 @@ AreInOrder [] = Unit {0}
 AreInOrder (Had front ∷ past) = Every (Begins front) past × AreInOrder past
 AreInOrder (Told front ∷ past) = AreInOrder past
 
--- the list that a determination was issued on
+-- the list that a determination was issued or revised on
 abbrev pub recorded_list : Outcome → Option KeptList
 recorded_list (outcomes.Plain plain) = None
 recorded_list (outcomes.Filed number in_time fcc explained) = None
 recorded_list (outcomes.FormCame number late) = None
 recorded_list (outcomes.Determined number decision last issued deadline effective expiry list) = Some (record { last = last; list = list })
+recorded_list (outcomes.Revised number decision last issued deadline effective expiry list) = Some (record { last = last; list = list })
 recorded_list (outcomes.Petitioned number) = None
 recorded_list (outcomes.Disposed number affirmed effective expiry) = None
 recorded_list (outcomes.Extended number expiry last_day) = None
@@ -132,7 +133,7 @@ pub record IsOver (opening : State) (entries : List Entry) (place : ℕ) (evalua
   pub before : kept.last ≤ last_number opening + place
   pub list : kept.list ≡ findings_of (register_after opening.register (take (kept.last - last_number opening) entries)) site
 
--- the entry at a place: where it is a determination, its list is so of the structure that its request evaluates
+-- the entry at a place: where it is a determination or a revision, its list is so of the structure that its request evaluates
 abbrev pub IsJudged : State → List Entry → ℕ → Entry → Type 0
 IsJudged opening entries place e =
     IfSome (recorded_list e.outcome) (IsOver opening entries place (evaluated_site (replay opening (take place entries)) e.change.act))
@@ -141,7 +142,7 @@ abbrev pub AreJudged : State → List Entry → Type 0
 AreJudged opening entries = (place : ℕ) → IfSome (slice_get entries place) (IsJudged opening entries place)
 
 -- there are as many sessions as at the opening; each session's front begins the published entries, and its fronts are in order; the published entries begin the accepted ones; the desk is
--- the replay of these from the opening; and each determination among them has its list
+-- the replay of these from the opening; and each determination and each revision among them has its list
 pub record IsOrderly (opening : State) (count : ℕ) (w : World) : Type 0 where
   pub counted : length w.sessions ≡ count
   pub fronts : Every (λ past. IsPrefix (front_of past) w.published) w.sessions

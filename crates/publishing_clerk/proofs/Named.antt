@@ -51,6 +51,7 @@ named_by law r caller key (acts.Determine number finding) named recorded = named
 named_by law r caller key (acts.Petition number party) named recorded = named
 named_by law r caller key (acts.Dispose number affirm) named recorded = named
 named_by law r caller key (acts.Extend number months started filed warranted) named recorded = named
+named_by law r caller key (acts.Revise number started ground height finding) named recorded = named
 named_by law r caller key (acts.Fcc number completion) named recorded = named
 named_by law r caller key (acts.Abandon number) named recorded = named
 

@@ -80,8 +80,8 @@ impl<K: Keeper + Drop, J: Opening> PublishingClerk<K, J> {
 }
 
 impl<K: Keeper, J: Opening> PublishingClerk<K, J> {
-    /// Decides a changing request on the desk's day. Where a list of the structure of the case was evaluated over a published version, a
-    /// determination is made on it; else on the list over the present airfields. An accepted request is stored before it is answered, and
+    /// Decides a changing request on the desk's day. Where a list of the structure that it evaluates was evaluated over a published version, a
+    /// determination or a revision is made on it; else on the list over the present airfields. An accepted request is stored before it is answered, and
     /// then published. Only for want of memory is it not published; it is then published by a later call.
     ///
     /// # Errors

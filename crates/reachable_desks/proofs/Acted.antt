@@ -4,7 +4,7 @@ use Rattle.std.proofs.lemmas.Grind.{common_steps}
 use Rattle.std.specs.Option.{option_map}
 use Rattle.std.proofs.lemmas.Option.{same_Some, none-some}
 use Rattle.jiff_core.specs.declared.civil.date.Date.{Date}
-use Rattle.airfields.specs.Sites.{Site}
+use Rattle.airfields.specs.Sites.{Site, revised_site}
 use Rattle.airfields.specs.declared.airfield.Airfield.{Airfield}
 use Rattle.airport_register.specs.Registers.{IsRegister}
 use Rattle.oe_findings.specs.List.{findings_of}
@@ -15,9 +15,10 @@ use Rattle.case_records.specs.declared.refusal.Refusal.{Refusal}
 use Rattle.case_records.specs.declared.case.KeptCase.{KeptCase}
 use Rattle.case_records.specs.declared.case.KeptList.{KeptList}
 use Rattle.case_acts.specs.declared.effect.Effect.{Effect}
+use Rattle.case_acts.specs.declared.revision.Revision.{Revision}
 use Rattle.case_acts.specs.Rulings.{ruling}
-use Rattle.case_acts.specs.Rules.{form_rules, determination_rules, petition_rules, disposal_rules, extension_rules, fcc_rules, abandon_rules}
-use Rattle.case_acts.specs.Effects.{filing_effect, form_came, determination_effect, petition_effect, disposal_effect, extension_effect, license_effect, abandonment_effect}
+use Rattle.case_acts.specs.Rules.{form_rules, determination_rules, petition_rules, disposal_rules, extension_rules, revision_rules, fcc_rules, abandon_rules}
+use Rattle.case_acts.specs.Effects.{filing_effect, form_came, determination_effect, petition_effect, disposal_effect, extension_effect, revision_effect, license_effect, abandonment_effect}
 use Rattle.wire_cursor.specs.Groups.{IsValidSite}
 use Rattle.wire_requests.specs.Limits.{IsChangeRecord}
 use Rattle.row_cases.specs.Entries.{IsList}
@@ -32,6 +33,7 @@ use Rattle.reachable_desks.proofs.AmendmentNames.{names_put}
 use Rattle.reachable_desks.proofs.PlainEffects.{IsPlainEffect, life_plain}
 use Rattle.reachable_desks.proofs.CaseActs.{petition_plain, disposal_plain, extension_plain, license_plain, abandonment_plain, asked}
 use Rattle.reachable_desks.proofs.CaseStarts.{file_plain, form_plain, determination_plain}
+use Rattle.reachable_desks.proofs.Revisions.{facts_valid, revision_plain}
 use Rattle.reachable_desks.proofs.NewCases.{case_found}
 
 -- the law of lists of findings
@@ -48,11 +50,12 @@ plain_at s number c h at = (case_found (IsCaseOf (length s.entries)) s.cases num
 ruled_some : (broken : List Refusal) (o : Option Effect) (e : Effect) → ruling broken o ≡ Ok e → o ≡ Some e
 ruled_some broken o e is = (came (slice_get broken 0) o e is).some
 
-list_shown : (s : State) (p : ℕ) (given : Option Given) (o : Option KeptCase) (c : KeptCase) (act : KeptList → Result Effect Refusal) (e : Effect) (P : Type 0) → o ≡ Some c
-    → (act (evaluation_of s p given c.submission.filing) ≡ Ok e → P)
-    → on_list (option_map (evaluation_of s p given) (option_map site_of o)) act ≡ Ok e → P
-list_shown s p given None c act e P at f is = absurd (none-some c at)
-list_shown s p given (Some d) c act e P at f is = f (ap act (ap (λ (x : KeptCase). evaluation_of s p given x.submission.filing) (sym (same_Some d c at))) ∙ is)
+-- the list of the structure that is evaluated
+list_shown : (s : State) (p : ℕ) (given : Option Given) (site : KeptCase → Site) (o : Option KeptCase) (c : KeptCase) (act : KeptList → Result Effect Refusal) (e : Effect) (P : Type 0) → o ≡ Some c
+    → (act (evaluation_of s p given (site c)) ≡ Ok e → P)
+    → on_list (option_map (evaluation_of s p given) (option_map site o)) act ≡ Ok e → P
+list_shown s p given site None c act e P at f is = absurd (none-some c at)
+list_shown s p given site (Some d) c act e P at f is = f (ap act (ap (λ (x : KeptCase). evaluation_of s p given (site x)) (sym (same_Some d c at))) ∙ is)
 
 -- a list that rows can tell, of a version that is not above the last entry
 record IsPlainList (entries : ℕ) (kept : KeptList) : Type 0 where
@@ -105,11 +108,11 @@ acted_plain s p given caller key (acts.Form number) e told h few fits q is =
     (λ today c day at plain k. form_plain s number today c e day plain (same_Some (form_came number today c) e (ruled_some (form_rules c) _ e k))) is
 acted_plain s p given caller key (acts.Determine number finding) e told h few fits q is =
     on_case_plain s (acts.Determine number finding) number _ e h
-    (λ today c day at plain k. list_shown s p given (case_at s.cases number) c _ e (IsPlainEffect s (acts.Determine number finding) e) at
+    (λ today c day at plain k. list_shown s p given site_of (case_at s.cases number) c _ e (IsPlainEffect s (acts.Determine number finding) e) at
     (λ m.
     let kept = evaluation_of s p given c.submission.filing in
     let k = evaluated_plain s p given c.submission.filing told h plain.submission.filing few fits in
-    determination_plain s number finding today c kept e day k.last h.counted k.list
+    determination_plain s number finding today c kept e day plain k.last h.counted k.list
     (ruled_some (determination_rules finding kept today c) (determination_effect number finding s.closed kept today c) e m)) k) is
 acted_plain s p given caller key (acts.Petition number party) e told h few fits q is =
     on_case_plain s (acts.Petition number party) number _ e h
@@ -124,6 +127,16 @@ acted_plain s p given caller key (acts.Extend number months started filing warra
     (λ today c day at plain k. life_plain s (acts.Extend number months started filing warranted) number c e at
     (extension_plain number months started filing warranted c e q.valid.1 q.valid.2 plain
     (ruled_some (extension_rules (asked months started filing warranted) today c) (extension_effect number (asked months started filing warranted) c) e k))) is
+acted_plain s p given caller key (acts.Revise number started ground height finding) e told h few fits q is =
+    on_case_plain s (acts.Revise number started ground height finding) number _ e h
+    (λ today c day at plain k. list_shown s p given (λ d. revised_site (site_of d) ground height) (case_at s.cases number) c _ e (IsPlainEffect s (acts.Revise number started ground height finding) e) at
+    (λ m.
+    let x : Revision = record { started = started; terrain = ground; height = height; finding = finding } in
+    let site = revised_site c.submission.filing ground height in
+    let kept = evaluation_of s p given site in
+    let k = evaluated_plain s p given site told h (facts_valid c.submission.filing ground height plain.submission.filing q.valid.1) few fits in
+    let shown = came (slice_get (revision_rules x kept today c) 0) (revision_effect number x s.closed kept today c) e m in
+    revision_plain s number started ground height finding today c kept e day q.valid.1 plain k.last h.counted k.list shown.none shown.some) k) is
 acted_plain s p given caller key (acts.Fcc number completion) e told h few fits q is =
     on_case_plain s (acts.Fcc number completion) number _ e h
     (λ today c day at plain k. life_plain s (acts.Fcc number completion) number c e at

@@ -32,6 +32,7 @@ pending_plain r h = record {
   affirmed = h.affirmed;
   set_expiry = h.set_expiry;
   extensions = h.extensions;
+  revisions = h.revisions;
 }
 
 pub petition_plain : (number : ℕ) (party : Party) (c : KeptCase) (e : Effect) → IsPlainCase c → petition_effect number c ≡ Some e
@@ -51,6 +52,7 @@ affirmed_plain today r day h = record {
   affirmed = day;
   set_expiry = h.set_expiry;
   extensions = h.extensions;
+  revisions = h.revisions;
 }
 
 affirm_plain : (number : ℕ) (affirm : Bool) (c : KeptCase) (s : Record) (e : Effect) → IsPlainRecord s → IsAnyLimited (expiry_date s)
@@ -90,6 +92,7 @@ extended_plain x r day h = record {
   affirmed = h.affirmed;
   set_expiry = day;
   extensions = counted_few r.extensions (nat_lt r.extensions MOST_EXTENSIONS) refl h.extensions;
+  revisions = h.revisions;
 }
 
 abbrev pub asked : ℕ → Bool → Option Date → Bool → Extension
@@ -142,6 +145,7 @@ set_plain d r day h = record {
   affirmed = h.affirmed;
   set_expiry = day;
   extensions = h.extensions;
+  revisions = h.revisions;
 }
 
 by_fcc_limited : (completion : Option Date) (today : Date) → IsAnyLimited completion → IsLimited today → IsLimited (expiry_by_fcc completion today)

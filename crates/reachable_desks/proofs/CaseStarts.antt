@@ -94,10 +94,11 @@ form_plain s number today c e day h is =
 -- ---- a determination
 
 pub determination_plain : (s : State) (number : ℕ) (finding : Option Impact) (today : Date) (c : KeptCase) (kept : KeptList) (e : Effect) → IsLimited today
+    → IsPlainCase c
     → kept.last ≤ length s.entries
     → length s.entries < 2 ^ 64 → IsList kept.list → determination_effect number finding s.closed kept today c ≡ Some e
     → IsPlainEffect s (acts.Determine number finding) e
-determination_plain s number finding today c kept e day last counted told is =
+determination_plain s number finding today c kept e day plain last counted told is =
     let decision = decision_by finding in
     let reviewable = is_reviewable decision c.submission.filing kept.list in
     mapped_shown (issued_record today decision reviewable s.closed) (issue_effect number c kept) e (IsPlainEffect s (acts.Determine number finding) e)
@@ -108,5 +109,5 @@ determination_plain s number finding today c kept e day last counted told is =
     (record {
       led = (refl, few, m.plain.issued, m.plain.deadline, effective_dated r (kept_record r m.plain), expiry_dated r m.expiry, told);
       list = last;
-      step = ((m.plain, record { last = few; list = told }), last);
+      step = ((m.plain, record { last = few; list = told }), last, plain.submission.filing);
     })) is

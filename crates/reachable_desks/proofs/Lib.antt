@@ -15,6 +15,7 @@ pub mod AmendmentNames
 pub mod PlainEffects
 pub mod CaseActs
 pub mod CaseStarts
+pub mod Revisions
 pub mod NewCases
 pub mod NewEntries
 pub mod Acted

@@ -12,6 +12,7 @@ use Rattle.case_records.specs.declared.case.KeptList.{KeptList}
 use Rattle.case_acts.specs.declared.effect.Effect.{Effect}
 use Rattle.case_acts.specs.declared.effect.Step.{Step}
 use Rattle.case_acts.specs.declared.effect.Step.TheVariants as steps
+use Rattle.wire_cursor.specs.Groups.{IsValidSite}
 use Rattle.row_cases.specs.Filings.{IsPlainRecord, IsJudged}
 use Rattle.row_receipts.specs.Kinds.{CanLeadTo}
 use Rattle.reachable_desks.specs.Names.{PutsNames}
@@ -29,7 +30,7 @@ IsPlainStep s (steps.DayClosed d) = IsLimited d
 IsPlainStep s (steps.CaseFiled c) = IsCaseOf (length s.entries) c × (length s.cases + 1 ≤ MOST_CASES) × (s.day ≢ None)
 IsPlainStep s (steps.FormPut number day) = IsLimited day
 IsPlainStep s (steps.LifePut number life) = (c : KeptCase) → case_at s.cases number ≡ Some c → IsJudged life.determination c.list
-IsPlainStep s (steps.Issued number life list) = IsJudged life.determination (Some list) × (list.last ≤ length s.entries)
+IsPlainStep s (steps.Issued number site life list) = IsJudged life.determination (Some list) × (list.last ≤ length s.entries) × IsValidSite site
 
 -- the outcome has no list, or one over the register as it is or as it was
 pub record IsPlainEffect (s : State) (a : Act) (e : Effect) : Type 0 where

@@ -15,7 +15,7 @@ use Rattle.reachable_desks.specs.Desks.{IsCaseOf, IsDesk, IsEntryOf}
 use Rattle.reachable_desks.proofs.SteppedDesks.{RegisterGoesOn}
 use Rattle.desk_tables.specs.Values.{Row, IsRowOf}
 use Rattle.desk_tables.specs.Parts.{Part, Follows, Reads, entries_of, entry_of_row, state_of, with_row}
-use Rattle.desk_tables.specs.Opening.{Opens, ReadsAll, count_of, is_in, is_older, layout_of, renewed, unread_of, with_wanting}
+use Rattle.desk_tables.specs.Opening.{Opens, ReadsAll, count_of, is_first, is_in, layout_of, renewed, unread_of, with_wanting}
 use Rattle.desk_tables.specs.declared.layout.Layout.{Layout}
 use Rattle.desk_tables.specs.declared.value.RowValue.{RowValue}
 use Rattle.desk_tables.specs.declared.value.RowValue.TheVariants.{Airfield as AnAirfield, Runway, Desk, Case, Request}
@@ -116,4 +116,4 @@ read_desk law old kept q reads =
     part_is_desk n q (kept_on old kept (IsDeskPart n) q (keeps_part law kept (layout_of old kept) n) reads (nothing_read kept)) (all_counted old kept q reads)
 
 pub opened_desk : RegisterGoesOn → (s : State) (kept : Kept) → Opens kept s → IsDesk s
-opened_desk law s kept opens = subst IsDesk (sym opens.state) (read_desk law (is_older kept) (with_wanting (renewed kept)) opens.part opens.reads)
+opened_desk law s kept opens = subst IsDesk (sym opens.state) (read_desk law (is_first kept) (with_wanting (renewed kept)) opens.part opens.reads)

@@ -7,15 +7,15 @@ use Rattle.jiff_core.specs.Date.{epoch_day}
 use Rattle.jiff_core.proofs.SignedLemmas.{signed_arith}
 use Rattle.jiff_span.specs.Months.{add_months}
 use Rattle.determination_dates.specs.declared.effects.TheConstants.{EXTENSION_DAYS}
-use Rattle.determination_dates.specs.declared.determination.TheConstants.{EXTENSION_MONTHS, MOST_EXTENSIONS}
+use Rattle.determination_dates.specs.declared.determination.TheConstants.{EXTENSION_MONTHS, MOST_EXTENSIONS, MOST_REVISIONS}
 use Rattle.determination_dates.specs.declared.determination.Decision.{Decision}
 use Rattle.determination_dates.specs.declared.determination.Decision.TheVariants.{NoHazard, Hazard}
 use Rattle.determination_dates.specs.declared.determination.Record.{Record}
 use Rattle.determination_dates.specs.Days.{IsDay, IsLimited, IsExpiryDay}
 use Rattle.determination_dates.specs.Dates.{is_day, date_on, limited_date}
 use Rattle.determination_dates.specs.Effects.{effective_date, expiry_by, expiry_day, last_day, IsKept}
-use Rattle.determination_dates.specs.Computed.{with_some, within_range, in_range, deadline_day, deadline_date, reviewable_record, issued_record, affirmed_record, expiry_date, extended_record, last_date}
-use Rattle.determination_dates.specs.Determinations.{record_affirmed_on, record_extended_to, fresh_record, ordinary_day}
+use Rattle.determination_dates.specs.Computed.{with_some, within_range, in_range, deadline_day, deadline_date, reviewable_record, issued_record, affirmed_record, expiry_date, extended_record, last_date, revised_record}
+use Rattle.determination_dates.specs.Determinations.{record_affirmed_on, record_extended_to, record_revised_as, fresh_record, ordinary_day}
 use Rattle.determination_dates.proofs.DateFacts.{date_there, limited_sound, true_day}
 use Rattle.determination_dates.proofs.EffectFacts.{effective_limited}
 use Rattle.determination_dates.proofs.Years.{can_shift}
@@ -45,7 +45,7 @@ fresh_shown : (today : Date) (decision : Decision) (deadline : Option Date) (ord
 fresh_shown today decision deadline ordinary r day h k is =
     let f = fresh_record today decision deadline ordinary in
     let w = range_shown (expiry_day f) f r is in
-    let plain : IsPlainRecord f = record { issued = day; deadline = h; ordinary = k; affirmed = tt; set_expiry = tt; extensions = omega arith } in
+    let plain : IsPlainRecord f = record { issued = day; deadline = h; ordinary = k; affirmed = tt; set_expiry = tt; extensions = omega arith; revisions = omega arith } in
     subst IsPlainIssue w.0 (record { plain = plain; expiry = w.1 })
 
 pub issued_shown : (today : Date) (decision : Decision) (reviewable : Bool) (closed : List Date) (r : Record) → IsLimited today
@@ -58,6 +58,24 @@ issued_shown today decision true closed r day is =
     with_shown (limited_date from) (λ o. in_range (fresh_record today decision (Some d) o)) r (IsPlainIssue r)
     (λ o at m. fresh_shown today decision (Some d) o r day deadline.0 (limited_sound from o at).0 m) k) is
 issued_shown today decision false closed r day is = fresh_shown today decision None today r day tt day is
+
+-- at a revision, where both counts are within their limits
+pub revised_shown : (today : Date) (decision : Decision) (reviewable : Bool) (closed : List Date) (r s : Record) → IsLimited today
+    → r.extensions ≤ MOST_EXTENSIONS → r.revisions + 1 ≤ MOST_REVISIONS → revised_record today decision reviewable closed r ≡ Some s → IsPlainIssue s
+revised_shown today decision reviewable closed r s day extended counted is =
+    mapped_shown (issued_record today decision reviewable closed) (λ x. record_revised_as x r) s (IsPlainIssue s)
+    (λ x there made.
+    let m = issued_shown today decision reviewable closed x day there in
+    let plain : IsPlainRecord (record_revised_as x r) = record {
+      issued = m.plain.issued;
+      deadline = m.plain.deadline;
+      ordinary = m.plain.ordinary;
+      affirmed = m.plain.affirmed;
+      set_expiry = m.plain.set_expiry;
+      extensions = extended;
+      revisions = counted;
+    } in
+    subst IsPlainIssue made (record { plain = plain; expiry = m.expiry })) is
 
 -- after an affirmation
 pub record IsAffirmed (today : Date) (r s : Record) : Type 0 where

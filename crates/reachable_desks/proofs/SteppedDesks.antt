@@ -5,6 +5,7 @@ use Rattle.std.proofs.lemmas.Option.{none-some, IfSome_then}
 use Rattle.std.proofs.lemmas.List.{length-append}
 use Rattle.std.proofs.lemmas.List.Elements.{All-append, All-cons, All-nil, All-weaker}
 use Rattle.jiff_core.specs.declared.civil.date.Date.{Date}
+use Rattle.airfields.specs.Sites.{Site}
 use Rattle.airfields.specs.declared.airfield.Airfield.{Airfield}
 use Rattle.airport_register.specs.declared.amendment.Amendment.{Amendment}
 use Rattle.airport_register.specs.declared.amendment.AmendRefusal.{AmendRefusal}
@@ -13,16 +14,19 @@ use Rattle.airport_register.specs.Registers.{IsRegister}
 use Rattle.determination_dates.specs.Days.{IsLimited}
 use Rattle.determination_dates.specs.Closed.{AreClosedDays}
 use Rattle.determination_dates.specs.declared.life.Life.{Life}
+use Rattle.case_requests.specs.declared.submission.Submission.{Submission}
 use Rattle.case_records.specs.Refusals.{refused_amendment}
 use Rattle.case_records.specs.declared.case.KeptCase.{KeptCase}
 use Rattle.case_records.specs.declared.case.KeptList.{KeptList}
 use Rattle.case_acts.specs.declared.effect.Step.{Step}
 use Rattle.case_acts.specs.declared.effect.Step.TheVariants as steps
+use Rattle.wire_cursor.specs.Groups.{IsValidSite}
+use Rattle.wire_requests.specs.Limits.{IsValidSubmission}
 use Rattle.row_cases.specs.Filings.{IsJudged}
 use Rattle.reachable_desks.specs.Names.{IsNamed, PutsNames}
 use Rattle.desk_machine.specs.declared.entry.Entry.{Entry}
 use Rattle.desk_machine.specs.declared.entry.TheConstants.{MOST_CASES}
-use Rattle.desk_machine.specs.States.{State, state_after_step, with_entry, with_case, case_at}
+use Rattle.desk_machine.specs.States.{State, state_after_step, with_entry, with_case, with_filing, case_at, issued_case}
 use Rattle.desk_machine.specs.Machine.{register_rule}
 use Rattle.reachable_desks.specs.Desks.{IsDesk, IsCaseOf}
 use Rattle.reachable_desks.proofs.PlainEffects.{IsPlainStep}
@@ -62,9 +66,6 @@ form_on day c = record c { form = Some day }
 abbrev life_on : Life → KeptCase → KeptCase
 life_on life c = record c { life = life }
 
-abbrev issued_on : Life → KeptList → KeptCase → KeptCase
-issued_on life list c = record c { life = life; list = Some list }
-
 form_plain : (entries : ℕ) (day : Date) (c : KeptCase) → IsLimited day → IsCaseOf entries c → IsCaseOf (entries + 1) (form_on day c)
 form_plain entries day c k h = record {
   plain = record { submission = h.plain.submission; received = h.plain.received; form = k; judged = h.plain.judged };
@@ -77,10 +78,13 @@ life_plain entries life c k h = record {
   list = list_below entries c.list h.list;
 }
 
-issued_plain : (entries : ℕ) (life : Life) (list : KeptList) (c : KeptCase) → IsJudged life.determination (Some list) → list.last ≤ entries → IsCaseOf entries c
-    → IsCaseOf (entries + 1) (issued_on life list c)
-issued_plain entries life list c k last h = record {
-  plain = record { submission = h.plain.submission; received = h.plain.received; form = h.plain.form; judged = k };
+with_site : (site : Site) (n : Submission) → IsValidSubmission n → IsValidSite site → IsValidSubmission (with_filing site n)
+with_site site n h valid = record { start = h.start; permit = h.permit; fcc = h.fcc; filing = valid }
+
+issued_plain : (entries : ℕ) (site : Site) (life : Life) (list : KeptList) (c : KeptCase) → IsJudged life.determination (Some list) → list.last ≤ entries → IsValidSite site → IsCaseOf entries c
+    → IsCaseOf (entries + 1) (issued_case site life list c)
+issued_plain entries site life list c k last valid h = record {
+  plain = record { submission = with_site site c.submission h.plain.submission valid; received = h.plain.received; form = h.plain.form; judged = k };
   list = omega (arith, last);
 }
 
@@ -146,8 +150,8 @@ holds_after s (steps.CaseFiled c) law h plain rule = record {
 }
 holds_after s (steps.FormPut number day) law h plain rule = case_put s number (form_on day) h (λ c at k. form_plain (length s.entries) day c plain k)
 holds_after s (steps.LifePut number life) law h plain rule = case_put s number (life_on life) h (λ c at k. life_plain (length s.entries) life c (plain c at) k)
-holds_after s (steps.Issued number life list) law h plain rule =
-    case_put s number (issued_on life list) h (λ c at k. issued_plain (length s.entries) life list c plain.0 plain.1 k)
+holds_after s (steps.Issued number site life list) law h plain rule =
+    case_put s number (issued_case site life list) h (λ c at k. issued_plain (length s.entries) site life list c plain.0 plain.1 plain.2 k)
 
 -- ---- with the entry
 

@@ -52,6 +52,12 @@ case_there cases number l = by (number == 0) refl
 none_past : (cases : List KeptCase) (number : ℕ) → 1 ≤ number → case_at cases number ≡ None → length cases < number
 none_past cases number l none = omega (arith, l, past cases (number - 1) (sym (case_there cases number l) ∙ none))
 
+-- a case with a row has six digits
+pub filing_below : (s : State) (desk : IsDesk s) (number : ℕ) (x : List ℕ) → filing_found s.cases number ≡ Some x → number < 1000000
+filing_below s desk number x row =
+    let found = mapped filing_row (case_at s.cases number) x row in
+    omega (arith, slice_get_within s.cases (number - 1) found.0 (HasPlace.at (has_place s.cases number found.0 found.1)), desk.most)
+
 module _ (s : State) (desk : IsDesk s) (n : ℕ) (b : Layout) (f : Bool) (kept so_far : Kept) (are : AreTables f s kept) (p : Part) (read : HasRead p so_far)
     (part : IsPartOf s n p) (room : length s.entries ≤ n) where
   -- the desk's day was read
@@ -103,15 +109,10 @@ module _ (s : State) (desk : IsDesk s) (n : ℕ) (b : Layout) (f : Bool) (kept s
         part = record { register = part.register; room = part.room; entries = part.entries };
       }
 
-  filing_within : (number : ℕ) (x : List ℕ) → filing_found s.cases number ≡ Some x → number < 1000000
-  filing_within number x row =
-      let found = mapped filing_row (case_at s.cases number) x row in
-      omega (arith, slice_get_within s.cases (number - 1) found.0 (HasPlace.at (has_place s.cases number found.0 found.1)), desk.most)
-
   pub case_comes : (key text : List ℕ) → ComesAt kept so_far ((3, key), text) → ComesIn s n b p ((3, key), text)
   case_comes key text at =
       let name = name_found IsCase case_key (filing_found s.cases) (found_in kept tables.Filing) are.filings key text at.here (number_in key)
-      (λ m h e row. sym (ap number_in e ∙ number_again m (filing_within m text row))) in
+      (λ m h e row. sym (ap number_in e ∙ number_again m (filing_below s desk m text row))) in
       let found = mapped filing_row (case_at s.cases (number_in key)) text name.row_is in
       subst (λ k. ComesIn s n b p ((3, k), text)) (sym name.key_is)
       (case_in (number_in key) text found.0 found.1 found.2 (subst (λ k. ComesAt kept so_far ((3, k), text)) name.key_is at))

@@ -10,6 +10,7 @@ pub mod CaseRows
 pub mod RequestsIn
 pub mod NoneWanting
 pub mod OlderRows
+pub mod AgedRows
 pub mod NotAlone
 pub mod SameDesks
 pub mod OpensAgain

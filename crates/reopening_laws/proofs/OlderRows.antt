@@ -1,6 +1,6 @@
--- The rows of a desk, in the format of today and in the one before.
-use Rattle.std.proofs.Common.{◌≡◌, ◌≢◌, refl, sym, ap, ◌∙◌, subst, ℕ, ◌==◌, List, [], ◌∷◌, ◌++◌, append_assoc, length, Some, Bool, true, false, not, ◌&&◌, cond}
-use Rattle.std.specs.List.{filter}
+-- The row of the format, in tables of today and in those of older formats.
+use Rattle.std.proofs.Common.{◌≡◌, ◌≢◌, refl, sym, ap, ◌∙◌, subst, ℕ, ◌==◌, List, [], ◌∷◌, ◌++◌, append_assoc, length, Some, Bool, true, false, not, ◌&&◌, ◌||◌, cond}
+use Rattle.std.specs.List.{filter, flat_map}
 use Rattle.std.specs.Str.{bytes_eq}
 use Rattle.std.specs.Ordering.{eq_by_cmp}
 use Rattle.std.specs.FinMap as maps
@@ -10,19 +10,18 @@ use Rattle.std.proofs.lemmas.Option.{same_Some}
 use Rattle.std.proofs.lemmas.Slice.Eq.{bytes_eq-Decides}
 use Rattle.row_register.specs.Desk.{desk_row}
 use Rattle.row_register.specs.declared.desk.DeskRow.TheVariants as days
-use Rattle.oe_keeper.specs.Kept.{Key, Kept, key_cmp, key_cmp_total}
+use Rattle.oe_keeper.specs.Kept.{Key, Kept, key_cmp, key_cmp_total, rows_after_changes}
 use Rattle.oe_keeper.specs.declared.change.Table.TheVariants as tables
-use Rattle.oe_keeper.proofs.Keys.{key_cmp-same}
 use Rattle.desk_machine.specs.States.{State}
+use Rattle.desk_tables.specs.Changes.{put_desk}
 use Rattle.desk_tables.specs.Tables.{Format, text_if_shown}
 use Rattle.desk_tables.specs.Rows.{AreRows, is_bare}
 use Rattle.desk_tables.specs.Values.{Row}
-use Rattle.desk_tables.specs.Opening.{count_of, format_key, in_format, is_at, is_older, is_older_row, older_format, renewed}
-use Rattle.desk_tables.proofs.Kepts.{equal, itself, put_elsewhere, put_here}
+use Rattle.desk_tables.specs.Opening.{count_of, first_format, format_key, is_at, is_first, is_older, renewed, renewed_filing, second_format}
 use Rattle.reachable_desks.proofs.RowsInOrder.{ComesAt, comes_at}
-use Rattle.reopening_laws.proofs.NoneWanting.{counted_by, format_there, is_here, rest_counted, some_counted}
+use Rattle.reopening_laws.proofs.NoneWanting.{counted_by, is_here, rest_counted, some_counted}
 
--- ---- tables with the format row of today are not of the older format
+-- ---- tables with another row of the format are not of a format
 
 at_format : (r : Row) → is_at tables.Desk format_key r ≡ true → r.0 ≡ (2, format_key)
 at_format r e =
@@ -35,63 +34,79 @@ out_by : (a b : Bool) → (a ≡ true → b ≡ false) → (a && b) ≡ false
 out_by true b h = h refl
 out_by false b h = refl
 
-none_counted : (kept : Kept) → ((text : List ℕ) → maps.get kept (2, format_key) ≡ Some text → bytes_eq text older_format ≡ false)
-    → (ys xs : List Row) → maps.entries kept ≡ xs ++ ys → length (filter is_older_row ys) ≡ 0
-none_counted kept today [] xs rows = refl
-none_counted kept today (r ∷ ys) xs rows =
-    let at : ComesAt kept (maps.from_entries xs) r = comes_at kept xs ys r rows in
-    let out : is_older_row r ≡ false =
-    out_by (is_at tables.Desk format_key r) (bytes_eq r.1 older_format)
-    (λ e. today r.1 (sym (ap (λ (k : Key). maps.get kept k) (at_format r e)) ∙ at.here)) in
-    ap (λ b. length (cond b (r ∷ filter is_older_row ys) (filter is_older_row ys))) out
-    ∙ none_counted kept today ys (xs ++ r ∷ []) (rows ∙ sym (append_assoc xs (r ∷ []) ys))
+-- whether the text of a format row is that of an older format
+module _ (is_old : List ℕ → Bool) where
+  abbrev pub is_old_row : Row → Bool
+  is_old_row r = is_at tables.Desk format_key r && is_old r.1
 
-today_text : (b : Bool) (text : List ℕ) → text_if_shown b (desk_row days.Format) ≡ Some text → bytes_eq text older_format ≡ false
-today_text true text e = subst (λ (x : List ℕ). bytes_eq x older_format ≡ false) (same_Some (desk_row days.Format) text e) refl
-today_text false text e = absurd (cc (e))
+  pub none_counted : (kept : Kept) → ((text : List ℕ) → maps.get kept (2, format_key) ≡ Some text → is_old text ≡ false)
+      → (ys xs : List Row) → maps.entries kept ≡ xs ++ ys → length (filter is_old_row ys) ≡ 0
+  none_counted kept today [] xs rows = refl
+  none_counted kept today (r ∷ ys) xs rows =
+      let at : ComesAt kept (maps.from_entries xs) r = comes_at kept xs ys r rows in
+      let out : is_old_row r ≡ false =
+      out_by (is_at tables.Desk format_key r) (is_old r.1)
+      (λ e. today r.1 (sym (ap (λ (k : Key). maps.get kept k) (at_format r e)) ∙ at.here)) in
+      ap (λ b. length (cond b (r ∷ filter is_old_row ys) (filter is_old_row ys))) out
+      ∙ none_counted kept today ys (xs ++ r ∷ []) (rows ∙ sym (append_assoc xs (r ∷ []) ys))
+
+  there_by : (text : List ℕ) (r : Row) (es : List Row) (b : Bool) → is_old text ≡ true → eq_by_cmp key_cmp (2, format_key) r.0 ≡ b
+      → cond b (Some r.1) (maps.find key_cmp (2, format_key) es) ≡ Some text
+      → (maps.find key_cmp (2, format_key) es ≡ Some text → length (filter is_old_row es) ≡ 0 → ⊥) → length (filter is_old_row (r ∷ es)) ≡ 0 → ⊥
+  there_by text r es true is e at rest none =
+      let both : is_old_row r ≡ true = ap (λ b. b && is_old r.1) (is_here format_key r e) ∙ ap is_old (same_Some r.1 text at) ∙ is in
+      some_counted (is_old_row r) r (filter is_old_row es) both none
+  there_by text r es false is e at rest none = rest at (rest_counted (is_old_row r) r (filter is_old_row es) none)
+
+  there_counted : (text : List ℕ) (es : List Row) → is_old text ≡ true → maps.find key_cmp (2, format_key) es ≡ Some text → length (filter is_old_row es) ≡ 0 → ⊥
+  there_counted text [] is at none = absurd (cc (at))
+  there_counted text (r ∷ es) is at none = there_by text r es (eq_by_cmp key_cmp (2, format_key) r.0) is refl at (there_counted text es is) none
+
+  -- tables with such a row of the format
+  pub old_there : (kept : Kept) (text : List ℕ) → is_old text ≡ true → maps.get kept (2, format_key) ≡ Some text → not (count_of is_old_row kept == 0) ≡ true
+  old_there kept text is at =
+      ap not
+      (counted_by (count_of is_old_row kept == 0) (count_of is_old_row kept) refl
+      (there_counted text (maps.entries kept) is (sym (maps.get-entries kept (2, format_key)) ∙ at)))
+
+  -- and those with none
+  pub old_absent : (kept : Kept) → ((text : List ℕ) → maps.get kept (2, format_key) ≡ Some text → is_old text ≡ false) → not (count_of is_old_row kept == 0) ≡ false
+  old_absent kept today = ap (λ n. not (n == 0)) (none_counted kept today (maps.entries kept) [] refl)
+
+abbrev is_first_text : List ℕ → Bool
+is_first_text text = bytes_eq text first_format
+
+abbrev is_older_text : List ℕ → Bool
+is_older_text text = bytes_eq text first_format || bytes_eq text second_format
+
+today_text : (is_old : List ℕ → Bool) (b : Bool) (text : List ℕ) → is_old (desk_row days.Format) ≡ false → text_if_shown b (desk_row days.Format) ≡ Some text → is_old text ≡ false
+today_text is_old true text is e = subst (λ (x : List ℕ). is_old x ≡ false) (same_Some (desk_row days.Format) text e) is
+today_text is_old false text is e = absurd (cc (e))
 
 module _ (s : State) (kept : Kept) (rows : AreRows s kept) where
+  not_old : (is_old : List ℕ → Bool) → is_old (desk_row days.Format) ≡ false → not (count_of (is_old_row is_old) kept == 0) ≡ false
+  not_old is_old is = old_absent is_old kept (λ text e. today_text is_old (not (is_bare s)) text is (sym (rows.days.there Format tt) ∙ e))
+
+  pub not_first : is_first kept ≡ false
+  not_first = not_old is_first_text refl
+
   pub not_older : is_older kept ≡ false
-  not_older =
-      ap (λ n. not (n == 0))
-      (none_counted kept (λ text e. today_text (not (is_bare s)) text (sym (rows.days.there Format tt) ∙ e)) (maps.entries kept) [] refl)
+  not_older = not_old is_older_text refl
 
   pub same_renewed : renewed kept ≡ kept
-  same_renewed = ap (λ b. cond b (in_format (desk_row days.Format) kept) kept) not_older
+  same_renewed = ap (λ b. rows_after_changes kept (cond b (put_desk days.Format ∷ flat_map renewed_filing (maps.entries kept)) [])) not_older
 
--- ---- the same tables with the format row from before
+-- ---- tables of an older format
 
-there_by : (r : Row) (es : List Row) (b : Bool) → eq_by_cmp key_cmp (2, format_key) r.0 ≡ b → cond b (Some r.1) (maps.find key_cmp (2, format_key) es) ≡ Some older_format
-    → (maps.find key_cmp (2, format_key) es ≡ Some older_format → length (filter is_older_row es) ≡ 0 → ⊥) → length (filter is_older_row (r ∷ es)) ≡ 0 → ⊥
-there_by r es true e at rest none =
-    let text : r.1 ≡ older_format = same_Some r.1 older_format at in
-    let both : is_older_row r ≡ true = ap (λ b. b && bytes_eq r.1 older_format) (is_here format_key r e) ∙ (bytes_eq-Decides r.1 older_format).1 text in
-    some_counted (is_older_row r) r (filter is_older_row es) both none
-there_by r es false e at rest none = rest at (rest_counted (is_older_row r) r (filter is_older_row es) none)
+pub first_is_first : (aged : Kept) → maps.get aged (2, format_key) ≡ Some first_format → is_first aged ≡ true
+first_is_first aged at = old_there is_first_text aged first_format refl at
 
-there_counted : (es : List Row) → maps.find key_cmp (2, format_key) es ≡ Some older_format → length (filter is_older_row es) ≡ 0 → ⊥
-there_counted [] at none = absurd (cc (at))
-there_counted (r ∷ es) at none = there_by r es (eq_by_cmp key_cmp (2, format_key) r.0) refl at (there_counted es) none
+pub first_is_older : (aged : Kept) → maps.get aged (2, format_key) ≡ Some first_format → is_older aged ≡ true
+first_is_older aged at = old_there is_older_text aged first_format refl at
 
-pub older_of : (kept : Kept) → is_older (in_format older_format kept) ≡ true
-older_of kept =
-    let aged : Kept = in_format older_format kept in
-    let at : maps.find key_cmp (2, format_key) (maps.entries aged) ≡ Some older_format =
-    sym (maps.get-entries aged (2, format_key)) ∙ put_here kept (2, format_key) older_format in
-    ap not (counted_by (count_of is_older_row aged == 0) (count_of is_older_row aged) refl (there_counted (maps.entries aged) at))
+pub second_is_older : (aged : Kept) → maps.get aged (2, format_key) ≡ Some second_format → is_older aged ≡ true
+second_is_older aged at = old_there is_older_text aged second_format refl at
 
--- the row of today, put over that one, leads back
-key_by : (k q : Key) (text other : List ℕ) (kept : Kept) (b : Bool) → eq_by_cmp key_cmp q k ≡ b → maps.get kept k ≡ Some text
-    → maps.get (maps.insert (maps.insert kept k other) k text) q ≡ maps.get kept q
-key_by k q text other kept true e at =
-    let same : q ≡ k = key_cmp-same q k (equal (key_cmp q k) e) in
-    subst (λ (j : Key). maps.get (maps.insert (maps.insert kept k other) k text) j ≡ maps.get kept j) (sym same)
-    (put_here (maps.insert kept k other) k text ∙ sym at)
-key_by k q text other kept false e at =
-    let apart : q ≢ k = λ h. absurd (cc (sym e ∙ ap (λ (j : Key). eq_by_cmp key_cmp j k) h ∙ itself k)) in
-    put_elsewhere (maps.insert kept k other) k q text apart ∙ put_elsewhere kept k q other apart
-
-pub back : (kept : Kept) → maps.get kept (2, format_key) ≡ Some (desk_row days.Format) → in_format (desk_row days.Format) (in_format older_format kept) ≡ kept
-back kept at =
-    maps.same_map key_cmp_total key_cmp-same (in_format (desk_row days.Format) (in_format older_format kept)) kept
-    (λ q. key_by (2, format_key) q (desk_row days.Format) older_format kept (eq_by_cmp key_cmp q (2, format_key)) refl at)
+pub second_not_first : (aged : Kept) → maps.get aged (2, format_key) ≡ Some second_format → is_first aged ≡ false
+second_not_first aged at =
+    old_absent is_first_text aged (λ text e. subst (λ (x : List ℕ). is_first_text x ≡ false) (same_Some second_format text (sym at ∙ e)) refl)

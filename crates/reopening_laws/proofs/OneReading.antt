@@ -6,7 +6,7 @@ use Rattle.oe_keeper.specs.Kept.{Key, Kept}
 use Rattle.desk_machine.specs.States.{State}
 use Rattle.desk_tables.specs.Values.{Row, IsRowOf}
 use Rattle.desk_tables.specs.Parts.{Part, IsNext, Reads, state_of, with_row}
-use Rattle.desk_tables.specs.Opening.{IsFirstBad, Opens, is_older, layout_of, renewed, unread_of, with_wanting}
+use Rattle.desk_tables.specs.Opening.{IsFirstBad, Opens, is_first, layout_of, renewed, unread_of, with_wanting}
 use Rattle.desk_tables.specs.declared.layout.Layout.{Layout}
 use Rattle.desk_tables.proofs.RowFacts.{HaveOneValue, one_value}
 
@@ -30,10 +30,10 @@ module _ (one : HaveOneValue) where
   pub one_desk : (s t : State) (kept : Kept) → Opens kept s → Opens kept t → s ≡ t
   one_desk s t kept h k =
       let rows = with_wanting (renewed kept) in
-      h.state ∙ ap state_of (one_reading (layout_of (is_older kept) rows) (maps.entries rows) (unread_of rows) h.part k.part h.reads k.reads) ∙ sym k.state
+      h.state ∙ ap state_of (one_reading (layout_of (is_first kept) rows) (maps.entries rows) (unread_of rows) h.part k.part h.reads k.reads) ∙ sym k.state
 
   pub no_first_bad : (s : State) (kept : Kept) (k : Key) → Opens kept s → IsFirstBad kept k → ⊥
   no_first_bad s kept k h first =
       let rows = with_wanting (renewed kept) in
       let bad = first.at in
-      none_bad (layout_of (is_older kept) rows) (maps.entries rows) first.place_of (k, bad.text) (unread_of rows) h.part bad.part bad.row bad.reads h.reads bad.bad
+      none_bad (layout_of (is_first kept) rows) (maps.entries rows) first.place_of (k, bad.text) (unread_of rows) h.part bad.part bad.row bad.reads h.reads bad.bad

@@ -1,14 +1,12 @@
 -- The rows of a desk open as that desk.
 use Rattle.std.proofs.Common.{◌≡◌, sym, ap, ◌∙◌, subst, arith, ℕ, zero, suc, List, not, cond, ◌≤◌, length, Bool, true, false}
 use Rattle.std.specs.FinMap as maps
-use Rattle.row_register.specs.Desk.{desk_row}
-use Rattle.row_register.specs.declared.desk.DeskRow.TheVariants as days
 use Rattle.oe_keeper.specs.Kept.{Kept}
 use Rattle.oe_keeper.specs.declared.change.Table.TheVariants as tables
 use Rattle.desk_machine.specs.States.{State}
 use Rattle.desk_tables.specs.Rows.{AreRows, is_bare}
 use Rattle.desk_tables.specs.Parts.{Part, state_of}
-use Rattle.desk_tables.specs.Opening.{Opens, ReadsAll, count_of, in_format, is_in, layout_of, older_format, renewed, unread_of, with_wanting}
+use Rattle.desk_tables.specs.Opening.{Opens, ReadsAll, count_of, first_format, is_first, is_in, layout_of, renewed, second_format, unread_of, with_wanting}
 use Rattle.desk_tables.specs.Planned.{PlansNothing}
 use Rattle.desk_tables.proofs.RowFacts.{HaveOneValue}
 use Rattle.desk_tables.proofs.RowsRead.{these_read}
@@ -17,8 +15,10 @@ use Rattle.reachable_desks.proofs.SteppedDesks.{RegisterGoesOn}
 use Rattle.reopening_laws.proofs.CaseRows.{case_comes}
 use Rattle.reopening_laws.proofs.DayRows.{day_comes}
 use Rattle.reopening_laws.proofs.FieldRows.{field_comes, runway_comes}
-use Rattle.reopening_laws.proofs.NoneWanting.{format_there, none_wanting}
-use Rattle.reopening_laws.proofs.OlderRows.{back, not_older, older_of}
+use Rattle.reopening_laws.proofs.NoneWanting.{none_wanting}
+use Rattle.reopening_laws.specs.Older.{IsAged, RevisesNothing}
+use Rattle.reopening_laws.proofs.AgedRows.{RowsAreRenewed, leads_back}
+use Rattle.reopening_laws.proofs.OlderRows.{first_is_first, first_is_older, not_first, same_renewed, second_is_older, second_not_first}
 use Rattle.reopening_laws.proofs.NotAlone.{not_alone, rows_for_all}
 use Rattle.reopening_laws.proofs.PartsOf.{ComesIn, IsPartOf, PartsGrow, nothing_of}
 use Rattle.reachable_desks.proofs.ReadDesks.{all_counted, read_desk}
@@ -86,30 +86,25 @@ module _ (one : HaveOneValue) (law : RegisterGoesOn) (grow : PartsGrow) (s : Sta
       }
 
 module _ (one : HaveOneValue) (law : RegisterGoesOn) (grow : PartsGrow) (s : State) (kept : Kept) (desk : IsDesk s) (rows : AreRows s kept) where
+  -- tables that the format of today makes its rows open as the desk; where they are of the first format, nothing is planned in it
+  opens_as : (old : Bool) (aged : Kept) → (old ≡ true → PlansNothing s) → is_first aged ≡ old → renewed aged ≡ kept → Opens aged s
+  opens_as old aged plain first same =
+      let r = reading one law grow s kept desk rows old plain in
+      let reads : ReadsAll old (with_wanting (renewed aged)) r.part = subst (λ (m : Kept). ReadsAll old (with_wanting m) r.part) (sym same) r.reads in
+      record { part = r.part; reads = subst (λ b. ReadsAll b (with_wanting (renewed aged)) r.part) (sym first) reads; state = r.state }
+
   pub opens_again : Opens kept s
-  opens_again =
-      let r = reading one law grow s kept desk rows false (λ e. absurd (cc (e))) in
-      record {
-        part = r.part;
-        reads = subst (λ b. ReadsAll b (with_wanting (cond b (in_format (desk_row days.Format) kept) kept)) r.part) (sym (not_older s kept rows)) r.reads;
-        state = r.state;
-      }
+  opens_again = opens_as false kept (λ e. absurd (cc (e))) (not_first s kept rows) (same_renewed s kept rows)
 
-  -- the same tables of the older format, where nothing is planned
-  pub older_opens : is_bare s ≡ false → PlansNothing s → Opens (in_format older_format kept) s
-  older_opens some plain =
-      let r = reading one law grow s kept desk rows true (λ e. plain) in
-      let aged : Kept = in_format older_format kept in
-      let same : in_format (desk_row days.Format) aged ≡ kept = back kept (format_there s kept rows some) in
-      let reads : ReadsAll true (with_wanting (in_format (desk_row days.Format) aged)) r.part =
-      subst (λ (m : Kept). ReadsAll true (with_wanting m) r.part) (sym same) r.reads in
-      record {
-        part = r.part;
-        reads = subst (λ b. ReadsAll b (with_wanting (cond b (in_format (desk_row days.Format) aged) aged)) r.part) (sym (older_of kept)) reads;
-        state = r.state;
-      }
+  module _ (renews : RowsAreRenewed) (aged : Kept) (some : is_bare s ≡ false) (unrevised : RevisesNothing s) where
+    pub first_renewed : IsAged first_format s kept aged → renewed aged ≡ kept
+    first_renewed are = leads_back renews s first_format kept aged desk rows some unrevised are (first_is_older aged are.format)
 
-pub leads_back : (s : State) (kept : Kept) → AreRows s kept → is_bare s ≡ false → renewed (in_format older_format kept) ≡ kept
-leads_back s kept rows some =
-    let aged : Kept = in_format older_format kept in
-    ap (λ b. cond b (in_format (desk_row days.Format) aged) aged) (older_of kept) ∙ back kept (format_there s kept rows some)
+    pub second_renewed : IsAged second_format s kept aged → renewed aged ≡ kept
+    second_renewed are = leads_back renews s second_format kept aged desk rows some unrevised are (second_is_older aged are.format)
+
+    pub first_opens : IsAged first_format s kept aged → PlansNothing s → Opens aged s
+    first_opens are plain = opens_as true aged (λ e. plain) (first_is_first aged are.format) (first_renewed are)
+
+    pub second_opens : IsAged second_format s kept aged → Opens aged s
+    second_opens are = opens_as false aged (λ e. absurd (cc (e))) (second_not_first aged are.format) (second_renewed are)

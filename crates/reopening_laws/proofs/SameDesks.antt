@@ -80,7 +80,7 @@ module _ (one : HaveOneValue) where
     case_of_place cs i = (let place : i + 1 - 1 ≡ i = omega arith in case_there cs (i + 1) (omega arith) ∙ ap (slice_get cs) place)
 
     same_at : (i : ℕ) → slice_get s.cases i ≡ slice_get t.cases i
-    same_at i = elim (cases_lt i 100000) [
+    same_at i = elim (cases_lt i 300000) [
       | inl below ↦ (let is : IsCase (i + 1) = (omega arith, omega (arith, below)) in
           let row : option_map filing_row (case_at s.cases (i + 1)) ≡ option_map filing_row (case_at t.cases (i + 1)) =
           sym (are.filings.there (i + 1) is) ∙ read.filings.there (i + 1) is in

@@ -1,1 +1,2 @@
+pub mod Older
 pub mod Refusals

@@ -1,6 +1,6 @@
-//! Adding cases to the book, and removing them.
+//! Adding cases to the book, putting others in their place, and removing them.
 
-ghost use Rattle.std.specs.Prelude.{◌≡◌, ◌≤◌, ◌+◌, ◌-◌, ℕ, List, false, length, None, OnOk, IfOk, slice_set};
+ghost use Rattle.std.specs.Prelude.{◌≡◌, ◌≤◌, ◌+◌, ◌-◌, ℕ, List, false, is_some, length, None, OnOk, IfOk, slice_set, true};
 ghost use Rattle.airfields.specs.declared.airfield.Airfield.{Airfield as AnAirfield};
 ghost use Rattle.oe_findings.specs.List.{findings_of};
 ghost use Rattle.review_marks.specs.Books.{rows_after_commit, differs, row_at, HasRoom, IsExact, rows_after_close};
@@ -105,6 +105,38 @@ impl MarkBook {
         steps.tick();
         let list = findings(self.alloc, sky, filing)?;
         self.change_to_add(case, filing, stored, differ(stored, &list))
+    }
+
+    /// The change that gives a case of the book another structure and another stored list, those of its revised determination (77.35(a)):
+    /// the case is marked exactly where that list differs from the structure's list over the airfields of `sky`, whatever its mark was. A
+    /// step is one computed list. The book itself is unchanged.
+    ///
+    /// # Errors
+    ///
+    /// `NoMemory` where memory was refused.
+    pub fn revised<L: Ledger>(
+        &mut self,
+        case: u32,
+        filing: &Filing,
+        stored: &Findings,
+        sky: &Sky,
+        steps: &mut Steps<L>,
+    ) -> Result<MarkChange, NoMemory>
+        requires there { is_some (row_at self.old case) ≡ true }
+        ensures same { (n : ℕ) → row_at self.new n ≡ row_at self.old n }
+        ensures room { OnOk result (case ≤ length self.new) }
+        ensures change { IfOk result (λ c. c ≡ changes.Added case
+            (record {
+              filing = filing.now;
+              stored = stored.now;
+              marked = differs stored.now
+                  (findings_of sky.now filing.now);
+            })) }
+        ensures exact { IfOk result (λ c. IsExact sky.now self.old
+            → IsExact sky.now (rows_after_commit c self.new)) }
+        ensures steps { steps.new ≤ steps.old + 1 }
+    {
+        self.added(case, filing, stored, sky, steps)
     }
 
     /// Makes a change that was computed for the present book. It allocates nothing.

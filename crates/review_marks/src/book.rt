@@ -1,6 +1,6 @@
 //! The book of marks.
 
-ghost use Rattle.std.specs.Prelude.{◌≡◌, ◌≤◌, ◌-◌, [], length, None, Some, option_copied, IfOk, option_map, slice_set};
+ghost use Rattle.std.specs.Prelude.{◌≡◌, ◌≤◌, ◌-◌, [], is_some, length, None, Some, option_copied, IfOk, option_map, slice_set};
 ghost use Rattle.review_marks.specs.Books.{row_at, is_marked_in, row_marked_as, marked_cases, rows_after_commit, with_mark, with_marks};
 
 use crate::change::{Mark, MarkChange};
@@ -60,6 +60,13 @@ impl MarkBook {
             Some(Some(row)) => Some(row),
             _ => None,
         }
+    }
+
+    /// Whether the case is in the book.
+    pub fn has(&self, case: u32) -> bool
+        ensures { result ≡ is_some (row_at self.now case) }
+    {
+        self.row(case).is_some()
     }
 
     /// The number of the last case for which there is a row.

@@ -12,7 +12,7 @@ pub struct Mark {
 /// A change of the book, with all memory that it needs already allocated.
 #[derive(Drop)]
 pub enum MarkChange {
-    /// A case is added to the book.
+    /// A case is added to the book, or this row takes the place of its row.
     Added { case: u32, row: Row },
     /// These cases are marked or unmarked; all others are unchanged.
     Marked(Vec<Mark>),

@@ -113,7 +113,7 @@ record_uncut r last h small =
             date_uncut r.ordinary h.ordinary,
             (
               uncut (pending_word r.pending) (pending_short r.pending),
-              (optional_uncut r.affirmed h.affirmed, (optional_uncut r.set_expiry h.set_expiry, (decimal_uncut r.extensions (omega (arith, h.extensions)), tt))),
+              (optional_uncut r.affirmed h.affirmed, (optional_uncut r.set_expiry h.set_expiry, (decimal_uncut r.extensions (omega (arith, h.extensions)), (decimal_uncut r.revisions (omega (arith, h.revisions)), tt)))),
             ),
           ),
         ),
@@ -123,7 +123,7 @@ record_uncut r last h small =
 dash_uncut : All IsUncut (judged_fields None None)
 dash_uncut = each (judged_fields None None) (uncut (codes "-") (short_word (codes "-") (omega arith) (omega arith) refl), tt)
 
-judged_uncut : (r : Option Record) (kept : Option KeptList) → IsJudged r kept → All IsUncut (judged_fields r kept)
+pub judged_uncut : (r : Option Record) (kept : Option KeptList) → IsJudged r kept → All IsUncut (judged_fields r kept)
 judged_uncut None None h = dash_uncut
 judged_uncut None (Some kept) h = absurd h
 judged_uncut (Some r) None h = absurd h
@@ -137,11 +137,14 @@ judged_uncut (Some r) (Some kept) h =
 standing_uncut : (received : Date) (form : Option Date) (end : Option End) → IsLimited received → IsAnyLimited form → All IsUncut (date_text received ∷ optional_date form ∷ end_word end ∷ [])
 standing_uncut received form end h k = each (date_text received ∷ optional_date form ∷ end_word end ∷ []) (date_uncut received h, (optional_uncut form k, (uncut (end_word end) (end_short end), tt)))
 
+pub notice_uncut : (c : KeptCase) → IsPlainCase c → All IsUncut (notice_parts c.submission c.received c.form c.life.end)
+notice_uncut c h =
+    All-append IsUncut (submission_fields c.submission) (date_text c.received ∷ optional_date c.form ∷ end_word c.life.end ∷ []) (submission_uncut c.submission h.submission)
+    (standing_uncut c.received c.form c.life.end h.received h.form)
+
 filing_uncut : (c : KeptCase) → IsPlainCase c → All IsUncut (filing_fields c)
 filing_uncut c h =
-    All-append IsUncut (notice_parts c.submission c.received c.form c.life.end) (judged_fields c.life.determination c.list)
-    (All-append IsUncut (submission_fields c.submission) (date_text c.received ∷ optional_date c.form ∷ end_word c.life.end ∷ []) (submission_uncut c.submission h.submission)
-    (standing_uncut c.received c.form c.life.end h.received h.form))
+    All-append IsUncut (notice_parts c.submission c.received c.form c.life.end) (judged_fields c.life.determination c.list) (notice_uncut c h)
     (judged_uncut c.life.determination c.list h.judged)
 
 -- the parts of the row of a case are its fields

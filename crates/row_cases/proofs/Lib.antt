@@ -10,3 +10,4 @@ mod RowTexts
 mod FilingFacts
 mod OneCase
 mod Choices
+pub mod Renewing

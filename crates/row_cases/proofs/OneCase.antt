@@ -40,8 +40,8 @@ one_submission a b h k e =
     (one_optional a.fcc b.fcc h.fcc k.fcc (at 2 e)) (one_choice urgency_word refl refl a.emergency b.emergency (at 3 e))
     (one_choice statement_word refl refl a.statement b.statement (at 4 e)) (one_site a.filing b.filing h.filing k.filing (ap (drop 5) e))
 
-made_record : Date → Decision → Option Date → Date → Bool → Option Date → Option Date → ℕ → Record
-made_record issued decision deadline ordinary pending affirmed set_expiry extensions = record {
+made_record : Date → Decision → Option Date → Date → Bool → Option Date → Option Date → ℕ → ℕ → Record
+made_record issued decision deadline ordinary pending affirmed set_expiry extensions revisions = record {
   issued = issued;
   decision = decision;
   deadline = deadline;
@@ -50,13 +50,14 @@ made_record issued decision deadline ordinary pending affirmed set_expiry extens
   affirmed = affirmed;
   set_expiry = set_expiry;
   extensions = extensions;
+  revisions = revisions;
 }
 
 same_record : (a b : Record) → a.issued ≡ b.issued → a.decision ≡ b.decision → a.deadline ≡ b.deadline → a.ordinary ≡ b.ordinary → a.pending ≡ b.pending → a.affirmed ≡ b.affirmed
-    → a.set_expiry ≡ b.set_expiry → a.extensions ≡ b.extensions
-    → made_record a.issued a.decision a.deadline a.ordinary a.pending a.affirmed a.set_expiry a.extensions
-    ≡ made_record b.issued b.decision b.deadline b.ordinary b.pending b.affirmed b.set_expiry b.extensions
-same_record a b i d l o p f s x = cc
+    → a.set_expiry ≡ b.set_expiry → a.extensions ≡ b.extensions → a.revisions ≡ b.revisions
+    → made_record a.issued a.decision a.deadline a.ordinary a.pending a.affirmed a.set_expiry a.extensions a.revisions
+    ≡ made_record b.issued b.decision b.deadline b.ordinary b.pending b.affirmed b.set_expiry b.extensions b.revisions
+same_record a b i d l o p f s x v = cc
 
 one_record : (a b : Record) {more others : List (List ℕ)} (m n : ℕ) → IsPlainRecord a → IsPlainRecord b → a.decision ≡ b.decision → record_fields a m ++ more ≡ record_fields b n ++ others → a ≡ b
 unfolding made_record
@@ -65,6 +66,7 @@ one_record a b m n h k d e =
     (one_date a.ordinary b.ordinary h.ordinary k.ordinary (at 3 e)) (one_choice pending_word refl refl a.pending b.pending (at 4 e))
     (one_optional a.affirmed b.affirmed h.affirmed k.affirmed (at 5 e)) (one_optional a.set_expiry b.set_expiry h.set_expiry k.set_expiry (at 6 e))
     (decimal_injective a.extensions b.extensions (omega (arith, h.extensions)) (omega (arith, k.extensions)) (at 7 e))
+    (decimal_injective a.revisions b.revisions (omega (arith, h.revisions)) (omega (arith, k.revisions)) (at 8 e))
 
 made_kept : ℕ → List Finding → KeptList
 made_kept last list = record { last = last; list = list }
@@ -73,7 +75,7 @@ one_kept : (a b : KeptList) (r s : Record) → IsKeptList a → IsKeptList b →
 unfolding made_kept
 one_kept a b r s h k e =
     ap (λ n. made_kept n a.list) (decimal_injective a.last b.last h.last k.last (at 0 e))
-    ∙ ap (made_kept b.last) (one_list a.list b.list (let x = h.list in x.entries) (let x = k.list in x.entries) (ap (drop 9) e))
+    ∙ ap (made_kept b.last) (one_list a.list b.list (let x = h.list in x.entries) (let x = k.list in x.entries) (ap (drop 10) e))
 
 -- a determination and its list
 record AreSame (r s : Option Record) (a b : Option KeptList) : Type 0 where

@@ -22,7 +22,7 @@ abbrev pub issue_fields : Record → ℕ → List (List ℕ)
 issue_fields r last = decision_word r.decision ∷ decimal last ∷ date_text r.issued ∷ optional_date r.deadline ∷ date_text r.ordinary ∷ []
 
 abbrev pub course_fields : Record → List (List ℕ)
-course_fields r = pending_word r.pending ∷ optional_date r.affirmed ∷ optional_date r.set_expiry ∷ decimal r.extensions ∷ []
+course_fields r = pending_word r.pending ∷ optional_date r.affirmed ∷ optional_date r.set_expiry ∷ decimal r.extensions ∷ decimal r.revisions ∷ []
 
 pub determination_text : (r : Record) (kept : KeptList) → with_commas (decision_word r.decision ∷ (record_fields r kept.last ++ list_fields kept.list))
     ≡ (with_commas (issue_fields r kept.last) ++ with_commas (course_fields r)) ++ list_text kept.list

@@ -5,7 +5,7 @@ use Rattle.jiff_core.specs.declared.civil.date.Date.{Date}
 use Rattle.determination_dates.specs.Days.{IsLimited}
 use Rattle.determination_dates.specs.Text.{date_text}
 use Rattle.determination_dates.specs.declared.determination.Record.{Record}
-use Rattle.determination_dates.specs.declared.determination.TheConstants.{MOST_EXTENSIONS}
+use Rattle.determination_dates.specs.declared.determination.TheConstants.{MOST_EXTENSIONS, MOST_REVISIONS}
 use Rattle.determination_dates.specs.declared.life.End.{End}
 use Rattle.determination_dates.specs.declared.life.End.TheVariants as ends
 use Rattle.case_requests.specs.declared.submission.Submission.{Submission}
@@ -32,7 +32,7 @@ pending_word pending = if pending then codes "pending" else codes "-"
 -- a determination after its decision: the number of the last entry of its list's register, its days, and its later fields
 abbrev pub record_fields : Record → ℕ → List (List ℕ)
 record_fields r last = decimal last ∷ date_text r.issued ∷ optional_date r.deadline ∷ date_text r.ordinary ∷ pending_word r.pending
-    ∷ optional_date r.affirmed ∷ optional_date r.set_expiry ∷ decimal r.extensions ∷ []
+    ∷ optional_date r.affirmed ∷ optional_date r.set_expiry ∷ decimal r.extensions ∷ decimal r.revisions ∷ []
 
 -- a determination and its list, or a dash
 abbrev pub judged_fields : Option Record → Option KeptList → List (List ℕ)
@@ -50,7 +50,7 @@ filing_fields c = notice_parts c.submission c.received c.form c.life.end ++ judg
 abbrev pub filing_row : KeptCase → List ℕ
 filing_row c = joined (filing_fields c)
 
--- the dates are within the limit, and the extensions are counted
+-- the dates are within the limit, and the extensions and the revisions are counted
 pub record IsPlainRecord (r : Record) : Type 0 where
   pub issued : IsLimited r.issued
   pub deadline : IsAnyLimited r.deadline
@@ -58,6 +58,7 @@ pub record IsPlainRecord (r : Record) : Type 0 where
   pub affirmed : IsAnyLimited r.affirmed
   pub set_expiry : IsAnyLimited r.set_expiry
   pub extensions : r.extensions ≤ MOST_EXTENSIONS
+  pub revisions : r.revisions ≤ MOST_REVISIONS
 
 -- a list that a row can spell
 pub record IsKeptList (kept : KeptList) : Type 0 where

@@ -3,3 +3,4 @@ pub use Rattle.wire_requests.specs.Limits
 pub mod Cases
 pub mod Entries
 pub mod Filings
+pub mod Older

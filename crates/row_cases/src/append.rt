@@ -126,13 +126,15 @@ fn append_issue(text: &mut String, determination: &Record, kept: &KeptList) -> R
 fn append_course(text: &mut String, determination: &Record) -> Result<(), NoMemory>
     ensures ok { OnOk result (string_bytes text.new
         ≡ string_bytes text.old ++ with_commas (pends_word determination.now.pending
-        ∷ optional_date determination.now.affirmed ∷ optional_date determination.now.set_expiry ∷ decimal determination.now.extensions ∷ [])) }
+        ∷ optional_date determination.now.affirmed ∷ optional_date determination.now.set_expiry ∷ decimal determination.now.extensions
+        ∷ decimal determination.now.revisions ∷ [])) }
     ensures part { OnErr result (Extends (string_bytes text.old) (string_bytes text.new)) }
 {
     append_next_word(text, pending_word(determination.pending))?;
     append_next(text, &determination.affirmed)?;
     append_next(text, &determination.set_expiry)?;
-    append_next_number(text, u64::from(determination.extensions))
+    append_next_number(text, u64::from(determination.extensions))?;
+    append_next_number(text, u64::from(determination.revisions))
 }
 
 // Appends a determination and its list, a comma before each field.

@@ -8,7 +8,7 @@ ghost use Rattle.determination_dates.specs.Days.{IsLimited};
 ghost use Rattle.determination_dates.specs.Text.{date_text};
 ghost use Rattle.determination_dates.specs.declared.determination.Decision.{Decision as SomeDecision};
 ghost use Rattle.determination_dates.specs.declared.determination.Record.{Record as SomeRecord};
-ghost use Rattle.determination_dates.specs.declared.determination.TheConstants.{MOST_EXTENSIONS};
+ghost use Rattle.determination_dates.specs.declared.determination.TheConstants.{MOST_EXTENSIONS, MOST_REVISIONS};
 ghost use Rattle.determination_dates.specs.declared.life.End.{End as SomeEnd};
 ghost use Rattle.finding_lists.specs.declared.finding.Finding.{Finding as SomeFinding};
 ghost use Rattle.case_records.specs.declared.case.KeptList.{KeptList as SomeKept};
@@ -20,7 +20,7 @@ ghost use Rattle.row_cases.specs.Filings.{end_word, pending_word, record_fields,
 use crate::entry::entry;
 use crate::number::take_number;
 use case_records::KeptList;
-use determination_dates::{Decision, End, MOST_EXTENSIONS, Record};
+use determination_dates::{Decision, End, MOST_EXTENSIONS, MOST_REVISIONS, Record};
 use finding_lists::Findings;
 use grid_exact::NoMemory;
 use jiff::civil::Date;
@@ -145,27 +145,31 @@ fn take_course(parts: &mut Parts<'_>) -> Option<Course>
     })
 }
 
-// The fields that set its expiry.
+// The fields that set its expiry, and the counts of extensions and revisions.
 #[derive(Clone, Copy)]
 struct Extended {
     set_expiry: Option<Date>,
     extensions: u32,
+    revisions: u32,
 }
 
 fn take_extended(parts: &mut Parts<'_>) -> Option<Extended>
     ensures took { IfSome result (λ e. parts.old
-        ≡ optional_date e.set_expiry ∷ decimal e.extensions ∷ parts.new) }
+        ≡ optional_date e.set_expiry ∷ decimal e.extensions ∷ decimal e.revisions ∷ parts.new) }
     ensures limited { IfSome result (λ e. IsAnyLimited e.set_expiry
-        × (e.extensions ≤ MOST_EXTENSIONS)) }
-    ensures none { IfNone result ((expiry : Option SomeDate) (extensions : ℕ)
+        × (e.extensions ≤ MOST_EXTENSIONS) × (e.revisions ≤ MOST_REVISIONS)) }
+    ensures none { IfNone result ((expiry : Option SomeDate) (extensions revisions : ℕ)
         (rest : List (List ℕ)) → IsAnyLimited expiry → extensions ≤ MOST_EXTENSIONS
-        → parts.old ≢ optional_date expiry ∷ decimal extensions ∷ rest) }
+        → revisions ≤ MOST_REVISIONS
+        → parts.old ≢ optional_date expiry ∷ decimal extensions ∷ decimal revisions ∷ rest) }
 {
     let set_expiry = parts.take()?;
     let extensions = take_number(parts, u64::from(MOST_EXTENSIONS))?;
+    let revisions = take_number(parts, u64::from(MOST_REVISIONS))?;
     Some(Extended {
         set_expiry,
         extensions: extensions as u32,
+        revisions: revisions as u32,
     })
 }
 
@@ -196,6 +200,7 @@ fn take_record(decision: Decision, parts: &mut Parts<'_>) -> Option<Told>
         affirmed: course.affirmed,
         set_expiry: extended.set_expiry,
         extensions: extended.extensions,
+        revisions: extended.revisions,
     };
     Some(Told {
         record,

@@ -11,8 +11,10 @@ mod filing;
 mod judged;
 mod laws;
 mod number;
+mod older;
 mod site;
 
 pub use append::append_filing_row;
 pub use filing::{FilingRow, append_filing_key, read_filing_row};
-pub use laws::one_filing_row;
+pub use laws::{one_filing_row, renewed_rows};
+pub use older::append_renewed_row;

@@ -76,6 +76,7 @@ issued = record {
   affirmed = None;
   set_expiry = None;
   extensions = 0;
+  revisions = 0;
 }
 
 kept : List Finding → KeptList
@@ -109,7 +110,7 @@ frame_plain list h = record {
   received = day_limited;
   form = tt;
   judged = (
-    record { issued = day_limited; deadline = tt; ordinary = day_limited; affirmed = tt; set_expiry = tt; extensions = omega arith },
+    record { issued = day_limited; deadline = tt; ordinary = day_limited; affirmed = tt; set_expiry = tt; extensions = omega arith; revisions = omega arith },
     record { last = omega arith; list = h },
   );
 }

@@ -24,10 +24,11 @@ use Rattle.wire_requests.specs.Limits.{IsCase, IsValidAct}
 use Rattle.wire_replies.specs.States.{date_word}
 use Rattle.wire_replies.specs.Entries.{list_text}
 use Rattle.wire_replies.specs.Outcomes.{late_text, lateness_text, timeliness_text, fcc_text, presumption_text, form_text, disposed_text, extended_text, fcc_act_text, determined_text, outcome_text}
-use Rattle.row_receipts.specs.Kinds.{IsTimeliness, AreDays, IsFiled, IsFormCame, IsDetermined, IsDisposed, IsExtended, IsFccAct, CanLeadTo}
+use Rattle.row_receipts.specs.Kinds.{IsTimeliness, AreDays, IsFiled, IsFormCame, IsDetermined, IsRevised, IsDisposed, IsExtended, IsFccAct, CanLeadTo}
 use Rattle.row_receipts.specs.Fields.{issued_fields}
+use Rattle.row_receipts.specs.Issuances.{AreIssued}
 use Rattle.row_receipts.proofs.KindFacts.{days_limited, filed_parts, form_parts, disposed_parts, extended_parts, fcc_parts}
-use Rattle.row_receipts.proofs.DeterminedFacts.{AreIssued, text_same, determined_parts}
+use Rattle.row_receipts.proofs.DeterminedFacts.{determine_short, revise_short, text_same, determined_parts}
 use Rattle.row_receipts.proofs.FrameFacts.{OneRow, one_list}
 
 -- ---- values of single fields
@@ -173,12 +174,12 @@ one_fcc_act n small _ b h k e = absurd h
 
 one_determined : OneRow → (n : ℕ) → n < 2 ^ 32 → (a b : Outcome) → IsDetermined n a → IsDetermined n b → outcome_text a ≡ outcome_text b → a ≡ b
 one_determined one n small (outcomes.Determined m d l i p q r list) (outcomes.Determined m' d' l' i' p' q' r' list') h k e =
-    let same = in_case (λ x. determined_text x d l i p q r list) (λ x. determined_text x d' l' i' p' q' r' list') m m' n h.0 k.0 e in
+    let same = in_case (λ x. determined_text (codes "determine") x d l i p q r list) (λ x. determined_text (codes "determine") x d' l' i' p' q' r' list') m m' n h.0 k.0 e in
     let first : AreIssued n l i p q r = record { number = small; last_small = h.1; issued_in = h.2; deadline_in = h.3; effective_in = h.4; expiry_in = h.5 } in
     let second : AreIssued n l' i' p' q' r' = record { number = small; last_small = k.1; issued_in = k.2; deadline_in = k.3; effective_in = k.4; expiry_in = k.5 } in
-    let fields = sym (determined_parts _ n d l i p q r list first refl) ∙ determined_parts _ n d' l' i' p' q' r' list' second same in
-    let heads : issued_fields n d l i p q r ≡ issued_fields n d' l' i' p' q' r' = ap (take 8) fields in
-    let whole = sym (text_same n d l i p q r list) ∙ same ∙ text_same n d' l' i' p' q' r' list' ∙ ap (λ f. joined f ++ list_text list') (sym heads) in
+    let fields = sym (determined_parts (codes "determine") determine_short _ n d l i p q r list first refl) ∙ determined_parts (codes "determine") determine_short _ n d' l' i' p' q' r' list' second same in
+    let heads : issued_fields (codes "determine") n d l i p q r ≡ issued_fields (codes "determine") n d' l' i' p' q' r' = ap (take 8) fields in
+    let whole = sym (text_same (codes "determine") n d l i p q r list) ∙ same ∙ text_same (codes "determine") n d' l' i' p' q' r' list' ∙ ap (λ f. joined f ++ list_text list') (sym heads) in
     let numbers : m ≡ m' = h.0 ∙ sym k.0 in
     let decided = one_decision d d' (at 2 heads) in
     let lasts = decimal_injective l l' h.1 k.1 (at 3 heads) in
@@ -186,10 +187,30 @@ one_determined one n small (outcomes.Determined m d l i p q r list) (outcomes.De
     let deadlines = one_optional p p' h.3 k.3 (at 5 heads) in
     let effectives = one_optional q q' h.4 k.4 (at 6 heads) in
     let expiries = one_optional r r' h.5 k.5 (at 7 heads) in
-    let lists = one_list one list list' h.6 k.6 (append_cancel_left (joined (issued_fields n d l i p q r)) (list_text list) (list_text list') whole) in
+    let lists = one_list one list list' h.6 k.6 (append_cancel_left (joined (issued_fields (codes "determine") n d l i p q r)) (list_text list) (list_text list') whole) in
     cc
 one_determined one n small (outcomes.Determined m d l i p q r list) _ h k e = absurd k
 one_determined one n small _ b h k e = absurd h
+
+one_revised : OneRow → (n : ℕ) → n < 2 ^ 32 → (a b : Outcome) → IsRevised n a → IsRevised n b → outcome_text a ≡ outcome_text b → a ≡ b
+one_revised one n small (outcomes.Revised m d l i p q r list) (outcomes.Revised m' d' l' i' p' q' r' list') h k e =
+    let same = in_case (λ x. determined_text (codes "revise") x d l i p q r list) (λ x. determined_text (codes "revise") x d' l' i' p' q' r' list') m m' n h.0 k.0 e in
+    let first : AreIssued n l i p q r = record { number = small; last_small = h.1; issued_in = h.2; deadline_in = h.3; effective_in = h.4; expiry_in = h.5 } in
+    let second : AreIssued n l' i' p' q' r' = record { number = small; last_small = k.1; issued_in = k.2; deadline_in = k.3; effective_in = k.4; expiry_in = k.5 } in
+    let fields = sym (determined_parts (codes "revise") revise_short _ n d l i p q r list first refl) ∙ determined_parts (codes "revise") revise_short _ n d' l' i' p' q' r' list' second same in
+    let heads : issued_fields (codes "revise") n d l i p q r ≡ issued_fields (codes "revise") n d' l' i' p' q' r' = ap (take 8) fields in
+    let whole = sym (text_same (codes "revise") n d l i p q r list) ∙ same ∙ text_same (codes "revise") n d' l' i' p' q' r' list' ∙ ap (λ f. joined f ++ list_text list') (sym heads) in
+    let numbers : m ≡ m' = h.0 ∙ sym k.0 in
+    let decided = one_decision d d' (at 2 heads) in
+    let lasts = decimal_injective l l' h.1 k.1 (at 3 heads) in
+    let dates = one_date i i' h.2 k.2 (at 4 heads) in
+    let deadlines = one_optional p p' h.3 k.3 (at 5 heads) in
+    let effectives = one_optional q q' h.4 k.4 (at 6 heads) in
+    let expiries = one_optional r r' h.5 k.5 (at 7 heads) in
+    let lists = one_list one list list' h.6 k.6 (append_cancel_left (joined (issued_fields (codes "revise") n d l i p q r)) (list_text list) (list_text list') whole) in
+    cc
+one_revised one n small (outcomes.Revised m d l i p q r list) _ h k e = absurd k
+one_revised one n small _ b h k e = absurd h
 
 case_small : (n : ℕ) → IsCase n → n < 2 ^ 32
 case_small n h = omega (arith, h.1)
@@ -204,5 +225,6 @@ one_of_act one (acts.Determine n finding) a b valid h k e = one_determined one n
 one_of_act one (acts.Petition n party) a b valid h k e = h ∙ sym k
 one_of_act one (acts.Dispose n affirm) a b valid h k e = one_disposed n (case_small n valid) a b h k e
 one_of_act one (acts.Extend n months started filed warranted) a b valid h k e = one_extended n (case_small n valid.0) a b h k e
+one_of_act one (acts.Revise n started ground height finding) a b valid h k e = one_revised one n (case_small n valid.0) a b h k e
 one_of_act one (acts.Fcc n completion) a b valid h k e = one_fcc_act n (case_small n valid.0) a b h k e
 one_of_act one (acts.Abandon n) a b valid h k e = h ∙ sym k

@@ -25,14 +25,14 @@ extended_fields n expiry last_day = codes "extend" ∷ decimal n ∷ date_text e
 abbrev pub fcc_fields : ℕ → Date → List (List ℕ)
 fcc_fields n expiry = codes "fcc" ∷ decimal n ∷ date_text expiry ∷ []
 
--- a determination before its list
-abbrev pub issued_fields : ℕ → Decision → ℕ → Date → Option Date → Option Date → Option Date → List (List ℕ)
-issued_fields n decision last issued deadline effective expiry = codes "determine" ∷ decimal n ∷ decision_word decision ∷ decimal last ∷ date_text issued
+-- a determination before its list, issued by an act of this form
+abbrev pub issued_fields : List ℕ → ℕ → Decision → ℕ → Date → Option Date → Option Date → Option Date → List (List ℕ)
+issued_fields form n decision last issued deadline effective expiry = form ∷ decimal n ∷ decision_word decision ∷ decimal last ∷ date_text issued
     ∷ optional_date deadline ∷ optional_date effective ∷ optional_date expiry ∷ []
 
 -- the row of a case before its list
 abbrev pub frame_text : List ℕ
-frame_text = codes "2000-01-01,-,-,normal,-,0,0,0,0,object,0,-,-,2000-01-01,-,-,nohazard,0,2000-01-01,-,2000-01-01,-,-,-,0"
+frame_text = codes "2000-01-01,-,-,normal,-,0,0,0,0,object,0,-,-,2000-01-01,-,-,nohazard,0,2000-01-01,-,2000-01-01,-,-,-,0,0"
 
 -- the row of a case with this list
 abbrev pub framed_text : List Finding → List ℕ

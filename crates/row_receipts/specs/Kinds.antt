@@ -36,8 +36,8 @@ abbrev pub IsFiled : Outcome → Type 0
 IsFiled (outcomes.Filed number in_time fcc explained) = IsCase number × IsTimeliness in_time × AreDays fcc
 IsFiled _ = ⊥
 
--- an act in the case of this number: its form was received, its determination was issued, its petition was decided, its expiry was
--- extended, or its expiry was set by the FCC's decision
+-- an act in the case of this number: its form was received, its determination was issued or revised, its petition was decided, its expiry
+-- was extended, or its expiry was set by the FCC's decision
 
 abbrev pub IsFormCame : ℕ → Outcome → Type 0
 IsFormCame n (outcomes.FormCame number late) = (number ≡ n) × (late < 2 ^ 32)
@@ -47,6 +47,11 @@ abbrev pub IsDetermined : ℕ → Outcome → Type 0
 IsDetermined n (outcomes.Determined number decision last issued deadline effective expiry list) =
     (number ≡ n) × (last < 2 ^ 64) × IsLimited issued × IsAnyLimited deadline × IsAnyLimited effective × IsAnyLimited expiry × IsList list
 IsDetermined n _ = ⊥
+
+abbrev pub IsRevised : ℕ → Outcome → Type 0
+IsRevised n (outcomes.Revised number decision last issued deadline effective expiry list) =
+    (number ≡ n) × (last < 2 ^ 64) × IsLimited issued × IsAnyLimited deadline × IsAnyLimited effective × IsAnyLimited expiry × IsList list
+IsRevised n _ = ⊥
 
 abbrev pub IsDisposed : ℕ → Outcome → Type 0
 IsDisposed n (outcomes.Disposed number affirmed effective expiry) = (number ≡ n) × HasDays affirmed effective expiry
@@ -71,6 +76,7 @@ CanLeadTo (acts.Determine n finding) v = IsDetermined n v
 CanLeadTo (acts.Petition n party) v = v ≡ outcomes.Petitioned n
 CanLeadTo (acts.Dispose n affirm) v = IsDisposed n v
 CanLeadTo (acts.Extend n months started filed warranted) v = IsExtended n v
+CanLeadTo (acts.Revise n started terrain height finding) v = IsRevised n v
 CanLeadTo (acts.Fcc n completion) v = IsFccAct n v
 CanLeadTo (acts.Abandon n) v = v ≡ outcomes.Abandoned n
 

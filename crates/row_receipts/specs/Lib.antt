@@ -3,3 +3,4 @@ pub use Rattle.row_cases.specs.Entries
 pub mod Kinds
 pub mod Fields
 pub mod Receipts
+pub mod Issuances

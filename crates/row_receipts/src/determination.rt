@@ -1,4 +1,4 @@
-//! Reads the outcome of a determination.
+//! Reads the outcomes of determinations and of their revisions.
 
 ghost use Rattle.std.specs.Prelude.{◌≡◌, ◌≢◌, ◌<◌, ◌^◌, ◌++◌, ◌∷◌, ℕ, List, Option, IfSome, IfNone, IfOk};
 ghost use Rattle.std.specs.Fmt.{decimal};
@@ -8,8 +8,13 @@ ghost use Rattle.determination_dates.specs.Text.{date_text};
 ghost use Rattle.determination_dates.specs.declared.determination.Decision.{Decision as SomeDecision};
 ghost use Rattle.wire_values.specs.Words.{decision_word, optional_date, IsAnyLimited};
 ghost use Rattle.row_register.specs.Parts.{parts_of};
-ghost use Rattle.row_receipts.specs.Kinds.{IsDetermined, Reads};
+ghost use Rattle.wire_values.specs.Commas.{with_commas};
+ghost use Rattle.wire_replies.specs.Entries.{list_text};
+ghost use Rattle.wire_values.specs.Plainness.{IsShortField};
+ghost use Rattle.row_cases.specs.Entries.{IsList};
+ghost use Rattle.row_receipts.specs.Kinds.{IsDetermined, IsRevised, Reads};
 ghost use Rattle.row_receipts.specs.Fields.{issued_fields};
+ghost use Rattle.row_receipts.specs.Issuances.{IsIssuance};
 
 use crate::list::take_list;
 use crate::number::read_number;
@@ -98,21 +103,56 @@ struct Issued {
     course: Course,
 }
 
-fn take_issued(parts: &mut Parts<'_>, case: u32) -> Option<Issued>
+fn take_issued(parts: &mut Parts<'_>, form: &[u8], case: u32) -> Option<Issued>
     ensures took { IfSome result (λ d. parts.old
-        ≡ issued_fields case d.issue.decision d.issue.last d.issue.issued d.course.deadline d.course.effective d.course.expiry ++ parts.new) }
+        ≡ issued_fields form.now case d.issue.decision d.issue.last d.issue.issued d.course.deadline d.course.effective d.course.expiry ++ parts.new) }
     ensures limited { IfSome result (λ d. IsLimited d.issue.issued × IsAnyLimited d.course.deadline
         × IsAnyLimited d.course.effective × IsAnyLimited d.course.expiry) }
+    ensures small { IfSome result (λ d. d.issue.last < 2 ^ 64) }
     ensures none { IfNone result ((decision : SomeDecision) (last : ℕ) (issued : SomeDate)
         (deadline effective expiry : Option SomeDate) (rest : List (List ℕ))
         → last < 2 ^ 64 → IsLimited issued → IsAnyLimited deadline → IsAnyLimited effective
         → IsAnyLimited expiry
-        → parts.old ≢ issued_fields case decision last issued deadline effective expiry ++ rest) }
+        → parts.old ≢ issued_fields form.now case decision last issued deadline effective expiry ++ rest) }
 {
-    take_head(parts, b"determine", case)?;
+    take_head(parts, form, case)?;
     let issue = take_issue(parts)?;
     let course = take_course(parts)?;
     Some(Issued { issue, course })
+}
+
+// A determination with its list.
+#[derive(Drop)]
+struct Judged {
+    told: Issued,
+    list: Findings,
+}
+
+// Takes a determination of a case with its list, by an act of this form, from the parts.
+fn take_judged(
+    alloc: Global,
+    parts: &mut Parts<'_>,
+    form: &[u8],
+    case: u32,
+) -> Result<Option<Judged>, NoMemory>
+    ensures took { IfOk result (λ o. IfSome o (λ j. (rest : List (List ℕ))
+        × (parts.old ≡ issued_fields form.now case j.told.issue.decision j.told.issue.last j.told.issue.issued j.told.course.deadline j.told.course.effective j.told.course.expiry ++ rest)
+        × (with_commas rest ≡ list_text j.list))) }
+    ensures limited { IfOk result (λ o. IfSome o (λ j. IsLimited j.told.issue.issued
+        × IsAnyLimited j.told.course.deadline × IsAnyLimited j.told.course.effective
+        × IsAnyLimited j.told.course.expiry)) }
+    ensures small { IfOk result (λ o. IfSome o (λ j. j.told.issue.last < 2 ^ 64)) }
+    ensures whole { IfOk result (λ o. IfSome o (λ j. IsList j.list)) }
+    ensures none { IsShortField form.now → IfOk result (λ o. IfNone o
+        ((text : List ℕ) → parts_of 44 text ≡ parts.old → IsIssuance form.now case text → ⊥)) }
+{
+    let Some(told) = take_issued(parts, form, case) else {
+        return Ok(None);
+    };
+    let Some(list) = take_list(alloc, parts)? else {
+        return Ok(None);
+    };
+    Ok(Some(Judged { told, list }))
 }
 
 fn determination(case: u32, told: &Issued, list: Findings) -> Outcome
@@ -131,24 +171,6 @@ fn determination(case: u32, told: &Issued, list: Findings) -> Outcome
     }
 }
 
-// Takes the determination of a case from the parts.
-fn take_determined(
-    alloc: Global,
-    parts: &mut Parts<'_>,
-    case: u32,
-) -> Result<Option<Outcome>, NoMemory>
-    ensures { IfOk result (λ o. (text : List ℕ) → parts_of 44 text ≡ parts.old
-        → Reads (IsDetermined case) text o) }
-{
-    let Some(told) = take_issued(parts, case) else {
-        return Ok(None);
-    };
-    let Some(list) = take_list(alloc, parts)? else {
-        return Ok(None);
-    };
-    Ok(Some(determination(case, &told, list)))
-}
-
 /// Reads the determination of a case.
 ///
 /// # Errors
@@ -157,5 +179,40 @@ fn take_determined(
 pub(crate) fn determined(alloc: Global, text: &[u8], case: u32) -> Result<Option<Outcome>, NoMemory>
     ensures { IfOk result (λ o. Reads (IsDetermined case) text.now o) }
 {
-    take_determined(alloc, &mut Parts::new(text, b','), case)
+    let Some(judged) = take_judged(alloc, &mut Parts::new(text, b','), b"determine", case)? else {
+        return Ok(None);
+    };
+    let Judged { told, list } = judged;
+    Ok(Some(determination(case, &told, list)))
+}
+
+fn revision(case: u32, told: &Issued, list: Findings) -> Outcome
+    ensures { result
+        ≡ Outcome.Revised case told.now.issue.decision told.now.issue.last told.now.issue.issued told.now.course.deadline told.now.course.effective told.now.course.expiry list }
+{
+    Outcome::Revised {
+        case,
+        decision: told.issue.decision,
+        last: told.issue.last,
+        issued: told.issue.issued,
+        deadline: told.course.deadline,
+        effective: told.course.effective,
+        expiry: told.course.expiry,
+        list,
+    }
+}
+
+/// Reads the determination that was issued in the place of another in a case.
+///
+/// # Errors
+///
+/// `NoMemory` where memory was refused.
+pub(crate) fn revised(alloc: Global, text: &[u8], case: u32) -> Result<Option<Outcome>, NoMemory>
+    ensures { IfOk result (λ o. Reads (IsRevised case) text.now o) }
+{
+    let Some(judged) = take_judged(alloc, &mut Parts::new(text, b','), b"revise", case)? else {
+        return Ok(None);
+    };
+    let Judged { told, list } = judged;
+    Ok(Some(revision(case, &told, list)))
 }

@@ -21,7 +21,7 @@ use wire_values::append_text;
 fn frame_text() -> &'static str
     ensures { result.now ≡ framing_text }
 {
-    "2000-01-01,-,-,normal,-,0,0,0,0,object,0,-,-,2000-01-01,-,-,nohazard,0,2000-01-01,-,2000-01-01,-,-,-,0"
+    "2000-01-01,-,-,normal,-,0,0,0,0,object,0,-,-,2000-01-01,-,-,nohazard,0,2000-01-01,-,2000-01-01,-,-,-,0,0"
 }
 
 // That row, with the remaining parts appended.

@@ -4,7 +4,7 @@ ghost use Rattle.std.specs.Prelude.{IfOk};
 ghost use Rattle.row_receipts.specs.Kinds.{CanLeadTo, Reads};
 
 use crate::course::{decided_petition, extension, fcc_act};
-use crate::determination::determined;
+use crate::determination::{determined, revised};
 use crate::filed::{form_came, opened_case};
 use crate::only::only;
 use case_records::Outcome;
@@ -31,6 +31,7 @@ pub fn read_outcome(alloc: Global, act: &Act, text: &[u8]) -> Result<Option<Outc
         Act::Petition { case, .. } => only(alloc, text, Outcome::Petitioned { case: *case }),
         Act::Dispose { case, .. } => Ok(decided_petition(text, *case)),
         Act::Extend { case, .. } => Ok(extension(text, *case)),
+        Act::Revise { case, .. } => revised(alloc, text, *case),
         Act::Fcc { case, .. } => Ok(fcc_act(text, *case)),
         Act::Abandon(case) => only(alloc, text, Outcome::Abandoned { case: *case }),
     }

@@ -11,7 +11,7 @@ desk_key (rows.Now date) = codes "now"
 desk_key (rows.Closed date) = codes "closed " ++ date_text date
 
 abbrev pub desk_row : DeskRow → List ℕ
-desk_row rows.Format = codes "2"
+desk_row rows.Format = codes "3"
 desk_row (rows.Now date) = date_text date
 desk_row (rows.Closed date) = codes "-"
 

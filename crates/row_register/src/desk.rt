@@ -16,7 +16,7 @@ use wire_values::{FieldValue, append_text};
 /// A row of the table `desk`. Each date is from 1900-01-01 to 2999-12-31.
 #[derive(Clone, Copy, Debug, PartialEq, Eq)]
 pub enum DeskRow {
-    /// The format version of the tables, 2.
+    /// The format version of the tables, 3.
     Format,
     /// The desk's day.
     Now(Date),
@@ -54,7 +54,7 @@ pub fn append_desk_row(text: &mut String, value: &DeskRow) -> Result<(), NoMemor
     ensures part { OnErr result (Extends (string_bytes text.old) (string_bytes text.new)) }
 {
     match value {
-        DeskRow::Format => append_text(text, "2"),
+        DeskRow::Format => append_text(text, "3"),
         DeskRow::Now(date) => date.append(text),
         DeskRow::Closed(_) => append_text(text, "-"),
     }
@@ -78,7 +78,7 @@ pub fn read_desk_row(key: &[u8], row: &[u8]) -> Option<DeskRow>
     ensures none { IfNone result ((v : Kept) → IsDeskRow key.now row.now v → ⊥) }
 {
     if key == b"format".as_slice() {
-        return if row == b"2".as_slice() {
+        return if row == b"3".as_slice() {
             Some(DeskRow::Format)
         } else {
             None

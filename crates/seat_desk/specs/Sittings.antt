@@ -89,7 +89,7 @@ pub record HasAsked {K : Type 0} (opening : State) (query : Query) (s : Sitting 
   pub stays : Stays s t
 
 -- what was evaluated for a change, if anything, is the list of its structure over the version that the seat shows, which has all that the seat
--- was told of; where the clerk is told, a determination of a case has the structure of that case evaluated
+-- was told of; where the clerk is told, a determination or a revision of a case has the structure evaluated that it evaluates
 pub record IsEvaluated {K : Type 0} (first : Option (List Airfield)) (change : Asked) (s : Sitting K) (evaluated : Option Evaluating) (t : Sitting K) : Type 0 where
   pub shown : IfSome evaluated (λ e. (e.front ≡ t.front) × IsPrefix s.told t.front × IsPrefix t.front t.told × IsEvaluation first e)
   pub wanted : IfSome s.clerk (λ c. option_map (λ e. e.filing) evaluated ≡ evaluated_site c.clerk.state change.act)

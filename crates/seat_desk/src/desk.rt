@@ -21,7 +21,7 @@ use std::sync::ledger::{Blank, Ledger};
 use tree_versions::Seat;
 
 /// A desk over a seat, which shows published versions, and a front, which asks the clerk. Screenings, verdicts and `sync` are answered over
-/// what the seat shows; a determination is made on it. All else is asked of the clerk. Contracts see what the
+/// what the seat shows; a determination and a revision are made on it. All else is asked of the clerk. Contracts see what the
 /// session sees.
 #[derive(Drop)]
 pub struct SeatDesk<'r, F: Front<J>, J: Opening, R: Wait, L: Ledger> {

@@ -5,4 +5,6 @@ mod desk;
 mod fulfil;
 mod place;
 
+pub use clerk_fronts::Locked;
 pub use desk::SeatDesk;
+pub use publishing_clerk::{Opening, PublishingClerk};

@@ -15,7 +15,6 @@ ghost use Rattle.wire_replies.specs.declared.reply.Reply.{Reply};
 ghost use Rattle.wire_requests.specs.declared.request.Request.TheVariants as requests;
 
 use airfields::Filing;
-use case_requests::Act;
 use clerk_fronts::{Answered, Front};
 use desk_machine::Entry;
 use grid_exact::{NoMemory, Steps};
@@ -125,19 +124,26 @@ impl<'r, F: Front<J>, J: Opening, R: Wait> Place<'r, F, J, R> {
         appended
     }
 
-    /// The structure that a change evaluates: for a determination, that of its case; `None` where there is none.
+    /// The structure that a change evaluates: for a determination that of its case, for a revision the same with the new facts; `None` where
+    /// there is none.
+    #[tactic(auto, using(crate::proofs::Structures::none_told, crate::proofs::Structures::case_told))]
     fn structure(&mut self, change: &Change) -> Option<Filing>
         ensures same { self.new ≡ self.old }
         ensures told { IfSome self.old.clerk (λ c.
             result ≡ evaluated_site c.clerk.state change.now.act) }
     {
-        match &change.act {
-            Act::Determine { case, .. } => self.front.filing(self.rt, *case).filing(),
-            _ => None,
+        change.has_facts();
+        let Some(case) = change.act.evaluated_case() else {
+            return None;
+        };
+        match self.front.filing(self.rt, case).filing() {
+            Some(filing) => Some(change.act.evaluated(&filing)),
+            None => None,
         }
     }
 
-    /// What is evaluated for a change: for a determination of a case, its structure over the version that the seat shows.
+    /// What is evaluated for a change: for a determination or a revision of a case, the structure that it evaluates, over the version that the
+    /// seat shows.
     ///
     /// # Errors
     ///
@@ -160,7 +166,7 @@ impl<'r, F: Front<J>, J: Opening, R: Wait> Place<'r, F, J, R> {
         Ok(Some(evaluation))
     }
 
-    /// Has a change decided by the clerk, a determination on what the seat shows, and appends the reply.
+    /// Has a change decided by the clerk, a determination or a revision on what the seat shows, and appends the reply.
     pub fn change<L: Ledger>(
         &mut self,
         alloc: Global,

@@ -1,11 +1,10 @@
 //! Journals over disks in memory that fail, stop and crash, and over a file. What a stop at each call leaves of a desk is shown by sessions.
 
 use crate::rows::{has_rows, put};
-use change_frames::{frame_of, rows_in};
 use crash_disks::{Disk, Failed, FileDisk, MemoryDisk, cut_synced, write_synced};
 use grid_exact::NoMemory;
 use oe_journal::{Answer, Call, JournalKeeper, run_all};
-use oe_keeper::{ByName, FailList, KeepErr, Keeper, MemoryKeeper, RowChange, Table, Tables};
+use oe_keeper::{ByName, FailList, KeepErr, Keeper, RowChange, Table};
 use oe_sqlite::SqliteKeeper;
 use std::alloc::Global;
 use std::test::Fail;
@@ -41,20 +40,6 @@ fn journal(
     Ok(JournalKeeper::new(MemoryDisk::new(alloc, list, stop)))
 }
 
-#[test]
-fn a_disk_that_crashes(rt: HostRuntime) -> Result<(), Fail> {
-    let alloc = rt.alloc();
-    let mut disk = MemoryDisk::new(alloc, FailList::new(alloc), None);
-    assert_eq!(rt; write_synced(&mut disk, 0, &[7, 8, 9]), Ok(()));
-    assert_eq!(rt; disk.bytes(), [7, 8, 9].as_slice());
-    assert_eq!(rt; cut_synced(&mut disk, 0), Ok(()));
-    assert_eq!(rt; disk.write_at(0, &[5, 6]), Ok(()));
-    assert_eq!(rt; disk.bytes(), [5, 6].as_slice());
-    let crashed = disk.crashed(alloc, 0)?;
-    assert!(rt; crashed.bytes().is_empty());
-    Ok(())
-}
-
 /// What a crash leaves where a write over the byte 0 failed.
 fn after_a_failed_write(alloc: Global, pick: u64) -> Result<MemoryDisk, Fail> {
     let mut fail = FailList::new(alloc);
@@ -66,54 +51,23 @@ fn after_a_failed_write(alloc: Global, pick: u64) -> Result<MemoryDisk, Fail> {
     Ok(disk.crashed(alloc, pick)?)
 }
 
+// Nothing that was written since the last sync need stand, and a write that failed was done or not.
 #[test]
-fn a_failed_write_was_done_or_not(rt: HostRuntime) -> Result<(), Fail> {
+fn a_disk_that_crashes(rt: HostRuntime) -> Result<(), Fail> {
     let alloc = rt.alloc();
+    let mut disk = MemoryDisk::new(alloc, FailList::new(alloc), None);
+    assert_eq!(rt; write_synced(&mut disk, 0, &[7, 8, 9]), Ok(()));
+    assert_eq!(rt; disk.bytes(), [7, 8, 9].as_slice());
+    assert_eq!(rt; cut_synced(&mut disk, 0), Ok(()));
+    assert_eq!(rt; disk.write_at(0, &[5, 6]), Ok(()));
+    assert_eq!(rt; disk.bytes(), [5, 6].as_slice());
+    let crashed = disk.crashed(alloc, 0)?;
+    assert!(rt; crashed.bytes().is_empty());
     assert_eq!(rt; after_a_failed_write(alloc, 0)?.bytes(), [0].as_slice());
     assert_eq!(rt;
         after_a_failed_write(alloc, EACH_WRITE)?.bytes(),
         [1].as_slice()
     );
-    Ok(())
-}
-
-#[test]
-fn a_frame_there_and_back(rt: HostRuntime) -> Result<(), Fail> {
-    let alloc = rt.alloc();
-    let mut file = frame_of(alloc, &[format(alloc)?])?;
-    assert_eq!(rt; file.as_slice(), FRAME.as_slice());
-    let (tables, end) = rows_in(alloc, &file)?;
-    assert_eq!(rt; end, 34);
-    assert!(rt; has_rows(&tables, &FORMAT));
-    if let Some(table) = file.get_mut(10) {
-        *table = 9;
-    }
-    let (tables, end) = rows_in(alloc, &file)?;
-    assert_eq!(rt; end, 34);
-    assert!(rt; has_rows(&tables, &[(Table::Desk, "damaged 0", "-")]));
-    Ok(())
-}
-
-#[test]
-fn an_empty_disk(rt: HostRuntime) -> Result<(), Fail> {
-    let alloc = rt.alloc();
-    let mut keeper = journal(alloc, &[], None)?;
-    assert!(rt; has_rows(&keeper.load(alloc, None)?, &[]));
-    assert_eq!(rt; keeper.into_disk().bytes(), [0].as_slice());
-    Ok(())
-}
-
-#[test]
-fn what_was_acknowledged_stands(rt: HostRuntime) -> Result<(), Fail> {
-    let alloc = rt.alloc();
-    let mut keeper = journal(alloc, &[], None)?;
-    keeper.load(alloc, None)?;
-    assert!(rt; keeper.apply(alloc, &[format(alloc)?]).is_ok());
-    let disk = keeper.into_disk();
-    assert_eq!(rt; disk.bytes(), FRAME.as_slice());
-    let mut keeper = JournalKeeper::new(disk);
-    assert!(rt; has_rows(&keeper.load(alloc, None)?, &FORMAT));
-    assert_eq!(rt; keeper.into_disk().bytes(), FRAME.as_slice());
     Ok(())
 }
 
@@ -131,8 +85,37 @@ fn answers_to(alloc: Global, calls: &[Call]) -> Result<Vec<Answer>, Fail> {
     Ok(run_all(alloc, &mut keeper, calls)?)
 }
 
+/// A journal over what a crash leaves where the disk stopped at this call of the first change.
+fn after_a_stop(alloc: Global, stop: u64, pick: u64) -> Result<JournalKeeper<MemoryDisk>, Fail> {
+    let mut keeper = journal(alloc, &[], Some(stop))?;
+    keeper.load(alloc, None)?;
+    if keeper.apply(alloc, &[format(alloc)?]).is_ok() {
+        return Err(Fail::new("it was not stopped"));
+    }
+    Ok(JournalKeeper::new(keeper.into_disk().crashed(alloc, pick)?))
+}
+
+// What was acknowledged stands. Before the gate is written a crash leaves an empty file.
 #[test]
-fn a_change_that_was_not_acknowledged_stands_or_not(rt: HostRuntime) -> Result<(), Fail> {
+fn a_journal_over_crashes(rt: HostRuntime) -> Result<(), Fail> {
+    let alloc = rt.alloc();
+    let mut keeper = journal(alloc, &[], None)?;
+    assert!(rt; has_rows(&keeper.load(alloc, None)?, &[]));
+    assert!(rt; keeper.apply(alloc, &[format(alloc)?]).is_ok());
+    let disk = keeper.into_disk();
+    assert_eq!(rt; disk.bytes(), FRAME.as_slice());
+    let mut keeper = JournalKeeper::new(disk);
+    assert!(rt; has_rows(&keeper.load(alloc, None)?, &FORMAT));
+    assert_eq!(rt; keeper.into_disk().bytes(), FRAME.as_slice());
+    let mut keeper = after_a_stop(alloc, FIRST_OF_APPLY + 2, EACH_WRITE)?;
+    assert!(rt; has_rows(&keeper.load(alloc, None)?, &[]));
+    assert_eq!(rt; keeper.into_disk().bytes(), [0].as_slice());
+    Ok(())
+}
+
+// A change that was not acknowledged stands or not, and the gate that may be open is settled before the next change.
+#[test]
+fn a_journal_whose_last_sync_failed(rt: HostRuntime) -> Result<(), Fail> {
     let alloc = rt.alloc();
     let answers = answers_to(alloc, &[one(alloc, format(alloc)?)?, Call::Load])?;
     assert!(rt;
@@ -141,12 +124,6 @@ fn a_change_that_was_not_acknowledged_stands_or_not(rt: HostRuntime) -> Result<(
             _ => false,
         }
     );
-    Ok(())
-}
-
-#[test]
-fn a_gate_that_may_be_open_is_settled(rt: HostRuntime) -> Result<(), Fail> {
-    let alloc = rt.alloc();
     let now = put(alloc, Table::Desk, "now", "2026-01-15")?;
     let calls = [one(alloc, format(alloc)?)?, one(alloc, now)?, Call::Load];
     let answers = answers_to(alloc, &calls)?;
@@ -158,64 +135,6 @@ fn a_gate_that_may_be_open_is_settled(rt: HostRuntime) -> Result<(), Fail> {
             _ => false,
         }
     );
-    Ok(())
-}
-
-/// A journal over what a crash leaves where the disk stopped at this call of the first change.
-fn after_a_stop(alloc: Global, stop: u64, pick: u64) -> Result<JournalKeeper<MemoryDisk>, Fail> {
-    let mut keeper = journal(alloc, &[], Some(stop))?;
-    keeper.load(alloc, None)?;
-    if keeper.apply(alloc, &[format(alloc)?]).is_ok() {
-        return Err(Fail::new("it was not stopped"));
-    }
-    Ok(JournalKeeper::new(keeper.into_disk().crashed(alloc, pick)?))
-}
-
-#[test]
-fn before_the_gate_is_written_the_file_is_empty(rt: HostRuntime) -> Result<(), Fail> {
-    let alloc = rt.alloc();
-    let mut keeper = after_a_stop(alloc, FIRST_OF_APPLY + 2, EACH_WRITE)?;
-    assert!(rt; has_rows(&keeper.load(alloc, None)?, &[]));
-    assert_eq!(rt; keeper.into_disk().bytes(), [0].as_slice());
-    Ok(())
-}
-
-#[test]
-fn before_the_gate_is_synced_it_is_open_or_not(rt: HostRuntime) -> Result<(), Fail> {
-    let alloc = rt.alloc();
-    let mut shut = after_a_stop(alloc, FIRST_OF_APPLY + 3, 0)?;
-    assert!(rt; has_rows(&shut.load(alloc, None)?, &[]));
-    let mut open = after_a_stop(alloc, FIRST_OF_APPLY + 3, EACH_WRITE)?;
-    assert!(rt; has_rows(&open.load(alloc, None)?, &FORMAT));
-    Ok(())
-}
-
-/// How many rows are found at the later place, after a load at the first place and one that failed. One of two
-/// keepers has a row, and the other, for places that end in `.oej`, has none.
-fn rows_after_an_error(
-    alloc: Global,
-    place: Option<&str>,
-    later: Option<&str>,
-) -> Result<usize, Fail> {
-    let mut rows = Tables::empty(alloc);
-    rows.change(alloc, &format(alloc)?)?;
-    let mut second = FailList::new(alloc);
-    second.push(2)?;
-    let first = MemoryKeeper::new(alloc, rows, second);
-    let mut keeper = ByName::new(first, journal(alloc, &[FIRST_OF_APPLY], None)?);
-    keeper.load(alloc, place)?;
-    if keeper.load(alloc, later).is_ok() {
-        return Err(Fail::new("the second load did not fail"));
-    }
-    Ok(keeper.load(alloc, later)?.len())
-}
-
-#[test]
-fn a_choice_stays_after_an_error(rt: HostRuntime) -> Result<(), Fail> {
-    let alloc = rt.alloc();
-    let place = Some("office.oej");
-    assert_eq!(rt; rows_after_an_error(alloc, None, place)?, 1);
-    assert_eq!(rt; rows_after_an_error(alloc, place, None)?, 0);
     Ok(())
 }
 

@@ -1,6 +1,6 @@
 //! Keepers of SQLite, in memory and in a file.
 
-use crate::rows::{has_rows, put};
+use crate::rows::{has_rows, put, remove};
 use oe_keeper::{KeepErr, Keeper, Table};
 use oe_sqlite::SqliteKeeper;
 use std::test::Fail;
@@ -17,8 +17,11 @@ fn in_memory(rt: HostRuntime) -> Result<(), Fail> {
     assert!(rt; matches!(keeper.load(alloc, Some(":memory:")), Err(KeepErr::Failed)));
     assert_eq!(rt; keeper.load(alloc, None)?.len(), 0);
     let changes = [
+        put(alloc, Table::Receipt, "u 1", "1")?,
         put(alloc, Table::Desk, "format", "1")?,
+        put(alloc, Table::Airfield, "AAA", "w")?,
         put(alloc, Table::Airfield, "AAA", "x")?,
+        remove(alloc, Table::Receipt, "u 1")?,
     ];
     keeper.apply(alloc, &changes)?;
     assert!(rt; has_rows(&keeper.load(alloc, None)?, &ROWS));

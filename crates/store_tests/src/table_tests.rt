@@ -1,8 +1,6 @@
-//! The table in a store in memory, and stores whose rows cannot stand in it.
+//! Stores whose rows cannot stand in the table.
 
-use crate::rows::{has_rows, put, remove};
-use keeper_table::{Opened, Stop, change_told, load_again, load_opened};
-use oe_keeper::Table;
+use keeper_table::{Opened, Stop, load_opened};
 use sqlite::{Connection, MemStore};
 use std::alloc::Global;
 use std::test::Fail;
@@ -14,26 +12,6 @@ fn loaded(alloc: Global, texts: &[&str]) -> Result<Opened<MemStore>, Stop> {
         conn.execute(text, &[])?;
     }
     load_opened(alloc, conn)
-}
-
-#[test]
-fn rows_are_kept(rt: HostRuntime) -> Result<(), Fail> {
-    let alloc = rt.alloc();
-    let mut opened = loaded(alloc, &[])?;
-    assert!(rt; opened.is_told);
-    assert_eq!(rt; opened.tables.len(), 0);
-    let changes = [
-        put(alloc, Table::Receipt, "u 1", "1")?,
-        put(alloc, Table::Airfield, "AAA", "x")?,
-        put(alloc, Table::Receipt, "u 2", "2")?,
-        put(alloc, Table::Airfield, "AAA", "y")?,
-        remove(alloc, Table::Receipt, "u 1")?,
-    ];
-    change_told(&mut opened.conn, &changes)?;
-    let tables = load_again(alloc, &mut opened.conn)?;
-    let rows = [(Table::Airfield, "AAA", "y"), (Table::Receipt, "u 2", "2")];
-    assert!(rt; has_rows(&tables, &rows));
-    Ok(())
 }
 
 #[test]

@@ -22,7 +22,7 @@ use Rattle.wire_values.proofs.LetterFacts.{one_flags}
 use Rattle.wire_values.proofs.LimitFacts.{between_short, mobile_short, limit_of_kind}
 use Rattle.wire_values.proofs.ApproachFacts.{one_approaches}
 use Rattle.wire_values.proofs.Named.{one_kind, one_number, one_name}
-use Rattle.wire_cursor.specs.Groups.{coordinate, site_shape, site_fields, IsValidSite}
+use Rattle.wire_cursor.specs.Groups.{coordinate, ground_wanted, height_wanted, site_shape, site_fields, IsValidSite}
 use Rattle.wire_cursor.proofs.ShapeLaws.{AllUsual, Values, texts}
 
 -- ---- the fields of the groups are usual
@@ -33,10 +33,10 @@ coordinate_usual = (omega (arith, ints), omega (arith, ints), omega (arith, ints
 pub number_usual : IsUsual any_number
 number_usual = (omega (arith, ints), omega (arith, ints), omega (arith, ints))
 
-terrain_usual : IsUsual (Between ELEVATION_LEAST ELEVATION_MOST)
+pub terrain_usual : IsUsual ground_wanted
 terrain_usual = (omega (arith, ints), omega (arith, ints), omega (arith, ints))
 
-height_usual : IsUsual (Between (pos 0) HEIGHT_LIMIT)
+pub height_usual : IsUsual height_wanted
 height_usual = (omega (arith, ints), omega (arith, ints), omega (arith, ints))
 
 pub site_usual : AllUsual site_shape

@@ -30,9 +30,17 @@ end_shape = coordinate ∷ coordinate ∷ any_number ∷ ApproachesWanted ∷ []
 abbrev pub end_fields : RunwayEnd → List (List ℕ)
 end_fields e = signed_decimal e.at.x ∷ signed_decimal e.at.y ∷ signed_decimal e.z ∷ approaches_text e.kind e.planned ∷ []
 
+-- the elevation of the ground at a structure
+abbrev pub ground_wanted : Wanted
+ground_wanted = Between ELEVATION_LEAST ELEVATION_MOST
+
+-- the height of a structure above the ground
+abbrev pub height_wanted : Wanted
+height_wanted = Between (pos 0) HEIGHT_LIMIT
+
 -- a structure: its point, the elevation of the terrain, its height, kind, mobile object and flags, and the airfield that it is on
 abbrev pub site_shape : List Wanted
-site_shape = coordinate ∷ coordinate ∷ Between ELEVATION_LEAST ELEVATION_MOST ∷ Between (pos 0) HEIGHT_LIMIT
+site_shape = coordinate ∷ coordinate ∷ ground_wanted ∷ height_wanted
     ∷ KindWanted ∷ MobileWanted ∷ FlagsWanted ∷ AirfieldWanted ∷ []
 
 -- the eight fields of a structure

@@ -45,15 +45,16 @@ filed_text number in_time fcc explained =
 abbrev pub form_text : ℕ → ℕ → List ℕ
 form_text number late = joined (codes "form" ∷ decimal number ∷ lateness_text (codes "intime") late ∷ [])
 
--- the decision, the number of its register's last entry, and its days; the list follows
-abbrev pub determined_fields : ℕ → Decision → ℕ → Date → Option Date → Option Date → Option Date → List (List ℕ)
-determined_fields number decision last issued deadline effective expiry =
-    codes "determine" ∷ decimal number ∷ decision_word decision ∷ decimal last ∷ date_word issued
+-- the form, the decision, the number of its register's last entry, and its days; the list follows
+abbrev pub determined_fields : List ℕ → ℕ → Decision → ℕ → Date → Option Date → Option Date → Option Date → List (List ℕ)
+determined_fields form number decision last issued deadline effective expiry =
+    form ∷ decimal number ∷ decision_word decision ∷ decimal last ∷ date_word issued
     ∷ day_text deadline ∷ day_text effective ∷ day_text expiry ∷ []
 
-abbrev pub determined_text : ℕ → Decision → ℕ → Date → Option Date → Option Date → Option Date → List Finding → List ℕ
-determined_text number decision last issued deadline effective expiry list =
-    joined (determined_fields number decision last issued deadline effective expiry) ++ list_text list
+-- a determination that was issued, by an act of this form
+abbrev pub determined_text : List ℕ → ℕ → Decision → ℕ → Date → Option Date → Option Date → Option Date → List Finding → List ℕ
+determined_text form number decision last issued deadline effective expiry list =
+    joined (determined_fields form number decision last issued deadline effective expiry) ++ list_text list
 
 abbrev pub disposal_word : Bool → List ℕ
 disposal_word affirmed = if affirmed then codes "affirm" else codes "reverse"
@@ -81,7 +82,9 @@ outcome_text (outcomes.Plain plain) = plain_word plain
 outcome_text (outcomes.Filed number in_time fcc explained) = filed_text number in_time fcc explained
 outcome_text (outcomes.FormCame number late) = form_text number late
 outcome_text (outcomes.Determined number decision last issued deadline effective expiry list) =
-    determined_text number decision last issued deadline effective expiry list
+    determined_text (codes "determine") number decision last issued deadline effective expiry list
+outcome_text (outcomes.Revised number decision last issued deadline effective expiry list) =
+    determined_text (codes "revise") number decision last issued deadline effective expiry list
 outcome_text (outcomes.Petitioned number) = case_act_text (codes "petition") number
 outcome_text (outcomes.Disposed number affirmed effective expiry) = disposed_text number affirmed effective expiry
 outcome_text (outcomes.Extended number expiry last_day) = extended_text number expiry last_day

@@ -38,6 +38,8 @@ refusal_number refusals.NoDay = 29
 refusal_number refusals.KeeperFault = 30
 refusal_number refusals.NoMemory = 31
 refusal_number refusals.NoFormDue = 32
+refusal_number refusals.SameFacts = 33
+refusal_number refusals.TooManyRevisions = 34
 
 abbrev pub refusal_name : Refusal → List ℕ
 refusal_name refusals.PrecisionOnUtility = codes "PrecisionOnUtility"
@@ -71,6 +73,8 @@ refusal_name refusals.NoDay = codes "NoDay"
 refusal_name refusals.KeeperFault = codes "KeeperFault"
 refusal_name refusals.NoMemory = codes "NoMemory"
 refusal_name refusals.NoFormDue = codes "NoFormDue"
+refusal_name refusals.SameFacts = codes "SameFacts"
+refusal_name refusals.TooManyRevisions = codes "TooManyRevisions"
 
 -- the values of a refusal, after its name
 abbrev pub refusal_fields : Refusal → List (List ℕ)

@@ -261,6 +261,21 @@ pub fn append_outcome(text: &mut String, outcome: &Outcome) -> Result<(), NoMemo
             append_days(text, *deadline, *effective, *expiry)?;
             append_list(text, list.as_slice())
         }
+        Outcome::Revised {
+            case,
+            decision,
+            last,
+            issued,
+            deadline,
+            effective,
+            expiry,
+            list,
+        } => {
+            append_head(text, "revise", *case)?;
+            append_issued(text, *decision, *last, *issued)?;
+            append_days(text, *deadline, *effective, *expiry)?;
+            append_list(text, list.as_slice())
+        }
         Outcome::Petitioned { case } => append_head(text, "petition", *case),
         Outcome::Disposed {
             case,

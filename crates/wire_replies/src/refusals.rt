@@ -50,6 +50,8 @@ fn refusal_number(refusal: &Refusal) -> u64
         Refusal::KeeperFault => 30,
         Refusal::NoMemory => 31,
         Refusal::NoFormDue => 32,
+        Refusal::SameFacts => 33,
+        Refusal::TooManyRevisions => 34,
     }
 }
 
@@ -88,6 +90,8 @@ fn refusal_name(refusal: &Refusal) -> &'static str
         Refusal::KeeperFault => "KeeperFault",
         Refusal::NoMemory => "NoMemory",
         Refusal::NoFormDue => "NoFormDue",
+        Refusal::SameFacts => "SameFacts",
+        Refusal::TooManyRevisions => "TooManyRevisions",
     }
 }
 

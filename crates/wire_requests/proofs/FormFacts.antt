@@ -14,31 +14,32 @@ use Rattle.wire_requests.specs.declared.request.Request.{Request}
 
 -- a word that is that of no form
 pub no_form : (word : List ℕ) → word ≢ codes "screen" → word ≢ codes "airport" → word ≢ codes "runway" → word ≢ codes "droprunway" → word ≢ codes "heliport"
-    → word ≢ codes "drop" → word ≢ codes "day" → word ≢ codes "closed" → word ≢ codes "file" → word ≢ codes "form" → word ≢ codes "determine" → word ≢ codes "petition"
-    → word ≢ codes "dispose" → word ≢ codes "extend" → word ≢ codes "fcc" → word ≢ codes "abandon" → word ≢ codes "verdict" → word ≢ codes "case" → word ≢ codes "airfield" → word ≢ codes "review"
+    → word ≢ codes "drop" → word ≢ codes "day" → word ≢ codes "closed" → word ≢ codes "file" → word ≢ codes "form" → word ≢ codes "determine" → word ≢ codes "petition" → word ≢ codes "dispose"
+    → word ≢ codes "extend" → word ≢ codes "revise" → word ≢ codes "fcc" → word ≢ codes "abandon" → word ≢ codes "verdict" → word ≢ codes "case" → word ≢ codes "airfield" → word ≢ codes "review"
     → word ≢ codes "report" → word ≢ codes "sync" → (form : Form) → word ≢ form_word form
-no_form word n0 n1 n2 n3 n4 n5 n6 n7 n8 n9 n10 n11 n12 n13 n14 n15 n16 n17 n18 n19 n20 n21 forms.Screen = n0
-no_form word n0 n1 n2 n3 n4 n5 n6 n7 n8 n9 n10 n11 n12 n13 n14 n15 n16 n17 n18 n19 n20 n21 (forms.Act (act_forms.Plain plains.Airport)) = n1
-no_form word n0 n1 n2 n3 n4 n5 n6 n7 n8 n9 n10 n11 n12 n13 n14 n15 n16 n17 n18 n19 n20 n21 (forms.Act (act_forms.Plain plains.Runway)) = n2
-no_form word n0 n1 n2 n3 n4 n5 n6 n7 n8 n9 n10 n11 n12 n13 n14 n15 n16 n17 n18 n19 n20 n21 (forms.Act (act_forms.Plain plains.DropRunway)) = n3
-no_form word n0 n1 n2 n3 n4 n5 n6 n7 n8 n9 n10 n11 n12 n13 n14 n15 n16 n17 n18 n19 n20 n21 (forms.Act (act_forms.Plain plains.Heliport)) = n4
-no_form word n0 n1 n2 n3 n4 n5 n6 n7 n8 n9 n10 n11 n12 n13 n14 n15 n16 n17 n18 n19 n20 n21 (forms.Act (act_forms.Plain plains.Drop)) = n5
-no_form word n0 n1 n2 n3 n4 n5 n6 n7 n8 n9 n10 n11 n12 n13 n14 n15 n16 n17 n18 n19 n20 n21 (forms.Act (act_forms.Plain plains.Day)) = n6
-no_form word n0 n1 n2 n3 n4 n5 n6 n7 n8 n9 n10 n11 n12 n13 n14 n15 n16 n17 n18 n19 n20 n21 (forms.Act (act_forms.Plain plains.Closed)) = n7
-no_form word n0 n1 n2 n3 n4 n5 n6 n7 n8 n9 n10 n11 n12 n13 n14 n15 n16 n17 n18 n19 n20 n21 (forms.Act act_forms.File) = n8
-no_form word n0 n1 n2 n3 n4 n5 n6 n7 n8 n9 n10 n11 n12 n13 n14 n15 n16 n17 n18 n19 n20 n21 (forms.Act act_forms.Form) = n9
-no_form word n0 n1 n2 n3 n4 n5 n6 n7 n8 n9 n10 n11 n12 n13 n14 n15 n16 n17 n18 n19 n20 n21 (forms.Act act_forms.Determine) = n10
-no_form word n0 n1 n2 n3 n4 n5 n6 n7 n8 n9 n10 n11 n12 n13 n14 n15 n16 n17 n18 n19 n20 n21 (forms.Act act_forms.Petition) = n11
-no_form word n0 n1 n2 n3 n4 n5 n6 n7 n8 n9 n10 n11 n12 n13 n14 n15 n16 n17 n18 n19 n20 n21 (forms.Act act_forms.Dispose) = n12
-no_form word n0 n1 n2 n3 n4 n5 n6 n7 n8 n9 n10 n11 n12 n13 n14 n15 n16 n17 n18 n19 n20 n21 (forms.Act act_forms.Extend) = n13
-no_form word n0 n1 n2 n3 n4 n5 n6 n7 n8 n9 n10 n11 n12 n13 n14 n15 n16 n17 n18 n19 n20 n21 (forms.Act act_forms.Fcc) = n14
-no_form word n0 n1 n2 n3 n4 n5 n6 n7 n8 n9 n10 n11 n12 n13 n14 n15 n16 n17 n18 n19 n20 n21 (forms.Act act_forms.Abandon) = n15
-no_form word n0 n1 n2 n3 n4 n5 n6 n7 n8 n9 n10 n11 n12 n13 n14 n15 n16 n17 n18 n19 n20 n21 forms.Verdict = n16
-no_form word n0 n1 n2 n3 n4 n5 n6 n7 n8 n9 n10 n11 n12 n13 n14 n15 n16 n17 n18 n19 n20 n21 forms.Case = n17
-no_form word n0 n1 n2 n3 n4 n5 n6 n7 n8 n9 n10 n11 n12 n13 n14 n15 n16 n17 n18 n19 n20 n21 forms.Airfield = n18
-no_form word n0 n1 n2 n3 n4 n5 n6 n7 n8 n9 n10 n11 n12 n13 n14 n15 n16 n17 n18 n19 n20 n21 forms.Review = n19
-no_form word n0 n1 n2 n3 n4 n5 n6 n7 n8 n9 n10 n11 n12 n13 n14 n15 n16 n17 n18 n19 n20 n21 forms.Report = n20
-no_form word n0 n1 n2 n3 n4 n5 n6 n7 n8 n9 n10 n11 n12 n13 n14 n15 n16 n17 n18 n19 n20 n21 forms.Sync = n21
+no_form word n0 n1 n2 n3 n4 n5 n6 n7 n8 n9 n10 n11 n12 n13 n14 n15 n16 n17 n18 n19 n20 n21 n22 forms.Screen = n0
+no_form word n0 n1 n2 n3 n4 n5 n6 n7 n8 n9 n10 n11 n12 n13 n14 n15 n16 n17 n18 n19 n20 n21 n22 (forms.Act (act_forms.Plain plains.Airport)) = n1
+no_form word n0 n1 n2 n3 n4 n5 n6 n7 n8 n9 n10 n11 n12 n13 n14 n15 n16 n17 n18 n19 n20 n21 n22 (forms.Act (act_forms.Plain plains.Runway)) = n2
+no_form word n0 n1 n2 n3 n4 n5 n6 n7 n8 n9 n10 n11 n12 n13 n14 n15 n16 n17 n18 n19 n20 n21 n22 (forms.Act (act_forms.Plain plains.DropRunway)) = n3
+no_form word n0 n1 n2 n3 n4 n5 n6 n7 n8 n9 n10 n11 n12 n13 n14 n15 n16 n17 n18 n19 n20 n21 n22 (forms.Act (act_forms.Plain plains.Heliport)) = n4
+no_form word n0 n1 n2 n3 n4 n5 n6 n7 n8 n9 n10 n11 n12 n13 n14 n15 n16 n17 n18 n19 n20 n21 n22 (forms.Act (act_forms.Plain plains.Drop)) = n5
+no_form word n0 n1 n2 n3 n4 n5 n6 n7 n8 n9 n10 n11 n12 n13 n14 n15 n16 n17 n18 n19 n20 n21 n22 (forms.Act (act_forms.Plain plains.Day)) = n6
+no_form word n0 n1 n2 n3 n4 n5 n6 n7 n8 n9 n10 n11 n12 n13 n14 n15 n16 n17 n18 n19 n20 n21 n22 (forms.Act (act_forms.Plain plains.Closed)) = n7
+no_form word n0 n1 n2 n3 n4 n5 n6 n7 n8 n9 n10 n11 n12 n13 n14 n15 n16 n17 n18 n19 n20 n21 n22 (forms.Act act_forms.File) = n8
+no_form word n0 n1 n2 n3 n4 n5 n6 n7 n8 n9 n10 n11 n12 n13 n14 n15 n16 n17 n18 n19 n20 n21 n22 (forms.Act act_forms.Form) = n9
+no_form word n0 n1 n2 n3 n4 n5 n6 n7 n8 n9 n10 n11 n12 n13 n14 n15 n16 n17 n18 n19 n20 n21 n22 (forms.Act act_forms.Determine) = n10
+no_form word n0 n1 n2 n3 n4 n5 n6 n7 n8 n9 n10 n11 n12 n13 n14 n15 n16 n17 n18 n19 n20 n21 n22 (forms.Act act_forms.Petition) = n11
+no_form word n0 n1 n2 n3 n4 n5 n6 n7 n8 n9 n10 n11 n12 n13 n14 n15 n16 n17 n18 n19 n20 n21 n22 (forms.Act act_forms.Dispose) = n12
+no_form word n0 n1 n2 n3 n4 n5 n6 n7 n8 n9 n10 n11 n12 n13 n14 n15 n16 n17 n18 n19 n20 n21 n22 (forms.Act act_forms.Extend) = n13
+no_form word n0 n1 n2 n3 n4 n5 n6 n7 n8 n9 n10 n11 n12 n13 n14 n15 n16 n17 n18 n19 n20 n21 n22 (forms.Act act_forms.Revise) = n14
+no_form word n0 n1 n2 n3 n4 n5 n6 n7 n8 n9 n10 n11 n12 n13 n14 n15 n16 n17 n18 n19 n20 n21 n22 (forms.Act act_forms.Fcc) = n15
+no_form word n0 n1 n2 n3 n4 n5 n6 n7 n8 n9 n10 n11 n12 n13 n14 n15 n16 n17 n18 n19 n20 n21 n22 (forms.Act act_forms.Abandon) = n16
+no_form word n0 n1 n2 n3 n4 n5 n6 n7 n8 n9 n10 n11 n12 n13 n14 n15 n16 n17 n18 n19 n20 n21 n22 forms.Verdict = n17
+no_form word n0 n1 n2 n3 n4 n5 n6 n7 n8 n9 n10 n11 n12 n13 n14 n15 n16 n17 n18 n19 n20 n21 n22 forms.Case = n18
+no_form word n0 n1 n2 n3 n4 n5 n6 n7 n8 n9 n10 n11 n12 n13 n14 n15 n16 n17 n18 n19 n20 n21 n22 forms.Airfield = n19
+no_form word n0 n1 n2 n3 n4 n5 n6 n7 n8 n9 n10 n11 n12 n13 n14 n15 n16 n17 n18 n19 n20 n21 n22 forms.Review = n20
+no_form word n0 n1 n2 n3 n4 n5 n6 n7 n8 n9 n10 n11 n12 n13 n14 n15 n16 n17 n18 n19 n20 n21 n22 forms.Report = n21
+no_form word n0 n1 n2 n3 n4 n5 n6 n7 n8 n9 n10 n11 n12 n13 n14 n15 n16 n17 n18 n19 n20 n21 n22 forms.Sync = n22
 
 -- the reader took the first field, the word of this form
 abbrev TookForm : Form → Place → Place → Type 0
@@ -87,6 +88,7 @@ short_shape (forms.Act act_forms.Determine) = omega arith
 short_shape (forms.Act act_forms.Petition) = omega arith
 short_shape (forms.Act act_forms.Dispose) = omega arith
 short_shape (forms.Act act_forms.Extend) = omega arith
+short_shape (forms.Act act_forms.Revise) = omega arith
 short_shape (forms.Act act_forms.Fcc) = omega arith
 short_shape (forms.Act act_forms.Abandon) = omega arith
 short_shape forms.Verdict = omega arith

@@ -6,3 +6,4 @@ pub mod FormLaw
 pub mod LineFacts
 pub mod OneReading
 pub mod WrittenFacts
+pub mod FactsIn

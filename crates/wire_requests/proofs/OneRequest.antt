@@ -3,7 +3,9 @@ use Rattle.std.proofs.Common.{arith, ℕ, ◌≡◌, ℤ, List, ◌∷◌, Optio
 use Rattle.std.specs.Fmt.{decimal}
 use Rattle.std.specs.Str.{bytes_eq}
 use Rattle.grid_exact.specs.declared.point.Point.{Point}
-use Rattle.airfields.specs.Sites.{Site}
+use Rattle.std.proofs.lemmas.Int.{ints}
+use Rattle.whole_number.specs.Whole.{HasNineDigits}
+use Rattle.airfields.specs.Sites.{AreFacts, Site}
 use Rattle.airfields.specs.declared.category.Category.{Category}
 use Rattle.airfields.specs.declared.airfield.Heliport.{Heliport}
 use Rattle.airfields.specs.declared.runway.RunwayEnd.{RunwayEnd}
@@ -53,6 +55,7 @@ act_named word = if bytes_eq word (act_word act_forms.File) then act_forms.File
     else if bytes_eq word (act_word act_forms.Petition) then act_forms.Petition
     else if bytes_eq word (act_word act_forms.Dispose) then act_forms.Dispose
     else if bytes_eq word (act_word act_forms.Extend) then act_forms.Extend
+    else if bytes_eq word (act_word act_forms.Revise) then act_forms.Revise
     else if bytes_eq word (act_word act_forms.Fcc) then act_forms.Fcc
     else if bytes_eq word (act_word act_forms.Abandon) then act_forms.Abandon else act_forms.Plain (plain_named word)
 
@@ -80,6 +83,7 @@ form_again (forms.Act act_forms.Determine) = refl
 form_again (forms.Act act_forms.Petition) = refl
 form_again (forms.Act act_forms.Dispose) = refl
 form_again (forms.Act act_forms.Extend) = refl
+form_again (forms.Act act_forms.Revise) = refl
 form_again (forms.Act act_forms.Fcc) = refl
 form_again (forms.Act act_forms.Abandon) = refl
 form_again forms.Screen = refl
@@ -156,6 +160,10 @@ one_submission a b h k e =
 one_case : (m n : ℕ) {fields more : List (List ℕ)} → IsCase m → IsCase n → decimal m ∷ fields ≡ decimal n ∷ more → m ≡ n
 one_case m n h k e = one_count m n (omega (arith, h)) (omega (arith, k)) (at 0 e)
 
+-- the new facts of a revision have at most nine digits
+short_facts : (ground height : ℤ) → AreFacts ground height → HasNineDigits ground × HasNineDigits height
+short_facts ground height h = (omega (arith, ints, h.terrain_least, h.terrain_most), omega (arith, ints, h.height_least, h.height_most))
+
 -- amendments change the register, and days do not
 in_register : Plain → Bool
 in_register plains.Day = false
@@ -205,6 +213,15 @@ one_act (acts.Extend a m s d w) (acts.Extend b n t c v) h k f e =
     let ss = one_choice progress_word refl refl s t (at 2 e) in
     let ds = one_optional d c h.3 k.3 (at 3 e) in
     let ws = one_choice warrant_word refl refl w v (at 4 e) in
+    cc
+one_act (acts.Revise a s g z i) (acts.Revise b t x y j) h k f e =
+    let ns = one_case a b h.0 k.0 e in
+    let ss = one_choice progress_word refl refl s t (at 1 e) in
+    let hs = short_facts g z h.1 in
+    let ks = short_facts x y k.1 in
+    let gs = one_number g x hs.0 ks.0 (at 2 e) in
+    let zs = one_number z y hs.1 ks.1 (at 3 e) in
+    let is = one_impact i j (at 4 e) in
     cc
 one_act (acts.Fcc a d) (acts.Fcc b c) h k f e =
     let ns = one_case a b h.0 k.0 e in

@@ -15,7 +15,7 @@ use Rattle.wire_values.proofs.FieldFacts.{short_word}
 use Rattle.wire_cursor.specs.Shape.{HasShape}
 use Rattle.wire_cursor.specs.Groups.{end_shape}
 use Rattle.wire_cursor.proofs.ShapeLaws.{AllUsual, Values, texts, values_of}
-use Rattle.wire_cursor.proofs.GroupFacts.{coordinate_usual, number_usual, site_usual, end_usual, place, site_of}
+use Rattle.wire_cursor.proofs.GroupFacts.{coordinate_usual, number_usual, terrain_usual, height_usual, site_usual, end_usual, place, site_of}
 use Rattle.wire_requests.specs.Forms.{plain_shape, act_word, act_shape, shape_of}
 use Rattle.wire_requests.specs.Spellings.{act_fields, act_form}
 use Rattle.wire_requests.specs.Limits.{IsValidAct}
@@ -77,6 +77,7 @@ act_usual act_forms.Determine = (case_usual, (tt, tt))
 act_usual act_forms.Petition = (case_usual, (tt, tt))
 act_usual act_forms.Dispose = (case_usual, (disposal_usual, tt))
 act_usual act_forms.Extend = (case_usual, (months_usual, (progress_usual, (tt, (warrant_usual, tt)))))
+act_usual act_forms.Revise = (case_usual, (progress_usual, (terrain_usual, (height_usual, (tt, tt)))))
 act_usual act_forms.Fcc = (case_usual, (grant_usual, (tt, tt)))
 act_usual act_forms.Abandon = (case_usual, tt)
 
@@ -97,6 +98,7 @@ act_short act_forms.Determine = short_word _ (omega arith) (omega arith) refl
 act_short act_forms.Petition = short_word _ (omega arith) (omega arith) refl
 act_short act_forms.Dispose = short_word _ (omega arith) (omega arith) refl
 act_short act_forms.Extend = short_word _ (omega arith) (omega arith) refl
+act_short act_forms.Revise = short_word _ (omega arith) (omega arith) refl
 act_short act_forms.Fcc = short_word _ (omega arith) (omega arith) refl
 act_short act_forms.Abandon = short_word _ (omega arith) (omega arith) refl
 
@@ -226,6 +228,20 @@ act_of_values act_forms.Extend before n =
       form_is = refl;
       fields_are = rw (n.0.1.1, months.0.1.1, progress.0.1.1, filed.0.1.1, warrant.0.1.1) refl;
       valid = ((n.0.1.2, n.0.1.3), months.0.1.2, months.0.1.3, filed.0.1.2);
+    }
+act_of_values act_forms.Revise before n =
+    let progress = n.1 in
+    let ground = progress.1 in
+    let height = ground.1 in
+    let finding = height.1 in
+    record {
+      act = acts.Revise n.0.1.0 progress.0.1.0 ground.0.1.0 height.0.1.0 finding.0.1.0;
+      form_is = refl;
+      fields_are = rw (n.0.1.1, progress.0.1.1, ground.0.1.1, height.0.1.1, finding.0.1.1) refl;
+      valid = (
+        (n.0.1.2, n.0.1.3),
+        record { terrain_least = ground.0.1.2.0; terrain_most = ground.0.1.2.1; height_least = height.0.1.2.0; height_most = height.0.1.2.1 },
+      );
     }
 act_of_values act_forms.Fcc before n =
     let grant = n.1 in

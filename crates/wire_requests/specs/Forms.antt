@@ -6,7 +6,7 @@ use Rattle.wire_values.specs.Plains.{plain_word}
 use Rattle.wire_values.specs.declared.plain.Plain.{Plain}
 use Rattle.wire_values.specs.declared.plain.Plain.TheVariants as plains
 use Rattle.wire_cursor.specs.Shape.{FirstBad}
-use Rattle.wire_cursor.specs.Groups.{coordinate, site_shape}
+use Rattle.wire_cursor.specs.Groups.{coordinate, ground_wanted, height_wanted, site_shape}
 use Rattle.wire_requests.specs.declared.form.ActForm.{ActForm}
 use Rattle.wire_requests.specs.declared.form.ActForm.TheVariants as act_forms
 use Rattle.wire_requests.specs.declared.form.Form.{Form}
@@ -21,6 +21,7 @@ act_word act_forms.Determine = codes "determine"
 act_word act_forms.Petition = codes "petition"
 act_word act_forms.Dispose = codes "dispose"
 act_word act_forms.Extend = codes "extend"
+act_word act_forms.Revise = codes "revise"
 act_word act_forms.Fcc = codes "fcc"
 act_word act_forms.Abandon = codes "abandon"
 
@@ -60,6 +61,7 @@ act_shape act_forms.Determine = case_wanted ∷ ImpactWanted ∷ []
 act_shape act_forms.Petition = case_wanted ∷ PartyWanted ∷ []
 act_shape act_forms.Dispose = case_wanted ∷ Choice disposal_word ∷ []
 act_shape act_forms.Extend = case_wanted ∷ months_wanted ∷ Choice progress_word ∷ OptionalDateWanted ∷ Choice warrant_word ∷ []
+act_shape act_forms.Revise = case_wanted ∷ Choice progress_word ∷ ground_wanted ∷ height_wanted ∷ ImpactWanted ∷ []
 act_shape act_forms.Fcc = case_wanted ∷ Choice grant_word ∷ CompletionWanted ∷ []
 act_shape act_forms.Abandon = case_wanted ∷ []
 

@@ -1,6 +1,7 @@
 -- The limits of the values in changes and queries.
 use Rattle.std.specs.Prelude.{ℕ, ◌≤◌, []}
 use Rattle.whole_number.specs.Whole.{HasNineDigits}
+use Rattle.airfields.specs.Sites.{AreFacts}
 use Rattle.airport_register.specs.declared.amendment.Amendment.{Amendment}
 use Rattle.airport_register.specs.declared.amendment.Amendment.TheVariants as amendments
 use Rattle.determination_dates.specs.Days.{IsLimited}
@@ -47,7 +48,7 @@ pub record IsValidSubmission (s : Submission) : Type 0 where
   pub fcc : IsAnyLimited s.fcc
   pub filing : IsValidSite s.filing
 
--- dates and case numbers are within their limits, and an extension is 1 to 18 months (77.35)
+-- dates, case numbers and the new facts of a revision are within their limits, and an extension is 1 to 18 months (77.35)
 abbrev pub IsValidAct : Act → Type 0
 IsValidAct (acts.Amend amendment) = IsValidAmendment amendment
 IsValidAct (acts.Day date) = IsLimited date
@@ -58,6 +59,7 @@ IsValidAct (acts.Determine n finding) = IsCase n
 IsValidAct (acts.Petition n party) = IsCase n
 IsValidAct (acts.Dispose n affirm) = IsCase n
 IsValidAct (acts.Extend n months started filed warranted) = IsCase n × (1 ≤ months) × (months ≤ EXTENSION_MONTHS) × IsAnyLimited filed
+IsValidAct (acts.Revise n started terrain height finding) = IsCase n × AreFacts terrain height
 IsValidAct (acts.Fcc n completion) = IsCase n × IsAnyLimited completion
 IsValidAct (acts.Abandon n) = IsCase n
 

@@ -58,6 +58,8 @@ act_fields (acts.Petition n party) = decimal n ∷ party_word party ∷ []
 act_fields (acts.Dispose n affirm) = decimal n ∷ disposal_word affirm ∷ []
 act_fields (acts.Extend n months started filed warranted) =
     decimal n ∷ decimal months ∷ progress_word started ∷ optional_date filed ∷ warrant_word warranted ∷ []
+act_fields (acts.Revise n started terrain height finding) =
+    decimal n ∷ progress_word started ∷ signed_decimal terrain ∷ signed_decimal height ∷ impact_word finding ∷ []
 act_fields (acts.Fcc n completion) = decimal n ∷ grant_word (is_some completion) ∷ optional_date completion ∷ []
 act_fields (acts.Abandon n) = decimal n ∷ []
 
@@ -80,6 +82,7 @@ act_form (acts.Determine n finding) = act_forms.Determine
 act_form (acts.Petition n party) = act_forms.Petition
 act_form (acts.Dispose n affirm) = act_forms.Dispose
 act_form (acts.Extend n months started filed warranted) = act_forms.Extend
+act_form (acts.Revise n started terrain height finding) = act_forms.Revise
 act_form (acts.Fcc n completion) = act_forms.Fcc
 act_form (acts.Abandon n) = act_forms.Abandon
 

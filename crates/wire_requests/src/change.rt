@@ -7,7 +7,7 @@ ghost use Rattle.wire_requests.specs.Readings.{TookAct, IsReading};
 ghost use Rattle.wire_requests.specs.declared.form.Form.TheVariants as forms;
 
 use crate::determination::{determine, dispose, petition};
-use crate::extension::{abandon, extend, fcc};
+use crate::extension::{abandon, extend, fcc, revise};
 use crate::filing::{file, form_came};
 use crate::form::ActForm;
 use crate::register::plain_act;
@@ -42,6 +42,7 @@ fn act(cursor: &mut Cursor<'_>, form: ActForm) -> Result<Act, BadField>
         ActForm::Petition => petition(cursor),
         ActForm::Dispose => dispose(cursor),
         ActForm::Extend => extend(cursor),
+        ActForm::Revise => revise(cursor),
         ActForm::Fcc => fcc(cursor),
         ActForm::Abandon => abandon(cursor),
     }

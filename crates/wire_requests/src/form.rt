@@ -26,6 +26,8 @@ pub enum ActForm {
     Dispose,
     /// A request for an extension.
     Extend,
+    /// A request for a revision on new facts.
+    Revise,
     /// The FCC's decision on a construction permit.
     Fcc,
     /// A structure is abandoned.
@@ -74,6 +76,7 @@ fn form_of(word: &[u8]) -> Option<Form>
         b"petition" => Some(Form::Act(ActForm::Petition)),
         b"dispose" => Some(Form::Act(ActForm::Dispose)),
         b"extend" => Some(Form::Act(ActForm::Extend)),
+        b"revise" => Some(Form::Act(ActForm::Revise)),
         b"fcc" => Some(Form::Act(ActForm::Fcc)),
         b"abandon" => Some(Form::Act(ActForm::Abandon)),
         b"verdict" => Some(Form::Verdict),

@@ -36,6 +36,7 @@ pub fn act_form(act: &Act) -> ActForm
         Act::Petition { .. } => ActForm::Petition,
         Act::Dispose { .. } => ActForm::Dispose,
         Act::Extend { .. } => ActForm::Extend,
+        Act::Revise { .. } => ActForm::Revise,
         Act::Fcc { .. } => ActForm::Fcc,
         Act::Abandon(_) => ActForm::Abandon,
     }
@@ -54,6 +55,7 @@ impl ActForm {
             ActForm::Petition => "petition",
             ActForm::Dispose => "dispose",
             ActForm::Extend => "extend",
+            ActForm::Revise => "revise",
             ActForm::Fcc => "fcc",
             ActForm::Abandon => "abandon",
         }

@@ -31,6 +31,7 @@ impl Model for Change {
 }
 
 impl Change {
+    ghost use Rattle.case_requests.specs.Evaluated.{HasFacts};
     ghost use Rattle.wire_requests.specs.Limits.{IsChangeRecord};
 
     /// Shows to a proof that the change has a record.
@@ -38,6 +39,14 @@ impl Change {
         ensures { IsChangeRecord self.now }
     {
         let _ = &self.act;
+    }
+
+    /// Shows to a proof that the new facts of a revision are within their limits.
+    #[tactic(auto, using(crate::proofs::FactsIn::has_facts))]
+    pub fn has_facts(&self)
+        ensures { HasFacts self.now.act }
+    {
+        self.has_record();
     }
 }
 

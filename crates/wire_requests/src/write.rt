@@ -2,14 +2,14 @@
 
 ghost use Rattle.std.specs.Prelude.{◌≡◌, ◌++◌, ◌∷◌, [], is_some, IfOk, OnOk, string_bytes, codes};
 ghost use Rattle.std.specs.Fmt.{decimal, signed_decimal};
-ghost use Rattle.wire_values.specs.Words.{category_word, progress_word, warrant_word, grant_word, optional_date};
+ghost use Rattle.wire_values.specs.Words.{category_word, progress_word, warrant_word, grant_word, impact_word, optional_date};
 ghost use Rattle.wire_values.specs.Commas.{joined, with_commas};
 ghost use Rattle.wire_cursor.specs.Groups.{point_fields, end_fields, site_fields};
 ghost use Rattle.wire_requests.specs.Spellings.{heliport_fields, runway_fields, amendment_fields, submission_fields, act_fields, change_spelling};
 ghost use Rattle.wire_requests.specs.Requests.{IsRecord};
 ghost use Rattle.wire_requests.specs.declared.request.Request.TheVariants as requests;
 
-use crate::{Act, Change, Submission, act_form};
+use crate::{Act, Change, Impact, Submission, act_form};
 use airfields::{Category, FieldId, Filing, Heliport, Runway, RunwayEnd};
 use airport_register::Amendment;
 use grid_exact::{NoMemory, Point, Text};
@@ -203,6 +203,25 @@ fn append_extension(
     Ok(())
 }
 
+// Appends the new facts of a revision, and the finding on them.
+fn append_revision(
+    text: &mut String,
+    started: bool,
+    ground: &i64,
+    height: &i64,
+    finding: &Option<Impact>,
+) -> Result<(), NoMemory>
+    ensures { OnOk result (string_bytes text.new ≡ string_bytes text.old
+        ++ with_commas
+        (progress_word started ∷ signed_decimal ground.now ∷ signed_decimal height.now ∷ impact_word finding.now ∷ [])) }
+{
+    append_next(text, &Progress { started })?;
+    append_number(text, ground)?;
+    append_number(text, height)?;
+    append_next(text, finding)?;
+    Ok(())
+}
+
 // Appends the FCC's decision.
 fn append_grant(text: &mut String, completion: &Option<Date>) -> Result<(), NoMemory>
     ensures { OnOk result (string_bytes text.new
@@ -254,6 +273,17 @@ fn append_act(text: &mut String, act: &Act) -> Result<(), NoMemory>
         } => {
             append_case(text, *case)?;
             append_extension(text, *months, *started, filed, *warranted)?;
+            Ok(())
+        }
+        Act::Revise {
+            case,
+            started,
+            ground,
+            height,
+            finding,
+        } => {
+            append_case(text, *case)?;
+            append_revision(text, *started, ground, height, finding)?;
             Ok(())
         }
         Act::Fcc { case, completion } => {

@@ -72,7 +72,7 @@ fn planned_kind(text: &[u8]) -> Option<Option<ApproachKind>>
 }
 
 // What stands behind the word of a kind that the text begins with.
-fn behind(text: &[u8], kind: ApproachKind) -> Option<&[u8]>
+fn rest_behind(text: &[u8], kind: ApproachKind) -> Option<&[u8]>
     ensures some { IfSome result (λ rest. text.now ≡ approach_word kind ++ rest.now) }
     ensures none { IfNone result ((rest : List ℕ) → text.now ≢ approach_word kind ++ rest) }
 {
@@ -85,7 +85,7 @@ fn approaches_from(text: &[u8], kind: ApproachKind) -> Option<Approaches>
     ensures some { IfSome result (λ v. text.now ≡ approaches_text v.kind v.planned) }
     ensures none { IfNone result ((p : Option SomeKind) → text.now ≢ approaches_text kind p) }
 {
-    let rest = behind(text, kind)?;
+    let rest = rest_behind(text, kind)?;
     let planned = planned_kind(rest)?;
     Some(Approaches { kind, planned })
 }

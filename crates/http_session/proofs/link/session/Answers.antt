@@ -1,5 +1,6 @@
 use Rattle.std.proofs.Common.{arith, refl}
 use Rattle.http_session.proofs.UnderwayFacts.{underway_goes, underway_sent, underway_stops}
+use Rattle.line_session.proofs.EndingFacts.{completes, rose_since}
 use Rattle.line_session.proofs.SessionFacts.{fell_more}
 use Rattle.http_session.proofs.link.session.Goals as goal
 
@@ -20,3 +21,11 @@ returns-in-Some-clause-ends g c =
 
 pub returns-in-Err-clause-ends : goal.returns-in-Err-clause-ends
 returns-in-Err-clause-ends g c = c.messages.invariant.underway.cut c.args.desk.now _ c.in-Err.ensures.err
+
+pub returns-in-Some-clause-complete : goal.returns-in-Some-clause-complete
+returns-in-Some-clause-complete g c =
+    completes _ _ _ _ _ (λ e. rw c.respond.ensures.read_faults (rose_since _ _ _ c.messages.invariant.read_later (c.in-Ok.ensures.fault (c.in-Some.ensures.read e))))
+    (λ e. rose_since _ _ _ c.messages.invariant.write_later (rose_since _ _ _ c.in-Ok.ensures.cause.later (c.in-Some.ensures.write e)))
+
+pub returns-in-Err-clause-complete : goal.returns-in-Err-clause-complete
+returns-in-Err-clause-complete g c = completes _ _ _ _ _ (λ e. absurd (cc)) (λ e. rose_since _ _ _ c.messages.invariant.write_later c.in-Err.ensures.cause.failed)

@@ -13,11 +13,11 @@ use Rattle.keeper_table.proofs.reopened.load_opened.Goals as goal
 pub returns-clause-rows : goal.returns-clause-rows
 returns-clause-rows g c has settled clean up =
     let old = state g.S.Store c.args.conn in
-    let new = state g.S.Store c.in-Some.conn in
+    let new = state g.S.Store c.in_ok-conn.conn in
     let third : HasCleanDisk new = omega (arith, c.in_ok-tables-2.ensures.clean) in
-    let second : HasCleanDisk (state g.S.Store c.create.new.conn) = omega (arith, c.in-Some.ensures.clean) in
+    let second : HasCleanDisk (state g.S.Store c.create.new.conn) = omega (arith, c.in_ok-conn.ensures.clean) in
     let still = (c.in_ok-create.ensures.stays second has).0 in
-    let same = c.in-Some.ensures.same third in
+    let same = c.in_ok-conn.ensures.same third in
     let trees : new.now.trees ≡ old.now.trees = same.0 ∙ ap (λ (d : Database). d.trees) (still.committed_is ∙ sym settled) in
     let listed : IsSound kept_schema old.now.trees = subst (λ s. IsSound s old.now.trees) has (c.schema.ensures.live still.was_open).0 in
     let sound : IsSound kept_schema new.now.trees = subst (IsSound kept_schema) (sym trees) listed in

@@ -1,8 +1,9 @@
-use Rattle.std.proofs.Common.{arith, rules}
+use Rattle.std.proofs.Common.{arith, rules, ◌≡◌, ◌∙◌, sym}
 use Rattle.grid_exact.proofs.Extending.{Extends-same}
 use Rattle.line_session.proofs.SessionFacts.{underway_on, underway_end, fell_more}
 use Rattle.line_session.proofs.WaitingFacts.{underway_moved, grown_moved, begun_moved, underway_sent, sent_whole}
-use Rattle.line_session.proofs.EndingFacts.{written_err, written_end}
+use Rattle.line_session.proofs.EndingFacts.{completes, failed_read, no_write, not_read, rose_since, written_err, written_end}
+use Rattle.oe_http.specs.declared.lines.ReadError.TheVariants as errors
 use Rattle.line_session.proofs.session.records.Goals as goal
 
 pub returns-in-Err-clause-begun : goal.returns-in-Err-clause-begun
@@ -54,3 +55,18 @@ returns-in-Err-next_reply-clause-written g c =
     (λ f. underway_sent g.A.Answering.step _ _ _ _ _ _ _ _ u
     (sent_whole _ _ _ _ _ _ _ c.in-Err-next_reply.ensures.replies.0 c.as_bytes-in-Err-next_reply.ensures.value (search rules) (c.end-in-Err-next_reply.ensures.all f)))
     c.in-Err-next_reply.ensures.replies.1 (rw c.ended_by.ensures.ended at c.end-in-Err-next_reply.ensures.other)
+
+pub returns-in-Err-clause-complete : goal.returns-in-Err-clause-complete
+returns-in-Err-clause-complete g c = completes _ _ _ _ _ (λ e. absurd (cc)) (λ e. rose_since _ _ _ c.lines.invariant.write_later c.in-Err.ensures.cause.failed)
+
+pub returns-in-Ok-false-clause-complete : goal.returns-in-Ok-false-clause-complete
+returns-in-Ok-false-clause-complete g c =
+    completes _ _ _ _ _ (λ e. absurd (not_read _ c.end.ensures.other e))
+    (λ e. rose_since _ _ _ c.lines.invariant.write_later (rose_since _ _ _ c.in-Ok.ensures.cause.later (c.end.ensures.write e (λ f. absurd (cc)))))
+
+pub returns-in-Err-next_reply-clause-complete : goal.returns-in-Err-next_reply-clause-complete
+returns-in-Err-next_reply-clause-complete g c =
+    let other = rw c.ended_by.ensures.ended at c.end-in-Err-next_reply.ensures.other in
+    completes _ _ _ _ _
+    (λ e. let failed : c.in-Err-next_reply.error ≡ errors.Failed = failed_read c.in-Err-next_reply.error _ other e in rose_since _ _ _ c.lines.invariant.read_later (c.in-Err-next_reply.ensures.reads.failed (cc)))
+    (λ e. rose_since _ _ _ c.lines.invariant.write_later (rose_since _ _ _ c.in-Ok.ensures.cause.later (c.end-in-Err-next_reply.ensures.write e (λ f. no_write c.in-Err-next_reply.error (sym c.ended_by.ensures.ended ∙ f)))))

@@ -9,4 +9,4 @@ pub returns-in_err-course-clause-none : goal.returns-in_err-course-clause-none
 returns-in_err-course-clause-none c = if_none c.from_residual-in_err-course.result (λ r last rest h s e. c.in_err-course.ensures.none r.ordinary r.pending r.affirmed _ h.ordinary h.affirmed (ap (drop 3) (sym c.in_ok-issue.ensures.took ∙ e)))
 
 pub returns-in_err-extended-clause-none : goal.returns-in_err-extended-clause-none
-returns-in_err-extended-clause-none c = if_none c.from_residual-in_err-extended.result (λ r last rest h s e. c.in_err-extended.ensures.none r.set_expiry r.extensions _ h.set_expiry h.extensions (ap (drop 3) (sym c.in_ok-course.ensures.took ∙ (ap (drop 3) (sym c.in_ok-issue.ensures.took ∙ e)))))
+returns-in_err-extended-clause-none c = if_none c.from_residual-in_err-extended.result (λ r last rest h s e. c.in_err-extended.ensures.none r.set_expiry r.extensions r.revisions _ h.set_expiry h.extensions h.revisions (ap (drop 3) (sym c.in_ok-course.ensures.took ∙ (ap (drop 3) (sym c.in_ok-issue.ensures.took ∙ e)))))

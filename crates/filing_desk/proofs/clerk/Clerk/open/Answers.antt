@@ -1,7 +1,7 @@
-use Rattle.std.proofs.Common.{option_copied, subst, Err, ◌≡◌}
+use Rattle.std.proofs.Common.{List, option_copied, subst, Err, ◌≡◌}
 use Rattle.oe_keeper.specs.Keeping.{IfFailed, Rose}
+use Rattle.oe_keeper.specs.declared.change.RowChange.{RowChange}
 use Rattle.oe_keeper.specs.declared.keeper.KeepErr.{KeepErr}
-use Rattle.desk_tables.specs.Opening.{is_older}
 use Rattle.filing_desk.specs.Loads.{HasRenewed}
 use Rattle.filing_desk.proofs.Deciding.{opened_now}
 use Rattle.filing_desk.proofs.Opened.{bad_found, later_twice, not_renewed, told_renewed}
@@ -14,7 +14,7 @@ invariant_of-result g c =
     let kept = c.in-Ok.tables in
     let between = c.load.new.self in
     let after = c.renew.new.keeper in
-    let renewed = subst (λ b. HasRenewed h.Tells b between after) c.in-Ok-office_of.ensures.older c.in-Ok-renew.ensures.renewed in
+    let renewed = subst (λ (changes : List RowChange). HasRenewed h.Tells changes between after) c.in-Ok-office_of.ensures.renewal c.in-Ok-renew.ensures.renewed in
     let begun = opened_now opened.office c.accepted-base.result after c.accepted-base.ensures.value in
     record {
       within = begun.0;
@@ -35,7 +35,7 @@ returns-in-Ok-renew-clause-opened g c =
       kept = c.in-Ok.tables;
       between = between;
       loaded = record { found = h.found; told = h.rows; stays = h.stays };
-      renewed = subst (λ b. HasRenewed k.Tells b between after) c.in-Ok-office_of.ensures.older c.in-Ok-renew.ensures.renewed;
+      renewed = subst (λ (changes : List RowChange). HasRenewed k.Tells changes between after) c.in-Ok-office_of.ensures.renewal c.in-Ok-renew.ensures.renewed;
       later = later_twice k.Tells k.Finds k.IsSteady k.faults c.args.keeper (option_copied c.args.place) between after
           (record { steady = h.steady; counted = h.cause.later }) c.in-Ok-renew.ensures.later;
       opens = c.in-Ok-office_of.ensures.opened;

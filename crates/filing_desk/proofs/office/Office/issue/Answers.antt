@@ -4,21 +4,21 @@ use Rattle.review_marks.specs.Books.{rows_after_close, rows_after_commit}
 use Rattle.review_marks.specs.declared.change.MarkChange.{MarkChange}
 use Rattle.review_marks.specs.declared.row.Row.{Row}
 use Rattle.desk_machine.specs.States.{State, case_at, state_after_step, with_entry}
-use Rattle.desk_machine.specs.Marks.{comparison_row, stands_in}
-use Rattle.filing_desk.proofs.MarksAfter.{AreKept, kept_issued}
+use Rattle.desk_machine.specs.Marks.{stands_in}
+use Rattle.filing_desk.proofs.MarksAfter.{AreKept, issued_row, kept_issued}
 use Rattle.filing_desk.proofs.office.Office.issue.Goals as goal
 
 pub invariant_of-self-2 : goal.invariant_of-self-2
 invariant_of-self-2 g c =
     let begun = with_entry c.args.accepted.entry c.self.inside.desk in
-    let step = steps.Issued c.args.number c.args.life c.args.list in
-    let there = c.in-Some.case.now in
+    let step = steps.Issued c.args.number c.args.filing.now c.args.life c.args.list in
+    let there = c.in-Some.field-0.now in
     let rows = c.issued_mark.new.marks in
-    let row : Row = comparison_row c.self.inside.desk there c.args.list in
+    let row : Row = issued_row c.self.inside.desk c.args.filing.now c.args.list in
     let put = slice_set rows (c.args.number - 1) (Some row) in
     let at : c.issue.new.self ≡ state_after_step step begun = c.issue.ensures ∙ ap (state_after_step step) c.in_ok-keep.ensures.done in
     let found : case_at c.self.inside.desk.cases c.args.number ≡ Some there = sym c.in-Some.ensures.value in
-    let kept = kept_issued begun c.args.number c.args.life c.args.list there c.self.inside.marks rows found c.in-Ok.ensures.same c.in-Ok.ensures.room c.self.invariant in
+    let kept = kept_issued begun c.args.number c.args.filing.now c.args.life c.args.list there c.self.inside.marks rows found c.in-Ok.ensures.same c.in-Ok.ensures.room c.self.invariant in
     let done = subst (λ (s : State). AreKept s (cond (stands_in s c.args.number) put (rows_after_close c.args.number put))) (sym at) kept in
     let made : c.commit.new.self ≡ put = c.commit.ensures ∙ ap (λ (m : MarkChange). rows_after_commit m rows) c.in-Ok.ensures.change in
     subst (λ (new : List (Option Row)). AreKept c.issue.new.self new)
@@ -27,7 +27,7 @@ invariant_of-self-2 g c =
 pub returns : goal.returns
 returns g c =
     let begun = with_entry c.args.accepted.entry c.self.inside.desk in
-    let step = steps.Issued c.args.number c.args.life c.args.list in
+    let step = steps.Issued c.args.number c.args.filing.now c.args.life c.args.list in
     let at : c.issue.new.self ≡ state_after_step step begun = c.issue.ensures ∙ ap (state_after_step step) c.in_ok-keep.ensures.done in
     let h = c.in_ok-keep.ensures.handed in
     record {
