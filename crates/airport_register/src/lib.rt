@@ -15,5 +15,5 @@ pub use airfields::{
     RunwayEnd, RunwayName, Runways, StructureKind,
 };
 pub use amendment::{AmendRefusal, Amendment, Changed};
-pub use laws::{other_airfields_stay, same_amendment};
+pub use laws::{most_airfields, other_airfields_stay, same_amendment};
 pub use register::{MOST_AIRFIELDS, Register};

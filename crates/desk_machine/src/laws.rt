@@ -10,6 +10,13 @@ ghost use Rattle.desk_machine.specs.States.{State, entry_of};
 ghost use Rattle.desk_machine.specs.Evaluations.{Given};
 ghost use Rattle.desk_machine.specs.Machine.{Done, Kept, No, decide, state_after, decide_again, replay, entries_of_answer};
 
+use crate::entry::MOST_CASES;
+
+/// A lemma, never run: the greatest number of cases, as a numeral.
+pub fn most_cases()
+    ensures { MOST_CASES ≡ 300_000 }
+{}
+
 /// Deciding an entry's request again, with what its outcome records, gives the same entry; so a state that is the replay of its entries
 /// stays so after every request.
 pub fn replays()

@@ -8,4 +8,4 @@ mod entry;
 mod laws;
 
 pub use entry::{Entry, MOST_CASES};
-pub use laws::{repeats, replays};
+pub use laws::{most_cases, repeats, replays};

@@ -5,6 +5,7 @@ ghost use Rattle.oe_keeper.specs.declared.change.Table.{Table};
 ghost use Rattle.desk_machine.specs.States.{empty};
 ghost use Rattle.line_session.specs.Session.{Unfailed};
 ghost use Rattle.command_words.specs.Commands.{AskFor, IsCommand};
+ghost use Rattle.oe_commands.specs.Commands.{AsksForGate};
 ghost use Rattle.oe_commands.specs.Runs.{IsComplete, PlainRun};
 ghost use Rattle.oe_commands.specs.declared.status.Status.TheVariants as statuses;
 
@@ -33,7 +34,7 @@ pub fn run_unkept<R: Threads + Wait + Sync, S: Source, O: Sink, G: Gate>(
         (O.held output.new) }
     ensures fault { result ≢ Status.KeeperFault }
     ensures bad_row { (table : Table) (key : List ℕ) → result ≢ statuses.BadRow table key }
-    ensures complete { IsCommand words.now → G.IsSteady gate.old
+    ensures complete { IsCommand words.now → (AsksForGate words.now → G.IsSteady gate.old)
         → Unfailed (S.faults input.old) (S.faults input.new)
         (O.faults output.old) (O.faults output.new)
         → IsComplete result }

@@ -10,7 +10,7 @@ ghost use Rattle.line_desk.specs.Desk.{Serving, StepOver, serving};
 ghost use Rattle.desk_machine.specs.States.{last_number};
 ghost use Rattle.site_questions.specs.Questions.{QuestionSession};
 ghost use Rattle.command_words.specs.Commands.{AskFor, AsksToServe, IsCommand, IsGenerate};
-ghost use Rattle.oe_commands.specs.Commands.{AskToOpen, TellsUsage};
+ghost use Rattle.oe_commands.specs.Commands.{AskToOpen, AsksForGate, TellsUsage};
 ghost use Rattle.oe_commands.specs.Generating.{GenerateWrites, IsGenerateEnd};
 ghost use Rattle.oe_commands.specs.Runs.{HasGoodRows, IsSessionEnd, IsUnopened, IsUntouched, IsComplete, PlainRun, RunCauses, RunOver, Served, ServedLinks};
 ghost use Rattle.oe_http.specs.Causes.{Rose};
@@ -244,9 +244,10 @@ pub fn run<R: Threads + Wait + Sync, S: Source, O: Sink, K: Keeper + Drop + Send
     // A fault is reported only where that stream's count of faults rose.
     ensures causes { RunCauses result (S.left input.old) (S.left input.new)
         (S.faults input.old) (S.faults input.new) (O.faults output.old) (O.faults output.new) }
-    // A command over a keeper and a gate that never fail, over good rows, and over streams that did not fail is done, or has taken 2^40 bytes, or
-    // memory ran out.
-    ensures complete { IsCommand words.now → K.IsSteady keeper → G.IsSteady gate.old
+    // A command over a keeper that never fails, a gate that never fails where it asks for one, good rows, and streams that did not fail is done,
+    // or has taken 2^40 bytes, or memory ran out.
+    ensures complete { IsCommand words.now → K.IsSteady keeper
+        → (AsksForGate words.now → G.IsSteady gate.old)
         → HasGoodRows K.Finds keeper words.now
         → Unfailed (S.faults input.old) (S.faults input.new)
         (O.faults output.old) (O.faults output.new)

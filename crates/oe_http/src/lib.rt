@@ -2,6 +2,7 @@
 #![tactic(auto)]
 
 mod fakes;
+mod laws;
 mod lines;
 mod link;
 mod standard;
@@ -9,6 +10,7 @@ mod stream;
 mod whole;
 
 pub use fakes::{FakeSink, FakeSource};
+pub use laws::input_limit;
 pub use lines::{BLOCK_SIZE, INPUT_LIMIT, LineReader, Next, ReadError};
 pub use link::FakeLink;
 pub use standard::{ReadSource, WriteSink};

@@ -8,7 +8,7 @@ use Rattle.grid_exact.specs.declared.area.Area.{Area}
 use Rattle.grid_exact.specs.declared.point.Point.{Point}
 use Rattle.surface_tree.specs.declared.placed.Plot.{Plot}
 use Rattle.surface_tree.specs.Levels.{side_of, level_of, level_up_to, greater, IsPlaced}
-use Rattle.surface_tree.specs.Squares.{meets, overlaps, in_cell, in_reach, IsIn}
+use Rattle.surface_tree.specs.Squares.{meets, overlaps, in_cell, in_below, IsIn}
 use Rattle.surface_tree.specs.Visits.{near_middle, near_area, close_side, close_area, hit_at}
 use Rattle.surface_tree.proofs.Sides.{level-side}
 
@@ -25,11 +25,11 @@ pub eq_lt : (l k n : ℕ) → k < n → nat_eq l k ≡ true → nat_lt l n ≡ t
 eq_lt l k n h e = grind (arith, h, e)
 
 -- no plot outside the reach of a square has a point there
-pub hit_reach : (j k : ℕ) (w s : ℤ) (a : Plot) (p : Point) → j ≤ k → IsIn k w s p → in_reach k w s a ≡ false → hit_at p j a ≡ false
-hit_reach j k w s a p l i n =
+pub hit_below : (j n k : ℕ) (w s : ℤ) (a : Plot) (p : Point) → j < n → IsIn k w s p → in_below n k w s a ≡ false → hit_at p j a ≡ false
+hit_below j n k w s a p l i y =
     false_from_ne_true _ (λ h.
     let t = and_parts (nat_eq a.level j) (has_point a.area p) h in
-    let r : in_reach k w s a ≡ true = and_from _ _ (eq_lt a.level j (k + 1) (omega arith) t.0) (has_overlaps k w s a.area p i t.1) in
+    let r : in_below n k w s a ≡ true = and_from _ _ (eq_lt a.level j n l t.0) (has_overlaps k w s a.area p i t.1) in
     cc)
 
 pub and_true_right : (b : Bool) → (b && true) ≡ b

@@ -1,5 +1,5 @@
 -- A part of the tree that a change does not reach.
-use Rattle.std.proofs.Common.{◌≡◌, ℕ, ◌+◌, ◌-◌, ◌<◌, ℤ, pos, ◌+ℤ◌, ◌≤ℤ◌, List, Option, true, false, sym, ◌∙◌, arith, nat_eq}
+use Rattle.std.proofs.Common.{◌≡◌, ℕ, ◌+◌, ◌-◌, ◌<◌, ◌≤◌, ℤ, pos, ◌+ℤ◌, ◌≤ℤ◌, List, [], Option, true, false, sym, ◌∙◌, arith, nat_eq}
 use Rattle.std.specs.Prelude.{nat_lt}
 use Rattle.std.specs.Cmp.{IsTotalOrder}
 use Rattle.std.specs.declared.cmp.Ordering.{Ordering}
@@ -7,14 +7,14 @@ use Rattle.std.proofs.lemmas.Bool.{and_parts, and_from, and_left, false_from_ne_
 use Rattle.std.proofs.lemmas.Int.{ints}
 use Rattle.surface_tree.specs.declared.entry.Entry.{Entry}
 use Rattle.surface_tree.specs.declared.part.Part.{Part}
-use Rattle.surface_tree.specs.declared.part.Part.TheVariants.{Bare, Cell'}
+use Rattle.surface_tree.specs.declared.part.Part.TheVariants.{Bare, Quartered', Own'}
 use Rattle.surface_tree.specs.declared.placed.Plot.{Plot}
 use Rattle.surface_tree.specs.Levels.{side_of}
-use Rattle.surface_tree.specs.Squares.{meets, overlaps, in_cell, in_reach}
+use Rattle.surface_tree.specs.Squares.{meets, overlaps, in_cell, in_below, in_reach}
 use Rattle.surface_tree.specs.Changes.{edited_by, Fits, LiesIn}
 use Rattle.surface_tree.specs.Parts.{Holds, HoldsOwn}
 use Rattle.surface_tree.proofs.Sides.{side-pred}
-use Rattle.surface_tree.proofs.Boxes.{eq_lt, lt_more}
+use Rattle.surface_tree.proofs.Boxes.{eq_lt}
 use Rattle.surface_tree.proofs.Edits.{filter_fits_out, none_fits}
 
 -- what meets a half meets the whole
@@ -24,10 +24,10 @@ first_meets low half side from to e m = grind (arith, ints, e, m)
 second_meets : (low : ℤ) (half side : ℕ) (from to : ℤ) → side ≡ half + half → meets (low +ℤ pos half) half from to ≡ true → meets low side from to ≡ true
 second_meets low half side from to e m = grind (arith, ints, e, m)
 
-less_one : (l k : ℕ) → 0 < k → nat_lt l (k - 1 + 1) ≡ true → nat_lt l (k + 1) ≡ true
-less_one l k p h = let e : k - 1 + 1 ≡ k = omega arith in let h' = rw e at h in lt_more l k h'
+less_one : (l k m : ℕ) → 0 < k → k ≤ m → nat_lt l (k - 1 + 1) ≡ true → nat_lt l m ≡ true
+less_one l k m p b h = grind (arith, p, b, h)
 
-module _ (k : ℕ) (w s : ℤ) (a : Plot) (l : 0 < k) (n : in_reach k w s a ≡ false) where
+module _ (m k : ℕ) (w s : ℤ) (a : Plot) (b : k ≤ m) (l : 0 < k) (n : in_below m k w s a ≡ false) where
   e : side_of k ≡ side_of (k - 1) + side_of (k - 1)
   e = side-pred k l
 
@@ -37,7 +37,7 @@ module _ (k : ℕ) (w s : ℤ) (a : Plot) (l : 0 < k) (n : in_reach k w s a ≡ 
       false_from_ne_true _ (λ h.
       let t = and_parts (nat_lt a.level (k - 1 + 1)) (overlaps (k - 1) w s a.area) h in
       let o = and_parts (meets w (side_of (k - 1)) a.area.x0 a.area.x1) (meets s (side_of (k - 1)) a.area.y0 a.area.y1) t.1 in
-      let r : in_reach k w s a ≡ true = and_from _ _ (less_one a.level k l t.0) (and_from _ _ (first_meets w _ _ a.area.x0 a.area.x1 e o.0) (first_meets s _ _ a.area.y0 a.area.y1 e o.1)) in
+      let r : in_below m k w s a ≡ true = and_from _ _ (less_one a.level k m l b t.0) (and_from _ _ (first_meets w _ _ a.area.x0 a.area.x1 e o.0) (first_meets s _ _ a.area.y0 a.area.y1 e o.1)) in
       cc)
 
   pub past_south_east : in_reach (k - 1) (w +ℤ pos (side_of (k - 1))) s a ≡ false
@@ -45,7 +45,7 @@ module _ (k : ℕ) (w s : ℤ) (a : Plot) (l : 0 < k) (n : in_reach k w s a ≡ 
       false_from_ne_true _ (λ h.
       let t = and_parts (nat_lt a.level (k - 1 + 1)) (overlaps (k - 1) (w +ℤ pos (side_of (k - 1))) s a.area) h in
       let o = and_parts (meets (w +ℤ pos (side_of (k - 1))) (side_of (k - 1)) a.area.x0 a.area.x1) (meets s (side_of (k - 1)) a.area.y0 a.area.y1) t.1 in
-      let r : in_reach k w s a ≡ true = and_from _ _ (less_one a.level k l t.0) (and_from _ _ (second_meets w _ _ a.area.x0 a.area.x1 e o.0) (first_meets s _ _ a.area.y0 a.area.y1 e o.1)) in
+      let r : in_below m k w s a ≡ true = and_from _ _ (less_one a.level k m l b t.0) (and_from _ _ (second_meets w _ _ a.area.x0 a.area.x1 e o.0) (first_meets s _ _ a.area.y0 a.area.y1 e o.1)) in
       cc)
 
   pub past_north_west : in_reach (k - 1) w (s +ℤ pos (side_of (k - 1))) a ≡ false
@@ -53,7 +53,7 @@ module _ (k : ℕ) (w s : ℤ) (a : Plot) (l : 0 < k) (n : in_reach k w s a ≡ 
       false_from_ne_true _ (λ h.
       let t = and_parts (nat_lt a.level (k - 1 + 1)) (overlaps (k - 1) w (s +ℤ pos (side_of (k - 1))) a.area) h in
       let o = and_parts (meets w (side_of (k - 1)) a.area.x0 a.area.x1) (meets (s +ℤ pos (side_of (k - 1))) (side_of (k - 1)) a.area.y0 a.area.y1) t.1 in
-      let r : in_reach k w s a ≡ true = and_from _ _ (less_one a.level k l t.0) (and_from _ _ (first_meets w _ _ a.area.x0 a.area.x1 e o.0) (second_meets s _ _ a.area.y0 a.area.y1 e o.1)) in
+      let r : in_below m k w s a ≡ true = and_from _ _ (less_one a.level k m l b t.0) (and_from _ _ (first_meets w _ _ a.area.x0 a.area.x1 e o.0) (second_meets s _ _ a.area.y0 a.area.y1 e o.1)) in
       cc)
 
   pub past_north_east : in_reach (k - 1) (w +ℤ pos (side_of (k - 1))) (s +ℤ pos (side_of (k - 1))) a ≡ false
@@ -61,15 +61,23 @@ module _ (k : ℕ) (w s : ℤ) (a : Plot) (l : 0 < k) (n : in_reach k w s a ≡ 
       false_from_ne_true _ (λ h.
       let t = and_parts (nat_lt a.level (k - 1 + 1)) (overlaps (k - 1) (w +ℤ pos (side_of (k - 1))) (s +ℤ pos (side_of (k - 1))) a.area) h in
       let o = and_parts (meets (w +ℤ pos (side_of (k - 1))) (side_of (k - 1)) a.area.x0 a.area.x1) (meets (s +ℤ pos (side_of (k - 1))) (side_of (k - 1)) a.area.y0 a.area.y1) t.1 in
-      let r : in_reach k w s a ≡ true = and_from _ _ (less_one a.level k l t.0) (and_from _ _ (second_meets w _ _ a.area.x0 a.area.x1 e o.0) (second_meets s _ _ a.area.y0 a.area.y1 e o.1)) in
+      let r : in_below m k w s a ≡ true = and_from _ _ (less_one a.level k m l b t.0) (and_from _ _ (second_meets w _ _ a.area.x0 a.area.x1 e o.0) (second_meets s _ _ a.area.y0 a.area.y1 e o.1)) in
       cc)
 
 -- a plot that no part of a square reaches does not stand in it
-pub cell_reach : (k : ℕ) (w s : ℤ) (a : Plot) → in_reach k w s a ≡ false → in_cell k w s a ≡ false
-cell_reach k w s a n =
+pub cell_below : (m k : ℕ) (w s : ℤ) (a : Plot) → k < m → in_below m k w s a ≡ false → in_cell k w s a ≡ false
+cell_below m k w s a b n =
     false_from_ne_true _ (λ h.
     let t = and_parts (nat_eq a.level k) (overlaps k w s a.area) h in
-    let r : in_reach k w s a ≡ true = and_from _ _ (eq_lt a.level k (k + 1) (omega arith) t.0) t.1 in
+    let r : in_below m k w s a ≡ true = and_from _ _ (eq_lt a.level k m b t.0) t.1 in
+    cc)
+
+pub rest_below : (m k : ℕ) (w s : ℤ) (a : Plot) → k ≤ m → in_below m k w s a ≡ false → in_below k k w s a ≡ false
+rest_below m k w s a b n =
+    false_from_ne_true _ (λ h.
+    let t = and_parts (nat_lt a.level k) (overlaps k w s a.area) h in
+    let u = t.0 in
+    let r : in_below m k w s a ≡ true = and_from _ _ (grind (arith, b, u)) t.1 in
     cc)
 
 -- a square that does not hold a plot holds none that lies in it
@@ -86,11 +94,10 @@ cell_lies k w s inner outer l n =
     cc)
 
 -- nor does it stand in a part of the square of its own level
-pub level_reach : (k : ℕ) (w s : ℤ) (a : Plot) → 0 < k → a.level ≡ k → in_reach (k - 1) w s a ≡ false
-level_reach k w s a l e =
-    let x : k - 1 + 1 ≡ k = omega arith in
-    let n : nat_lt a.level (k - 1 + 1) ≡ false = rw (x, e) (grind arith) in
-    and_left (nat_lt a.level (k - 1 + 1)) (overlaps (k - 1) w s a.area) n
+pub level_below : (k : ℕ) (w s : ℤ) (a : Plot) → a.level ≡ k → in_below k k w s a ≡ false
+level_below k w s a e =
+    let n : nat_lt a.level k ≡ false = grind (arith, e) in
+    and_left (nat_lt a.level k) (overlaps k w s a.area) n
 
 -- nor in a larger square
 pub larger_cell : (k : ℕ) (w s : ℤ) (a : Plot) → a.level < k → in_cell k w s a ≡ false
@@ -104,14 +111,15 @@ module _ {T K : Type 0} (cmp : K → K → Ordering) (total : IsTotalOrder cmp) 
   own_past k w s es n h = record { boxes = h.boxes; items = h.items ∙ sym (filter_fits_out cmp total key plot i a (in_cell k w s) item value n (λ b l. cell_lies k w s b a l n) f) }
 
   -- a part that the change does not reach
-  pub Holds_past : (k : ℕ) (w s : ℤ) (q : Part T) → in_reach k w s a ≡ false → Holds plot value k w s q → Holds plot (edited_by cmp key i item value) k w s q
-  Holds_past k w s Bare n h = none_fits cmp total key plot i a (in_reach k w s) item value n f h
-  Holds_past k w s (Cell' p es sw se nw ne) n h = (
-    own_past k w s es.items (cell_reach k w s a n) h.0,
-    λ l. (let t = h.1 l in (
-      Holds_past (k - 1) w s sw (past_south_west k w s a l n) t.0,
-      Holds_past (k - 1) (w +ℤ pos (side_of (k - 1))) s se (past_south_east k w s a l n) t.1,
-      Holds_past (k - 1) w (s +ℤ pos (side_of (k - 1))) nw (past_north_west k w s a l n) t.2,
-      Holds_past (k - 1) (w +ℤ pos (side_of (k - 1))) (s +ℤ pos (side_of (k - 1))) ne (past_north_east k w s a l n) t.3,
+  pub Holds_past : (n k : ℕ) (w s : ℤ) (q : Part T) → k ≤ n → in_below n k w s a ≡ false → Holds plot value n k w s q → Holds plot (edited_by cmp key i item value) n k w s q
+  Holds_past n k w s Bare b y h = none_fits cmp total key plot i a (in_below n k w s) item value y f h
+  Holds_past n k w s (Quartered' p sw q se r nw t ne) b y h = (
+    λ l. own_past k w s [] (cell_below n k w s a l y) (h.0 l),
+    λ l. (let d : k - 1 ≤ k - 1 + 1 = omega arith in let u = h.1 l in (
+      Holds_past (k - 1 + 1) (k - 1) w s sw d (past_south_west n k w s a b l y) u.0,
+      Holds_past (k - 1 + 1) (k - 1) (w +ℤ pos (side_of (k - 1))) s se d (past_south_east n k w s a b l y) u.1,
+      Holds_past (k - 1 + 1) (k - 1) w (s +ℤ pos (side_of (k - 1))) nw d (past_north_west n k w s a b l y) u.2,
+      Holds_past (k - 1 + 1) (k - 1) (w +ℤ pos (side_of (k - 1))) (s +ℤ pos (side_of (k - 1))) ne d (past_north_east n k w s a b l y) u.3,
     )),
   )
+  Holds_past n k w s (Own' es p rest) b y h = (h.0, own_past k w s es.items (cell_below n k w s a h.0 y) h.1, Holds_past k k w s rest (omega arith) (rest_below n k w s a b y) h.2)

@@ -1,5 +1,5 @@
 -- What a visit of a square gives, and how many items it looks at.
-use Rattle.std.proofs.Common.{◌≡◌, ℕ, zero, suc, ◌+◌, ◌-◌, ◌<◌, ◌≤◌, ℤ, pos, ◌+ℤ◌, List, [], ◌∷◌, ◌++◌, map, length, Bool, true, false, ◌&&◌, ◌∙◌, ap, refl, arith, inl, inr, cond, count_by}
+use Rattle.std.proofs.Common.{◌≡◌, ℕ, zero, suc, ◌+◌, ◌-◌, ◌<◌, ◌≤◌, ℤ, pos, ◌+ℤ◌, List, [], ◌∷◌, ◌++◌, map, length, Bool, true, false, ◌&&◌, ◌∙◌, ap, refl, sym, arith, inl, inr, cond}
 use Rattle.std.specs.Prelude.{int_le, nat_lt}
 use Rattle.std.specs.List.{All, filter}
 use Rattle.std.proofs.lemmas.Bool.{cases_Bool}
@@ -14,11 +14,11 @@ use Rattle.surface_tree.specs.declared.entry.Entry.{Entry}
 use Rattle.surface_tree.specs.declared.placed.Plot.{Plot}
 use Rattle.surface_tree.specs.Levels.{side_of}
 use Rattle.surface_tree.specs.Squares.{in_cell, IsIn}
-use Rattle.surface_tree.specs.Visits.{close_area, hit_at, hits, count_of_looks}
+use Rattle.surface_tree.specs.Visits.{close_area, hit_at, hits, count_below, count_of_looks}
 use Rattle.outline_boxes.specs.Bounds.{box_of}
 use Rattle.surface_tree.specs.Parts.{item_of, IsEntry, HoldsOwn, HoldsNone}
 use Rattle.surface_tree.proofs.Sides.{side-pred}
-use Rattle.surface_tree.proofs.Boxes.{hit_reach, own_hit, test_once}
+use Rattle.surface_tree.proofs.Boxes.{hit_below, own_hit, test_once}
 
 -- where no item passes, none is left
 pub filter_none : {X : Type 0} (p : X → Bool) (xs : List X) → All (λ x. p x ≡ false) xs → filter p xs ≡ []
@@ -54,10 +54,15 @@ filter_items plot p (e ∷ es) h =
 
 module _ {T : Type 0} (plot : T → Plot) (value : List T) (w s : ℤ) (p : Point) where
   -- no item of a bare square has a point of it
-  pub bare_none : (j k : ℕ) → j ≤ k → IsIn k w s p → HoldsNone plot value k w s → hits plot p j value ≡ []
-  bare_none zero k l i h = filter_none _ value (λ n d b. hit_reach zero k w s _ p l i (h n d b))
-  bare_none (suc j) k l i h =
-      rw (bare_none j k (omega arith) i h) (append-nil _ ∙ filter_none (λ x. hit_at p (suc j) (plot x)) value (λ n d b. hit_reach (suc j) k w s _ p l i (h n d b)))
+  pub bare_none : (j n k : ℕ) → j < n → IsIn k w s p → HoldsNone plot value n k w s → hits plot p j value ≡ []
+  bare_none zero n k l i h = filter_none _ value (λ m d b. hit_below zero n k w s _ p l i (h m d b))
+  bare_none (suc j) n k l i h =
+      rw (bare_none j n k (omega arith) i h) (append-nil _ ∙ filter_none (λ x. hit_at p (suc j) (plot x)) value (λ m d b. hit_below (suc j) n k w s _ p l i (h m d b)))
+
+  -- nor has one of its parts
+  pub bare_rest : (k : ℕ) (xs : List T) → IsIn k w s p → HoldsNone plot value k k w s → xs ++ filter (λ i. hit_at p k (plot i)) value ≡ xs ++ hits plot p k value
+  bare_rest zero xs i h = refl
+  bare_rest (suc k) xs i h = rw (bare_none k (suc k) (suc k) (omega arith) i h) (ap (λ zs. xs ++ zs) (sym (append-nil _)))
 
   -- what a square's own entries give
   pub own_seen : (k : ℕ) (es : List (Entry T)) → IsIn k w s p → HoldsOwn plot value k w s es → map item_of (filter (λ e. has_point (box_of e.bounds) p) es) ≡ filter (λ i. hit_at p k (plot i)) value
@@ -66,9 +71,9 @@ module _ {T : Type 0} (plot : T → Plot) (value : List T) (w s : ℤ) (p : Poin
       ∙ ap (filter (λ i. has_point (plot i).area p)) h.items
       ∙ filter_twice (λ x. has_point (plot x).area p) (λ x. in_cell k w s (plot x)) (λ x. hit_at p k (plot x)) (λ x. own_hit k w s (plot x) p i) value
 
-  pub hits_least : (k : ℕ) → k ≡ 0 → hits plot p k value ≡ filter (λ i. hit_at p k (plot i)) value
-  hits_least zero e = refl
-  hits_least (suc k) e = absurd (omega arith)
+  -- a square without entries gives nothing
+  pub none_seen : (k : ℕ) (xs : List T) → IsIn k w s p → HoldsOwn plot value k w s [] → xs ++ filter (λ i. hit_at p k (plot i)) value ≡ xs
+  none_seen k xs i h = rw (← own_seen k [] i h) (append-nil xs)
 
   pub hits_more : (k : ℕ) (xs : List T) → 0 < k → (xs ++ filter (λ i. hit_at p k (plot i)) value) ++ hits plot p (k - 1) value ≡ xs ++ hits plot p k value
   hits_more zero xs l = absurd (omega arith)
@@ -78,7 +83,7 @@ module _ {T : Type 0} (plot : T → Plot) (value : List T) (w s : ℤ) (p : Poin
   own_number : (k : ℕ) (es : List (Entry T)) → HoldsOwn plot value k w s es → length es ≡ length (filter (λ i. in_cell k w s (plot i)) value)
   own_number k es h = let e : length (map item_of es) ≡ length (filter (λ i. in_cell k w s (plot i)) value) = ap length h.items in rw length-map at e
 
-  pub own_looks : (k : ℕ) (es : List (Entry T)) → IsIn k w s p → HoldsOwn plot value k w s es → length es + count_by (λ i. nat_lt (plot i).level k && close_area p (plot i)) value ≤ count_of_looks plot p k value
+  pub own_looks : (k : ℕ) (es : List (Entry T)) → IsIn k w s p → HoldsOwn plot value k w s es → length es + count_below plot p k value ≤ count_of_looks plot p k value
   own_looks k es i h =
       let A : T → Bool = λ x. in_cell k w s (plot x) in
       let B : T → Bool = λ x. nat_lt (plot x).level k && close_area p (plot x) in
@@ -101,15 +106,9 @@ module _ {T : Type 0} (plot : T → Plot) (value : List T) (w s : ℤ) (p : Poin
             ]
           ]
 
-  -- a visit of a square whose level is above 0
-  pub cost_more : (k : ℕ) (es : List (Entry T)) (old mid new : ℕ) → 0 < k → IsIn k w s p → HoldsOwn plot value k w s es → mid ≡ old + 1 + length es → new ≤ mid + (k - 1 + 1) + count_of_looks plot p (k - 1) value → new ≤ old + (k + 1) + count_of_looks plot p k value
-  cost_more k es old mid new l i h m n =
-      let e : k - 1 + 1 ≡ k = omega arith in
-      let n' = rw e at n in
-      omega (arith, l, m, n', own_looks k es i h)
-
-  pub cost_least : (k : ℕ) (es : List (Entry T)) (old new : ℕ) → IsIn k w s p → HoldsOwn plot value k w s es → new ≡ old + 1 + length es → new ≤ old + (k + 1) + count_of_looks plot p k value
-  cost_least k es old new i h m = omega (arith, m, own_looks k es i h)
+  -- a visit of a square and of its quarters
+  pub cost_own : (k : ℕ) (es : List (Entry T)) (old mid new : ℕ) → IsIn k w s p → HoldsOwn plot value k w s es → mid ≡ old + 1 + length es → new ≤ mid + k + count_below plot p k value → new ≤ old + (k + 1) + count_of_looks plot p k value
+  cost_own k es old mid new i h m n = omega (arith, m, n, own_looks k es i h)
 
 -- the quarter that has the point
 pub in_north_east : (k : ℕ) (w s : ℤ) (p : Point) → 0 < k → IsIn k w s p → int_le (w +ℤ pos (side_of (k - 1))) p.x ≡ true → int_le (s +ℤ pos (side_of (k - 1))) p.y ≡ true → IsIn (k - 1) (w +ℤ pos (side_of (k - 1))) (s +ℤ pos (side_of (k - 1))) p

@@ -28,9 +28,13 @@ overlaps level west south area = meets west (side_of level) area.x0 area.x1 && m
 abbrev pub in_cell : ℕ → ℤ → ℤ → Plot → Bool
 in_cell level west south plot = nat_eq plot.level level && overlaps level west south plot.area
 
+-- the box of this plot meets the square, and its level is below this one
+abbrev pub in_below : ℕ → ℕ → ℤ → ℤ → Plot → Bool
+in_below below level west south plot = nat_lt plot.level below && overlaps level west south plot.area
+
 -- the square or a part of it stores items with this plot
 abbrev pub in_reach : ℕ → ℤ → ℤ → Plot → Bool
-in_reach level west south plot = nat_lt plot.level (level + 1) && overlaps level west south plot.area
+in_reach level west south plot = in_below (level + 1) level west south plot
 
 -- the point lies in the square
 pub record IsIn (level : ℕ) (west south : ℤ) (point : Point) : Type 0 where

@@ -50,6 +50,15 @@ hits plot p (suc level) items = filter (λ i. hit_at p (suc level) (plot i)) ite
 unfoldable pub all_hits : {T : Type 0} → (T → Plot) → Point → List T → List T
 all_hits plot p items = hits plot p TOP_LEVEL items
 
+-- where a visitor has received the items of this level, it has received those of smaller squares too
+abbrev pub SeesRest : {V T : Type 0} → (V → V → List T → Type 0) → V → V → (T → Plot) → Point → ℕ → List T → Type 0
+SeesRest {V} {T} seen old new plot p level items =
+    (start : V) (xs : List T) → seen start old (xs ++ filter (λ i. hit_at p level (plot i)) items) → seen start new (xs ++ hits plot p level items)
+
+-- the number of items in squares smaller than this level that are close to the point
+abbrev pub count_below : {T : Type 0} → (T → Plot) → Point → ℕ → List T → ℕ
+count_below plot p level items = count_by (λ i. nat_lt (plot i).level level && close_area p (plot i)) items
+
 -- the number of items in squares of this level or smaller ones that are close to the point
 abbrev pub count_of_looks : {T : Type 0} → (T → Plot) → Point → ℕ → List T → ℕ
 count_of_looks plot p level items = count_by (λ i. nat_lt (plot i).level (level + 1) && close_area p (plot i)) items

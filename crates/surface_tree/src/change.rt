@@ -1,16 +1,16 @@
 //! One change of the squares: new nodes beside the old ones, which are unchanged.
 //!
-//! Putting an item and removing one take the same path: through the squares that the area meets, each of which is copied.
+//! Putting an item and removing one take the same path: through the squares that the area meets, each of which is made anew.
 
-ghost use Rattle.std.specs.Prelude.{◌≡◌, ◌≤◌, IfOk, Option, option_map, true, ℕ, ℤ};
+ghost use Rattle.std.specs.Prelude.{◌≡◌, ◌≤◌, ◌<◌, IfOk, Option, [], option_map, true, ℕ, ℤ};
 ghost use Rattle.std.specs.Arc.{arc_value};
 ghost use Rattle.surface_tree.specs.Squares.{in_cell, overlaps};
 ghost use Rattle.surface_tree.specs.Changes.{Follows};
-ghost use Rattle.surface_tree.specs.Parts.{CellHolds, HoldsCell, HoldsOwn, PartHolds};
+ghost use Rattle.surface_tree.specs.Parts.{Holds, HoldsOwn, OwnHolds, PartHolds, QuartersHold, RestHolds};
 
 use crate::edit::Edit;
-use crate::entry::{Entry, put_entry, shared_entries, take_entry};
-use crate::part::{Cell, Part, bare_cell, shared_part};
+use crate::entry::{Entry, entries_with, shared_entries, take_entry};
+use crate::part::{Part, Quarters, same_quarters};
 use crate::placed::Placed;
 use crate::square::Square;
 use grid_exact::NoMemory;
@@ -31,124 +31,145 @@ fn edited_entries<T: Placed + Drop>(
         (λ xs. HoldsOwn T.plot_of xs level west south entries.now)
         (λ xs. HoldsOwn T.plot_of xs level west south v.items)) }
 {
-    let mut all = shared_entries(alloc, entries, entries.len() + 1)?;
     match &edit.item {
         Some(item) => {
             let item = Arc::try_clone(item)?;
-            put_entry(
-                &mut all,
-                Entry {
-                    bounds: Bounds::of(&edit.plot.area),
-                    item,
-                },
-            )?;
-            Ok(all)
+            let bounds = Bounds::of(&edit.plot.area);
+            entries_with(alloc, entries, Entry { bounds, item })
         }
         None => {
+            let mut all = shared_entries(alloc, entries, entries.len())?;
             take_entry(&mut all, edit.key);
             Ok(all)
         }
     }
 }
 
-/// The changed square, which itself holds the area.
-fn edited_cell<T: Placed + Drop>(
-    alloc: Global,
-    cell: &Cell<T>,
-    edit: &Edit<T>,
-) -> Result<Cell<T>, NoMemory>
-    ensures { IfOk result (λ c. (level : ℕ) (west south : ℤ)
-        → in_cell level west south edit.now.plot ≡ true
-        → Follows T.Key.cmp T.key_of T.plot_of edit.now.key edit.now.plot
-        (option_map arc_value edit.now.item)
-        (λ xs. HoldsCell T.plot_of xs level west south cell.now)
-        (λ xs. HoldsCell T.plot_of xs level west south c)) }
-{
-    let entries = edited_entries(alloc, &cell.entries, edit)?;
-    let south_west = shared_part(&cell.south_west)?;
-    let south_east = shared_part(&cell.south_east)?;
-    let north_west = shared_part(&cell.north_west)?;
-    let north_east = shared_part(&cell.north_east)?;
-    Ok(Cell {
-        entries,
-        south_west,
-        south_east,
-        north_west,
-        north_east,
-    })
-}
-
 /// The part of the tree after the change.
 #[cycle(change)]
 pub(crate) fn changed_part<T: Placed + Drop>(
     alloc: Global,
-    part: &Part<T>,
+    part: &Arc<Part<T>>,
+    square: &Square,
+    edit: &Edit<T>,
+) -> Result<Arc<Part<T>>, NoMemory>
+    requires deep { edit.now.plot.level ≤ square.now.level }
+    ensures { IfOk result (λ q. Follows T.Key.cmp T.key_of T.plot_of edit.now.key edit.now.plot
+        (option_map arc_value edit.now.item)
+        (λ xs. PartHolds T.plot_of xs square.now (arc_value part.now))
+        (λ xs. PartHolds T.plot_of xs square.now (arc_value q))) }
+{
+    if !square.overlaps(&edit.plot.area) {
+        return Ok(Arc::try_clone(part)?);
+    }
+    let part = reached_part(alloc, part, square, edit)?;
+    Ok(Arc::new(alloc, part)?)
+}
+
+#[cycle(change)]
+fn reached_part<T: Placed + Drop>(
+    alloc: Global,
+    part: &Arc<Part<T>>,
     square: &Square,
     edit: &Edit<T>,
 ) -> Result<Part<T>, NoMemory>
     requires deep { edit.now.plot.level ≤ square.now.level }
+    requires met { overlaps square.now.level square.now.west square.now.south edit.now.plot.area
+        ≡ true }
     ensures { IfOk result (λ q. Follows T.Key.cmp T.key_of T.plot_of edit.now.key edit.now.plot
-        (option_map arc_value edit.now.item) (λ xs. PartHolds T.plot_of xs square.now part.now)
+        (option_map arc_value edit.now.item)
+        (λ xs. PartHolds T.plot_of xs square.now (arc_value part.now))
         (λ xs. PartHolds T.plot_of xs square.now q)) }
 {
-    if !square.overlaps(&edit.plot.area) {
-        return shared_part(part);
-    }
-    let cell = reached_cell(alloc, part, square, edit)?;
-    let cell = Arc::new(alloc, cell)?;
-    Ok(Part::Cell(cell))
-}
-
-#[cycle(change)]
-fn reached_cell<T: Placed + Drop>(
-    alloc: Global,
-    part: &Part<T>,
-    square: &Square,
-    edit: &Edit<T>,
-) -> Result<Cell<T>, NoMemory>
-    requires deep { edit.now.plot.level ≤ square.now.level }
-    requires met { overlaps square.now.level square.now.west square.now.south edit.now.plot.area
-        ≡ true }
-    ensures { IfOk result (λ c. Follows T.Key.cmp T.key_of T.plot_of edit.now.key edit.now.plot
-        (option_map arc_value edit.now.item) (λ xs. PartHolds T.plot_of xs square.now part.now)
-        (λ xs. CellHolds T.plot_of xs square.now c)) }
-{
-    match part {
-        Part::Bare => {
-            let cell = bare_cell(alloc);
-            changed_cell(alloc, &cell, square, edit)
+    match &**part {
+        Part::Own(entries, rest) => changed_own(alloc, entries, rest, square, edit),
+        _ => {
+            let entries = Vec::new(alloc);
+            changed_own(alloc, &entries, part, square, edit)
         }
-        Part::Cell(cell) => changed_cell(alloc, cell, square, edit),
     }
 }
 
+/// The changed square, from the items that it holds itself and the rest.
 #[cycle(change)]
-fn changed_cell<T: Placed + Drop>(
+fn changed_own<T: Placed + Drop>(
     alloc: Global,
-    cell: &Cell<T>,
+    entries: &[Entry<T>],
+    rest: &Arc<Part<T>>,
     square: &Square,
     edit: &Edit<T>,
-) -> Result<Cell<T>, NoMemory>
+) -> Result<Part<T>, NoMemory>
     requires deep { edit.now.plot.level ≤ square.now.level }
     requires met { overlaps square.now.level square.now.west square.now.south edit.now.plot.area
         ≡ true }
-    ensures { IfOk result (λ c. Follows T.Key.cmp T.key_of T.plot_of edit.now.key edit.now.plot
-        (option_map arc_value edit.now.item) (λ xs. CellHolds T.plot_of xs square.now cell.now)
-        (λ xs. CellHolds T.plot_of xs square.now c)) }
+    ensures { IfOk result (λ q. Follows T.Key.cmp T.key_of T.plot_of edit.now.key edit.now.plot
+        (option_map arc_value edit.now.item)
+        (λ xs. OwnHolds T.plot_of xs square.now entries.now
+        × RestHolds T.plot_of xs square.now (arc_value rest.now))
+        (λ xs. PartHolds T.plot_of xs square.now q)) }
 {
     if edit.plot.level == square.level {
-        return edited_cell(alloc, cell, edit);
+        let entries = edited_entries(alloc, entries, edit)?;
+        let rest = Arc::try_clone(rest)?;
+        return Ok(Part::Own(entries, rest));
     }
-    let entries = shared_entries(alloc, &cell.entries, cell.entries.len())?;
-    let south_west = changed_part(alloc, &cell.south_west, &square.south_west(), edit)?;
-    let south_east = changed_part(alloc, &cell.south_east, &square.south_east(), edit)?;
-    let north_west = changed_part(alloc, &cell.north_west, &square.north_west(), edit)?;
-    let north_east = changed_part(alloc, &cell.north_east, &square.north_east(), edit)?;
-    Ok(Cell {
-        entries,
+    let rest = changed_rest(alloc, rest, square, edit)?;
+    if entries.is_empty() {
+        return Ok(rest);
+    }
+    let entries = shared_entries(alloc, entries, entries.len())?;
+    let rest = Arc::new(alloc, rest)?;
+    Ok(Part::Own(entries, rest))
+}
+
+/// The quarters after the change, for a square with items of its own, and for one with none.
+#[cycle(change)]
+fn changed_rest<T: Placed + Drop>(
+    alloc: Global,
+    rest: &Arc<Part<T>>,
+    square: &Square,
+    edit: &Edit<T>,
+) -> Result<Part<T>, NoMemory>
+    requires deep { edit.now.plot.level < square.now.level }
+    ensures { IfOk result (λ q. (below : ℕ)
+        → Follows T.Key.cmp T.key_of T.plot_of edit.now.key edit.now.plot
+        (option_map arc_value edit.now.item)
+        (λ xs. (square.now.level < below → OwnHolds T.plot_of xs square.now [])
+        × RestHolds T.plot_of xs square.now (arc_value rest.now))
+        (λ xs. Holds T.plot_of xs below square.now.level square.now.west square.now.south q)) }
+{
+    match &**rest {
+        Part::Quartered(quarters) => changed_quarters(alloc, quarters, square, edit),
+        _ => {
+            let quarters = same_quarters(rest)?;
+            changed_quarters(alloc, &quarters, square, edit)
+        }
+    }
+}
+
+#[cycle(change)]
+fn changed_quarters<T: Placed + Drop>(
+    alloc: Global,
+    quarters: &Quarters<T>,
+    square: &Square,
+    edit: &Edit<T>,
+) -> Result<Part<T>, NoMemory>
+    requires deep { edit.now.plot.level < square.now.level }
+    ensures { IfOk result (λ q. (below : ℕ)
+        → Follows T.Key.cmp T.key_of T.plot_of edit.now.key edit.now.plot
+        (option_map arc_value edit.now.item)
+        (λ xs. (square.now.level < below → OwnHolds T.plot_of xs square.now [])
+        × QuartersHold T.plot_of xs square.now quarters.now)
+        (λ xs. Holds T.plot_of xs below square.now.level square.now.west square.now.south q)) }
+{
+    let south_west = changed_part(alloc, &quarters.south_west, &square.south_west(), edit)?;
+    let south_east = changed_part(alloc, &quarters.south_east, &square.south_east(), edit)?;
+    let north_west = changed_part(alloc, &quarters.north_west, &square.north_west(), edit)?;
+    let north_east = changed_part(alloc, &quarters.north_east, &square.north_east(), edit)?;
+    Ok(Part::Quartered(Quarters {
         south_west,
         south_east,
         north_west,
         north_east,
-    })
+    }))
 }

@@ -1,6 +1,6 @@
 //! An item as a square stores it.
 
-ghost use Rattle.std.specs.Prelude.{◌≡◌, IfOk, OnOk, length, map};
+ghost use Rattle.std.specs.Prelude.{◌≡◌, IfOk, length, map};
 ghost use Rattle.std.specs.List.Sorted.{IsBinarySearchResult, IsSearchInRange};
 ghost use Rattle.ordered_list.specs.Ordered.{Rises, put_by, removed_by};
 ghost use Rattle.surface_tree.specs.Parts.{content_of, item_of};
@@ -35,7 +35,8 @@ pub(crate) fn shared_entries<T: Drop>(
     entries: &[Entry<T>],
     room: usize,
 ) -> Result<Vec<Entry<T>>, NoMemory>
-    ensures { IfOk result (λ v. map content_of v.items ≡ map content_of entries.now) }
+    ensures told { IfOk result (λ v. map content_of v.items ≡ map content_of entries.now) }
+    ensures len { IfOk result (λ v. length v.items ≡ length entries.now) }
 {
     let mut all = Vec::with_capacity(alloc, room)?;
     for entry in entries {
@@ -53,23 +54,27 @@ fn place<T: Placed + Drop>(entries: &[Entry<T>], key: T::Key) -> Result<usize, u
     entries.binary_search_by_key(&key, |entry| entry.item.key())
 }
 
-/// Puts the entry in its place, instead of the one under its key.
-pub(crate) fn put_entry<T: Placed + Drop>(
-    entries: &mut Vec<Entry<T>>,
+/// The same entries, shared, with this one in its place instead of the one under its key. Room is reserved for these and no more, since a
+/// tree may be kept for each of many versions.
+pub(crate) fn entries_with<T: Placed + Drop>(
+    alloc: Global,
+    entries: &[Entry<T>],
     entry: Entry<T>,
-) -> Result<(), NoMemory>
-    ensures { OnOk result (Rises T.Key.cmp (λ e. T.key_of (item_of e)) entries.old.items
-        → entries.new.items ≡ put_by T.Key.cmp (λ e. T.key_of
-        (item_of e)) entry entries.old.items) }
+) -> Result<Vec<Entry<T>>, NoMemory>
+    ensures { IfOk result (λ v. Rises T.Key.cmp (λ e. T.key_of (item_of e)) entries.now
+        → map content_of v.items ≡ map content_of (put_by T.Key.cmp (λ e. T.key_of
+        (item_of e)) entry entries.now)) }
 {
     match place(entries, entry.item.key()) {
         Ok(i) => {
-            entries[i] = entry;
-            Ok(())
+            let mut all = shared_entries(alloc, entries, entries.len())?;
+            all[i] = entry;
+            Ok(all)
         }
         Err(i) => {
-            entries.insert(i, entry)?;
-            Ok(())
+            let mut all = shared_entries(alloc, entries, entries.len() + 1)?;
+            all.insert(i, entry)?;
+            Ok(all)
         }
     }
 }

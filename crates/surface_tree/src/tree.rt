@@ -15,10 +15,10 @@ ghost use Rattle.surface_tree.specs.declared.square.TheConstants.{TOP_LEVEL};
 use crate::by_key::PlacedKey;
 use crate::change::changed_part;
 use crate::edit::Edit;
-use crate::part::{Part, shared_part};
+use crate::part::{Part, shared_root};
 use crate::placed::{Placed, Plot};
 use crate::square::Square;
-use crate::visit::visit_part;
+use crate::visit::visit_root;
 use crate::visitor::Visitor;
 use grid_exact::{NoMemory, Point, Steps};
 use ordered_tree::OrderedTree;
@@ -31,50 +31,64 @@ use std::sync::ledger::Ledger;
 /// Items under their keys, found by the points of their areas. Contracts see it as the list of the items, in rising order of their keys.
 #[derive(Drop)]
 pub struct Tree<T: Placed + Drop> {
-    root: Part<T>,
+    /// The contents of the whole plane; a tree of no items yet has no node.
+    root: Option<Arc<Part<T>>>,
     by_key: OrderedTree<T, PlacedKey>,
 }
 
 impl<T: Placed + Drop> Model for Tree<T> {
-    ghost use Rattle.std.specs.Prelude.{List};
+    ghost use Rattle.std.specs.Prelude.{List, option_map};
+    ghost use Rattle.std.specs.Arc.{arc_value};
     ghost use Rattle.surface_tree.specs.Trees.{IsTree};
 
     ghost Value = { List T };
 
     ghost view = { λ t. t.by_key };
 
-    ghost invariant = { λ t. IsTree T.Key.cmp T.key_of T.plot_of t.root t.by_key };
+    ghost invariant = { λ t. IsTree T.Key.cmp T.key_of T.plot_of
+        (option_map arc_value t.root) t.by_key };
 }
 
 /// The whole tree of squares after a change.
 fn changed_root<T: Placed + Drop>(
     alloc: Global,
-    root: &Part<T>,
+    root: &Option<Arc<Part<T>>>,
     edit: &Edit<T>,
-) -> Result<Part<T>, NoMemory>
+) -> Result<Option<Arc<Part<T>>>, NoMemory>
     ensures { IfOk result (λ q. Follows T.Key.cmp T.key_of T.plot_of edit.now.key edit.now.plot
-        (option_map arc_value edit.now.item) (λ xs. RootHolds T.plot_of xs root.now)
-        (λ xs. RootHolds T.plot_of xs q)) }
+        (option_map arc_value edit.now.item)
+        (λ xs. RootHolds T.plot_of xs (option_map arc_value root.now))
+        (λ xs. RootHolds T.plot_of xs (option_map arc_value q))) }
 {
-    changed_part(alloc, root, &Square::whole(), edit)
+    match root {
+        None => {
+            let bare = Arc::new(alloc, Part::Bare)?;
+            let part = changed_part(alloc, &bare, &Square::whole(), edit)?;
+            Ok(Some(part))
+        }
+        Some(part) => {
+            let part = changed_part(alloc, part, &Square::whole(), edit)?;
+            Ok(Some(part))
+        }
+    }
 }
 
 /// The squares without the item that was found under a key.
 fn cleared_root<T: Placed + Drop>(
     alloc: Global,
-    root: &Part<T>,
+    root: &Option<Arc<Part<T>>>,
     key: T::Key,
     old: Option<&Arc<T>>,
-) -> Result<Part<T>, NoMemory>
+) -> Result<Option<Arc<Part<T>>>, NoMemory>
     requires placed { (i : T) → option_map arc_value (option_copied old) ≡ Some i
         → IsPlaced (T.plot_of i) }
     ensures { IfOk result (λ q. (items : List T)
         → IsFound T.Key.cmp T.key_of key (option_map arc_value (option_copied old.entry)) items
-        → RootHolds T.plot_of items root.now → RootHolds T.plot_of
-        (removed_by T.Key.cmp T.key_of key items) q) }
+        → RootHolds T.plot_of items (option_map arc_value root.now) → RootHolds T.plot_of
+        (removed_by T.Key.cmp T.key_of key items) (option_map arc_value q)) }
 {
     match old {
-        None => shared_part(root),
+        None => shared_root(root),
         Some(old) => changed_root(alloc, root, &Edit::take(key, old)),
     }
 }
@@ -107,17 +121,19 @@ fn is_covered<T: Placed + Drop>(old: Option<&Arc<T>>, edit: &Edit<T>) -> bool
 /// hold both (as when a runway is added to an airport) each square is copied once; else the old item is removed first.
 fn replaced_root<T: Placed + Drop>(
     alloc: Global,
-    root: &Part<T>,
+    root: &Option<Arc<Part<T>>>,
     old: Option<&Arc<T>>,
     item: Arc<T>,
-) -> Result<Part<T>, NoMemory>
+) -> Result<Option<Arc<Part<T>>>, NoMemory>
     requires found { (i : T) → option_map arc_value (option_copied old) ≡ Some i
         → IsPlaced (T.plot_of i) }
     requires placed { IsPlaced (T.plot_of (arc_value item)) }
     ensures { IfOk result (λ q. (items : List T)
         → IsFound T.Key.cmp T.key_of (T.key_of (arc_value item))
-        (option_map arc_value (option_copied old.entry)) items → RootHolds T.plot_of items root.now
-        → RootHolds T.plot_of (put_by T.Key.cmp T.key_of (arc_value item) items) q) }
+        (option_map arc_value (option_copied old.entry)) items
+        → RootHolds T.plot_of items (option_map arc_value root.now)
+        → RootHolds T.plot_of (put_by T.Key.cmp T.key_of (arc_value item) items)
+        (option_map arc_value q)) }
 {
     let edit = Edit::put(item);
     if is_covered(old, &edit) {
@@ -133,7 +149,7 @@ impl<T: Placed + Drop> Tree<T> {
         ensures { result ≡ [] }
     {
         Tree {
-            root: Part::Bare,
+            root: None,
             by_key: OrderedTree::empty(alloc),
         }
     }
@@ -189,7 +205,7 @@ impl<T: Placed + Drop> Tree<T> {
     pub fn share(&self) -> Result<Tree<T>, NoMemory>
         ensures { IfOk result (λ t. t ≡ self.now) }
     {
-        let root = shared_part(&self.root)?;
+        let root = shared_root(&self.root)?;
         let by_key = self.by_key.share()?;
         Ok(Tree { root, by_key })
     }
@@ -212,6 +228,6 @@ impl<T: Placed + Drop> Tree<T> {
             (λ i. near_area x.now (T.plot_of i).area) self.now }
     {
         let spot = Spot::of(x);
-        visit_part(&self.root, &Square::whole(), &spot, visitor, steps);
+        visit_root(&self.root, &Square::whole(), &spot, visitor, steps);
     }
 }

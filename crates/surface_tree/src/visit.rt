@@ -1,22 +1,24 @@
 //! A visit of the squares over a point.
 
-ghost use Rattle.std.specs.Prelude.{◌≡◌, ◌+◌, ◌≤◌, ◌++◌, ◌<◌, ◌-◌, List, length, map, take, slice_index_or};
+ghost use Rattle.std.specs.Prelude.{◌≡◌, ◌+◌, ◌≤◌, ◌++◌, ◌<◌, ◌-◌, List, length, map, option_map, take, slice_index_or};
+ghost use Rattle.std.specs.Arc.{arc_value};
 ghost use Rattle.std.specs.List.{filter, All};
 ghost use Rattle.grid_exact.specs.Area.{has_point};
 ghost use Rattle.surface_tree.specs.declared.entry.Entry.{Entry};
 ghost use Rattle.surface_tree.specs.declared.placed.Plot.{Plot};
 ghost use Rattle.surface_tree.specs.declared.visit.TheConstants.{BLOCK};
 ghost use Rattle.outline_boxes.specs.Bounds.{box_of};
-ghost use Rattle.surface_tree.specs.Parts.{CellHolds, PartHolds, item_of};
-ghost use Rattle.surface_tree.specs.Visits.{HasPoint, SeesMore, hits, count_of_looks};
+ghost use Rattle.surface_tree.specs.Parts.{PartHolds, QuartersHold, RestHolds, SomeHolds, item_of};
+ghost use Rattle.surface_tree.specs.Visits.{HasPoint, SeesMore, SeesRest, hits, count_below, count_of_looks};
 
 use crate::entry::Entry;
-use crate::part::{Cell, Part};
+use crate::part::{Part, Quarters};
 use crate::placed::Placed;
 use crate::square::Square;
 use crate::visitor::Visitor;
 use grid_exact::Steps;
 use outline_boxes::Spot;
+use std::sync::Arc;
 use std::sync::ledger::Ledger;
 
 /// Entries tested before any item is given; places within a block fit into bytes.
@@ -104,23 +106,28 @@ fn visit_entries<T: Placed + Drop, L: Ledger, W: Visitor<T>>(
 /// The quarter of a square that the point lies in, and its contents. It is a function apart from the visit so that a processor can choose
 /// the quarter without a branch, which it would often mispredict.
 #[inline(always)]
-fn quarter_over<'a, T: Drop>(cell: &'a Cell<T>, square: &Square, x: &Spot) -> (&'a Part<T>, Square)
+fn quarter_over<'a, T: Drop>(
+    quarters: &'a Quarters<T>,
+    square: &Square,
+    x: &Spot,
+) -> (&'a Arc<Part<T>>, Square)
     requires deep { 0 < square.now.level }
     ensures level { result.1.level ≡ square.now.level - 1 }
     ensures point { HasPoint square.now x.now → HasPoint result.1 x.now }
-    ensures holds { (plot : T → Plot) (items : List T) → CellHolds plot items square.now cell.now
-        → PartHolds plot items result.1 result.0.now }
+    ensures holds { (plot : T → Plot) (items : List T)
+        → QuartersHold plot items square.now quarters.now
+        → PartHolds plot items result.1 (arc_value result.0.now) }
 {
     if square.is_north(x) {
         if square.is_east(x) {
-            (&cell.north_east, square.north_east())
+            (&quarters.north_east, square.north_east())
         } else {
-            (&cell.north_west, square.north_west())
+            (&quarters.north_west, square.north_west())
         }
     } else if square.is_east(x) {
-        (&cell.south_east, square.south_east())
+        (&quarters.south_east, square.south_east())
     } else {
-        (&cell.south_west, square.south_west())
+        (&quarters.south_west, square.south_west())
     }
 }
 
@@ -144,31 +151,82 @@ pub(crate) fn visit_part<T: Placed + Drop, L: Ledger, W: Visitor<T>>(
 {
     match part {
         Part::Bare => {}
-        Part::Cell(cell) => visit_cell(cell, square, x, visitor, steps),
+        Part::Quartered(quarters) => {
+            steps.tick();
+            visit_quarters(quarters, square, x, visitor, steps);
+        }
+        Part::Own(entries, rest) => {
+            steps.tick();
+            visit_entries(entries, x, visitor, steps);
+            visit_rest(rest, square, x, visitor, steps);
+        }
     }
 }
 
+/// Gives the visitor the items of the square's quarters, where it has seen those of the square itself.
 #[cycle(visit)]
-fn visit_cell<T: Placed + Drop, L: Ledger, W: Visitor<T>>(
-    cell: &Cell<T>,
+fn visit_rest<T: Placed + Drop, L: Ledger, W: Visitor<T>>(
+    rest: &Part<T>,
     square: &Square,
     x: &Spot,
     visitor: &mut W,
     steps: &mut Steps<L>,
 )
     ensures seen { (items : List T) → HasPoint square.now x.now
-        → CellHolds T.plot_of items square.now cell.now
-        → SeesMore W.seen visitor.old visitor.new (hits T.plot_of x.now square.now.level items) }
+        → RestHolds T.plot_of items square.now rest.now
+        → SeesRest W.seen visitor.old visitor.new T.plot_of x.now square.now.level items }
     ensures cost { (items : List T) → HasPoint square.now x.now
-        → CellHolds T.plot_of items square.now cell.now
+        → RestHolds T.plot_of items square.now rest.now
         → steps.new ≤ steps.old +
-        (square.now.level + 1) + count_of_looks T.plot_of x.now square.now.level items }
+        square.now.level + count_below T.plot_of x.now square.now.level items }
 {
-    steps.tick();
-    visit_entries(&cell.entries, x, visitor, steps);
+    if let Part::Quartered(quarters) = rest {
+        visit_quarters(quarters, square, x, visitor, steps);
+    }
+}
+
+#[cycle(visit)]
+fn visit_quarters<T: Placed + Drop, L: Ledger, W: Visitor<T>>(
+    quarters: &Quarters<T>,
+    square: &Square,
+    x: &Spot,
+    visitor: &mut W,
+    steps: &mut Steps<L>,
+)
+    ensures seen { (items : List T) → HasPoint square.now x.now
+        → QuartersHold T.plot_of items square.now quarters.now
+        → SeesRest W.seen visitor.old visitor.new T.plot_of x.now square.now.level items }
+    ensures cost { (items : List T) → HasPoint square.now x.now
+        → QuartersHold T.plot_of items square.now quarters.now
+        → steps.new ≤ steps.old +
+        square.now.level + count_below T.plot_of x.now square.now.level items }
+{
     if square.level == 0 {
         return;
     }
-    let (part, quarter) = quarter_over(cell, square, x);
+    let (part, quarter) = quarter_over(quarters, square, x);
     visit_part(part, &quarter, x, visitor, steps);
+}
+
+/// Gives the visitor the items of a tree whose areas contain the point.
+pub(crate) fn visit_root<T: Placed + Drop, L: Ledger, W: Visitor<T>>(
+    root: &Option<Arc<Part<T>>>,
+    square: &Square,
+    x: &Spot,
+    visitor: &mut W,
+    steps: &mut Steps<L>,
+)
+    ensures seen { (items : List T) → HasPoint square.now x.now
+        → SomeHolds T.plot_of items square.now.level square.now.west square.now.south
+        (option_map arc_value root.now)
+        → SeesMore W.seen visitor.old visitor.new (hits T.plot_of x.now square.now.level items) }
+    ensures cost { (items : List T) → HasPoint square.now x.now
+        → SomeHolds T.plot_of items square.now.level square.now.west square.now.south
+        (option_map arc_value root.now)
+        → steps.new ≤ steps.old +
+        (square.now.level + 1) + count_of_looks T.plot_of x.now square.now.level items }
+{
+    if let Some(part) = root {
+        visit_part(part, square, x, visitor, steps);
+    }
 }

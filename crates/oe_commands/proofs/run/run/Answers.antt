@@ -90,7 +90,7 @@ returns-in-Some-Serve-clause-complete g c = λ is steady gate good calm.
     subst (λ (a : Command). Says c.args.words.now a) (rw c.in-Some-Serve.is at c.in-Some-Serve.field-0-is) says in
     whole c.serve_links.result c.serve_links.ensures.usage c.serve_links.ensures.read.0 (λ e. calm.write (c.serve_links.ensures.write e)) (c.serve_links.ensures.fault steady)
     (λ t k e. let bad = c.serve_links.ensures.bad_row t k e in good (option_copied c.in-Some-Serve.file) bad.0 (place t, k) (inr (c.in-Some-Serve.address.now, c.in-Some-Serve.workers, c.in-Some-Serve.turns, said)) bad.1 bad.2)
-    (c.serve_links.ensures.gate gate)
+    (c.serve_links.ensures.gate (gate (c.in-Some-Serve.address.now, c.in-Some-Serve.workers, c.in-Some-Serve.turns, option_copied c.in-Some-Serve.file, said)))
 
 pub returns-in-Some-Generate-clause-complete : goal.returns-in-Some-Generate-clause-complete
 returns-in-Some-Generate-clause-complete g c = λ is steady gate good calm. made_whole c.generate.result c.generate.ensures.ends (λ e. calm.write (c.generate.ensures.cause e))

@@ -8,11 +8,11 @@ use Rattle.surface_tree.proofs.tree.cleared_root.Goals as goal
 
 pub returns-in-None : goal.returns-in-None
 returns-in-None g c =
-    IfOk-weaker c.shared_part.result _ _
+    IfOk-weaker c.shared_root.result _ _
     (λ q h. λ items f k.
     let n = rw c.in-None.is at f.1 in
-    rw (none_found g.T.Key.Ord.cmp g.met.T.Key.Ord.total g.T.Placed.key_of c.args.key items (sym n)) (h g.T.Placed.plot_of items _ _ _ k))
-    c.shared_part.ensures
+    rw (none_found g.T.Key.Ord.cmp g.met.T.Key.Ord.total g.T.Placed.key_of c.args.key items (sym n)) (rw h k))
+    c.shared_root.ensures
 
 pub returns-in-Some : goal.returns-in-Some
 returns-in-Some g c =
