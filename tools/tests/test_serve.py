@@ -23,6 +23,12 @@ FIRST = [("day,u,1,2026-01-15", "ok,1,published,day"), NOTICE, NOTICE, (NOTICE[0
 AGAIN = [("sync", "sync,3"), NOTICE, ("abandon,u,4,1", "no,17,NotStanding,abandoned")]
 
 
+def post(record: str) -> bytes:
+    """The request that sends a record."""
+    body = f"{record}\n".encode()
+    return b"POST /record HTTP/1.1\r\nContent-Length: %d\r\n\r\n%s" % (len(body), body)
+
+
 class Link:
     """A link that is kept open."""
 
@@ -31,8 +37,11 @@ class Link:
         self.read = self.socket.makefile("rb")
 
     def reply(self, record: str) -> str:
-        body = f"{record}\n".encode()
-        self.socket.sendall(b"POST /record HTTP/1.1\r\nContent-Length: %d\r\n\r\n%s" % (len(body), body))
+        self.socket.sendall(post(record))
+        return self.response()
+
+    def response(self) -> str:
+        """The body of the next response, without its last line end."""
         length = 0
         for line in iter(self.read.readline, b"\r\n"):
             name, _, value = line.partition(b":")
@@ -84,6 +93,20 @@ class Served(Trial):
             self.assertEqual([first.reply(record) for record, _ in AIRPORT], [reply for _, reply in AIRPORT])
             self.assertEqual([second.reply(record) for record, _ in REFUSALS], [reply for _, reply in REFUSALS])
         self.assert_ended(served, 2)
+
+    def test_responses_that_are_longer_than_what_may_wait(self) -> None:
+        """Requests sent at once: the short responses come before and after a report of more than 64 KiB, and together are longer than that too."""
+        ids = [f"A{number:04d}" for number in range(2_100)]
+        airports = [f"airport,u,{key},{id},public,0,0,1000" for key, id in enumerate(ids, 1)]
+        report = "\n".join([f"report,airfields,{len(ids)}", *[f"{id}     airport      1000   0" for id in ids]])
+        short = ("airfield,A0007", "airfield,airport,public,0,0,1000")
+        asked = [*[short] * 700, ("report,airfields", report), short, ("report,airfields", report), ("report,airfields", report), *[short] * 700]
+        served, port = self.serve(1)
+        with self.link(served, port) as link:
+            self.assertEqual([link.reply(record) for record in airports], [f"ok,{number},published,airport" for number in range(1, len(ids) + 1)])
+            link.socket.sendall(b"".join(post(record) for record, _ in asked))
+            self.assertEqual([link.response() for _ in asked], [reply for _, reply in asked])
+        self.assert_ended(served, 1)
 
     def test_a_desk_goes_on_from_what_another_kept(self) -> None:
         for said in (FIRST, AGAIN):
