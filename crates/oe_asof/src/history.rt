@@ -14,7 +14,7 @@ use std::marker::Model;
 use std::sync::Arc;
 
 /// Versions of the airfields, each under the number of the entry after which they stood so, in rising order of number. Contracts see them,
-/// and for how many more there is room. A version takes a few words: the airfields are shared.
+/// and for how many more there is room. What an amendment did not change is shared from version to version.
 #[derive(Drop)]
 pub struct History {
     versions: Vec<KeptSky>,

@@ -45,8 +45,8 @@ fn session<K: Keeper + Drop, L: Ledger, S: Source, O: Sink>(
     )
 }
 
-/// Replies to each line of the input, in order. A line that begins with `asof,` has the number of an entry and a structure, and is replied to
-/// with the list of the structure over the airfields as they stood after the entry; each other line is answered as a desk does. The entries
+/// Replies to each line of the input, in order. A line that begins with `asof,` asks for the list of a structure over the airfields as they
+/// stood after the entry of a number, or is refused at its first wrong field; each other line is answered as a desk does. The entries
 /// that can be asked for are those accepted in the session, and the last one before it. It ends with `NoMemory` where memory was refused
 /// for a version of the airfields.
 pub fn dated_records<K: Keeper + Drop, S: Source, O: Sink>(

@@ -244,8 +244,8 @@ pub fn run<R: Threads + Wait + Sync, S: Source, O: Sink, K: Keeper + Drop + Send
     // A fault is reported only where that stream's count of faults rose.
     ensures causes { RunCauses result (S.left input.old) (S.left input.new)
         (S.faults input.old) (S.faults input.new) (O.faults output.old) (O.faults output.new) }
-    // A command over a keeper that never fails, a gate that never fails where it asks for one, good rows, and streams that did not fail is done,
-    // or has taken 2^40 bytes, or memory ran out.
+    // A command over a keeper that never fails, good rows, streams that did not fail and, with `serve`, a gate that never fails, is done, or has
+    // taken 2^40 bytes, or memory ran out.
     ensures complete { IsCommand words.now → K.IsSteady keeper
         → (AsksForGate words.now → G.IsSteady gate.old)
         → HasGoodRows K.Finds keeper words.now

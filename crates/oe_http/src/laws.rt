@@ -4,7 +4,7 @@ ghost use Rattle.std.specs.Prelude.{◌≡◌};
 
 use crate::lines::INPUT_LIMIT;
 
-/// A lemma, never run: after 2^40 bytes, one tebibyte, a source is not read further.
+/// A lemma, never run: the limit on the bytes that are read of a source, 2^40 (one tebibyte), as a numeral.
 pub fn input_limit()
     ensures { INPUT_LIMIT ≡ 1_099_511_627_776 }
 {}

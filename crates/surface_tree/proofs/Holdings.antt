@@ -93,13 +93,13 @@ cell_lies k w s inner outer l n =
     let r : in_cell k w s outer ≡ true = and_from _ _ e (and_from _ _ (meets_more w (side_of k) inner.area.x0 inner.area.x1 outer.area.x0 outer.area.x1 l.west l.east o.0) (meets_more s (side_of k) inner.area.y0 inner.area.y1 outer.area.y0 outer.area.y1 l.south l.north o.1)) in
     cc)
 
--- nor does it stand in a part of the square of its own level
+-- a plot of a square's own level stands in no part of the square
 pub level_below : (k : ℕ) (w s : ℤ) (a : Plot) → a.level ≡ k → in_below k k w s a ≡ false
 level_below k w s a e =
     let n : nat_lt a.level k ≡ false = grind (arith, e) in
     and_left (nat_lt a.level k) (overlaps k w s a.area) n
 
--- nor in a larger square
+-- nor does a plot of a smaller level stand in the square itself
 pub larger_cell : (k : ℕ) (w s : ℤ) (a : Plot) → a.level < k → in_cell k w s a ≡ false
 larger_cell k w s a l =
     let n : nat_eq a.level k ≡ false = grind (arith, l) in

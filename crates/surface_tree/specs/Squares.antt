@@ -28,7 +28,7 @@ overlaps level west south area = meets west (side_of level) area.x0 area.x1 && m
 abbrev pub in_cell : ℕ → ℤ → ℤ → Plot → Bool
 in_cell level west south plot = nat_eq plot.level level && overlaps level west south plot.area
 
--- the box of this plot meets the square, and its level is below this one
+-- the box of this plot meets the square of the second level, and the plot's own level is below the first
 abbrev pub in_below : ℕ → ℕ → ℤ → ℤ → Plot → Bool
 in_below below level west south plot = nat_lt plot.level below && overlaps level west south plot.area
 

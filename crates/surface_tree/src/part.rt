@@ -17,7 +17,7 @@ use std::sync::Arc;
 pub(crate) enum Part<T: Drop> {
     /// Nothing.
     Bare,
-    /// The contents of the four quarters, and no items in the square itself.
+    /// The contents of the four quarters. Items of the square itself, where there are some, stand above it in an `Own`.
     Quartered(Quarters<T>),
     /// The items that the square itself holds, in order of their keys, and what its quarters hold: `Bare` or `Quartered`.
     Own(Vec<Entry<T>>, Arc<Part<T>>),

@@ -31,7 +31,7 @@ use std::sync::ledger::Ledger;
 /// Items under their keys, found by the points of their areas. Contracts see it as the list of the items, in rising order of their keys.
 #[derive(Drop)]
 pub struct Tree<T: Placed + Drop> {
-    /// The contents of the whole plane; a tree of no items yet has no node.
+    /// The contents of the whole plane; none in the tree that `empty` makes, which takes no memory.
     root: Option<Arc<Part<T>>>,
     by_key: OrderedTree<T, PlacedKey>,
 }

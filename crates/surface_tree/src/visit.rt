@@ -163,7 +163,7 @@ pub(crate) fn visit_part<T: Placed + Drop, L: Ledger, W: Visitor<T>>(
     }
 }
 
-/// Gives the visitor the items of the square's quarters, where it has seen those of the square itself.
+/// Gives the visitor those items of the square's parts whose areas contain the point, where it has received those of the square itself.
 #[cycle(visit)]
 fn visit_rest<T: Placed + Drop, L: Ledger, W: Visitor<T>>(
     rest: &Part<T>,
@@ -185,6 +185,7 @@ fn visit_rest<T: Placed + Drop, L: Ledger, W: Visitor<T>>(
     }
 }
 
+/// The same of its quarters.
 #[cycle(visit)]
 fn visit_quarters<T: Placed + Drop, L: Ledger, W: Visitor<T>>(
     quarters: &Quarters<T>,
