@@ -25,8 +25,6 @@ mod meeting;
 #[cfg(test)]
 mod question_tests;
 #[cfg(test)]
-mod register_tests;
-#[cfg(test)]
 mod reply_tests;
 #[cfg(test)]
 mod row_tests;

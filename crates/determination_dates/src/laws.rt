@@ -45,8 +45,8 @@ pub fn one_deadline()
         IsDeadline closed issued w → z ≡ w }
 {}
 
-/// A determination that may be petitioned becomes effective after the last day for a petition, so none is in effect while a petition
-/// may still be made.
+/// The ordinary effective day of a determination that may be petitioned is after the last day for a petition, so one that was issued so is
+/// not in effect while a petition may still be made.
 pub fn effective_after_deadline()
     ensures { (issued deadline : ℤ) → deadline <ℤ ordinary_day issued (Some deadline) }
 {}

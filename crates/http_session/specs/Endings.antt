@@ -36,7 +36,7 @@ Ends step endings.Truncated before after stream Wrote =
 -- the same, and the response to the refused request
 Ends step (endings.Refused status) before after stream Wrote =
     (es : List Exchange) × (left : List ℕ) × Served step before stream es after left × IsRefused left status × Wrote (texts es ++ refusal_text status)
--- the response to each request that was read whole
+-- the responses to the first requests; that these are all that were read whole is not said
 Ends step endings.ReadFault before after stream Wrote =
     (es : List Exchange) × (left : List ℕ) × Served step before stream es after left × Wrote (texts es)
 Ends step endings.Long before after stream Wrote =

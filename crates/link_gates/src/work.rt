@@ -30,7 +30,7 @@ pub fn worker<A: Replying, P: Port>(alloc: Global, desk: &mut A, port: &mut P, t
         (P.given port.old) (P.given port.new) result.served }
     ensures out { P.out port.old ≡ false → P.out port.new ≡ false }
     ensures most { result.served ≤ turns }
-    // It stops early only where the port failed, or had no link.
+    // It stops early only where the port failed or, where the port tells its links, none was left.
     ensures none { result.served < turns → result.failed ≡ false → NoneLeft (P.links port.new) }
     ensures count { result.failed ≡ false
         → IfSome (P.links port.old) (λ links. result.served ≡ min turns (length links)) }

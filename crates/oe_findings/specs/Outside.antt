@@ -18,7 +18,7 @@ use Rattle.airfield_findings.specs.Reaches.{HasLevels}
 abbrev pub IsOutside : List Area → Point → Type 0
 IsOutside areas x = All (λ a. ¬ Has a x) areas
 
--- the airfield has no entry for a structure at a point outside all areas
+-- the airfield has no standard and no notice slope for a structure at a point outside all areas
 pub record LeavesOut (f : Airfield) (areas : List Area) : Type 0 where
   pub standards : (site : Site) → HasLevels site → IsOutside areas site.at → of_airfield site f ≡ []
   pub slopes : (site : Site) → HasLevels site → IsOutside areas site.at → slope_entries site f ≡ []

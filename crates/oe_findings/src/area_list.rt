@@ -88,8 +88,8 @@ fn of_heliport(alloc: Global, heliport: &Heliport) -> Result<Vec<Area>, NoMemory
 }
 
 impl AreaList {
-    /// The areas of an airfield within the limits of the register. The airfield has no entry for a structure at a point outside all of
-    /// them.
+    /// The areas of an airfield within the limits of the register. The airfield has no standard and no notice slope for a structure at a
+    /// point outside all of them.
     ///
     /// # Errors
     ///

@@ -1,6 +1,6 @@
 //! A keeper in memory that fails at listed calls, for tests.
 
-ghost use Rattle.std.specs.Prelude.{◌≡◌, ◌≤◌, true, IfOk, OnOk, OnErr};
+ghost use Rattle.std.specs.Prelude.{◌≡◌, ◌≤◌, ◌+◌, ◌-◌, ◌^◌, min, true, IfOk, OnOk, OnErr};
 ghost use Rattle.std.proofs.Common.{◌∙◌, sym};
 ghost use Rattle.oe_keeper.specs.Kept.{Kept, rows_after_changes};
 ghost use Rattle.oe_keeper.specs.Memory.{HasRows, IsFresh, IsUnfailing, IsCounted, fails_next, has_failed};
@@ -53,6 +53,7 @@ impl MemoryKeeper {
         ensures fail { self.new.fail ≡ self.old.fail }
         ensures calls { self.new.calls ≡ self.old.calls }
         ensures counted { self.old.faults ≤ self.new.faults }
+        ensures one { self.new.faults ≡ min (self.old.faults + 1) (2 ^ 64 - 1) }
         ensures rose { Rose self.old.faults self.new.faults }
         ensures answer { result ≡ KeepErr.Failed }
     {

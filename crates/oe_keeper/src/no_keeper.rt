@@ -31,7 +31,9 @@ impl Keeper for NoKeeper {
         Ok(())
     }
 
-    fn keeps(&self) -> bool {
+    fn keeps(&self) -> bool
+        ensures { result ≡ false }
+    {
         false
     }
 
