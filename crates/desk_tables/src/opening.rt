@@ -119,7 +119,8 @@ pub fn read_desk(alloc: Global, tables: Tables) -> Result<OpenedDesk, Unread>
     ensures sound { IfOk result (λ d. IsSoundDesk (desk_of d)) }
     ensures bad { IfErr result (λ why. NamesBad tables why) }
 {
-    let mut tables = tables;
+    // In one page each row is found at once, and all are read several times.
+    let mut tables = tables.joined(alloc)?;
     let is_first = is_first(&tables);
     let renewal = renew(alloc, &mut tables)?;
     put_wanting_rows(alloc, &mut tables)?;

@@ -3,7 +3,7 @@
 //! A row that does not come in order moves the rows of one page alone. A page that is full is split before a row is put into it; no page is
 //! empty.
 
-ghost use Rattle.std.specs.Prelude.{◌≡◌, ◌+◌, ◌<◌, ◌≤◌, ℕ, [], ◌∷◌, true, IfOk, OnOk, OnErr, IsTrue, length, get_or, map, option_copied, slice_get, vec_len, if◌then◌else◌};
+ghost use Rattle.std.specs.Prelude.{◌≡◌, ◌+◌, ◌++◌, ◌<◌, ◌≤◌, ℕ, [], ◌∷◌, true, IfOk, OnOk, OnErr, IsTrue, length, get_or, map, option_copied, slice_get, vec_len, if◌then◌else◌};
 ghost use Rattle.std.specs.List.{All};
 ghost use Rattle.ordered_list.specs.Ordered.{Rises, put_by, removed_by};
 ghost use Rattle.oe_keeper.specs.Kept.{key_cmp, place};
@@ -211,6 +211,39 @@ pub(crate) fn nth_row(pages: &[Page], i: usize) -> Option<&Entry>
         left -= page.rows.len();
     }
     None
+}
+
+/// Puts the rows behind those that are there.
+fn append_rows(all: &mut Vec<Entry>, rows: Vec<Entry>) -> Result<(), NoMemory>
+    ensures { OnOk result (all.new.items ≡ all.old.items ++ rows.items) }
+{
+    'rows: for row in rows {
+        all.push(row)?;
+    }
+    Ok(())
+}
+
+/// The rows of all pages, in order.
+pub(crate) fn all_rows(alloc: Global, pages: Vec<Page>) -> Result<Vec<Entry>, NoMemory>
+    ensures { IfOk result (λ v. v.items ≡ rows_of pages.items) }
+{
+    let mut all = Vec::new(alloc);
+    'pages: for page in pages {
+        append_rows(&mut all, page.rows)?;
+    }
+    Ok(all)
+}
+
+/// One page of these rows; none where there are no rows.
+pub(crate) fn one_page(alloc: Global, rows: Vec<Entry>) -> Result<Vec<Page>, NoMemory>
+    ensures same { IfOk result (λ v. rows_of v.items ≡ rows.items) }
+    ensures filled { IfOk result (λ v. All IsFilled v.items) }
+{
+    let mut pages = Vec::new(alloc);
+    if !rows.is_empty() {
+        pages.push(Page { rows })?;
+    }
+    Ok(pages)
 }
 
 /// Copies of the pages.

@@ -6,7 +6,7 @@ ghost use Rattle.std.specs.FinMap as maps;
 ghost use Rattle.oe_keeper.specs.Kept.{rows_after_change, place};
 
 use crate::change::{RowChange, Table};
-use crate::pages::{Page, copies_of, nth_row, put_row, remove_row};
+use crate::pages::{Page, all_rows, copies_of, nth_row, one_page, put_row, remove_row};
 use crate::rows::Entry;
 use grid_exact::NoMemory;
 use std::alloc::Global;
@@ -66,6 +66,20 @@ impl Tables {
             Some(entry) => Some((entry.table, entry.key.as_str(), entry.row.as_str())),
             None => None,
         }
+    }
+
+    /// The same rows in one page, where `nth` finds each without a walk over pages. It is for reading them all.
+    ///
+    /// # Errors
+    ///
+    /// `NoMemory` where memory ran out.
+    pub fn joined(self, alloc: Global) -> Result<Tables, NoMemory>
+        ensures { IfOk result (λ t. t ≡ self) }
+    {
+        let count = self.count;
+        let rows = all_rows(alloc, self.pages)?;
+        let pages = one_page(alloc, rows)?;
+        Ok(Tables { pages, count })
     }
 
     /// A copy.
