@@ -29,7 +29,9 @@ pub struct Locked<'a, K: Keeper, J: Opening> {
 
 impl<'a, K: Keeper, J: Opening> Locked<'a, K, J> {
     /// Borrows this clerk. No fault is counted yet.
-    pub fn new(clerk: &'a Mutex<PublishingClerk<K, J>>) -> Locked<'a, K, J> {
+    pub fn new(clerk: &'a Mutex<PublishingClerk<K, J>>) -> Locked<'a, K, J>
+        ensures none { result.faults ≡ 0 }
+    {
         Locked { clerk, faults: 0 }
     }
 }

@@ -22,7 +22,7 @@ use Rattle.case_records.specs.declared.case.KeptCase.{KeptCase}
 use Rattle.case_records.specs.declared.case.KeptList.{KeptList}
 use Rattle.case_acts.specs.Standing.{is_standing}
 use Rattle.case_acts.specs.declared.effect.Step.TheVariants as steps
-use Rattle.review_marks.specs.Books.{row_at, joined, row_marked_as, marked_cases, is_marked_in, is_marked_row, numbers_up_to, differs, rows_after_close}
+use Rattle.review_marks.specs.Books.{row_at, joined, row_marked_as, marked_cases, is_marked_in, is_marked_row, numbers_up_to, differs, rows_after_close, rows_after_put}
 use Rattle.review_marks.specs.Shares.{AirfieldChange, concerns}
 use Rattle.review_marks.specs.Turns.{Leads, row_after_change}
 use Rattle.review_marks.specs.declared.row.Row.{Row}
@@ -164,6 +164,13 @@ put_by rows r k n false h fits e =
 -- and after one was put
 pub put_row : (rows : List (Option Row)) (r : Row) (k n : ℕ) → 1 ≤ k → k ≤ length rows → row_at (slice_set rows (k - 1) (Some r)) n ≡ cond (nat_eq k n) (Some r) (row_at rows n)
 put_row rows r k n low high = put_by rows r k n (n == 0) (grind (arith, common_steps, low)) (omega (arith, low, high)) refl
+
+-- so a change puts it in its place
+pub put_of : (rows : List (Option Row)) (r : Row) (k : ℕ) → 1 ≤ k → rows_after_put k r rows ≡ slice_set rows (k - 1) (Some r)
+put_of rows r k low = ap (λ (b : Bool). cond b rows (slice_set rows (k - 1) (Some r))) (above_zero k low)
+  where
+    above_zero : (k : ℕ) → 1 ≤ k → (k == 0) ≡ false
+    above_zero k low = grind (arith, common_steps, low)
 
 -- what is watched of the case that has another life
 same_watch : (s : State) (life : Life) (c : KeptCase) (b : Bool) → stands_on s.day c ≡ b → (b ≡ false → stands_on s.day (record c { life = life }) ≡ false) → stands_on s.day (record c { life = life }) ≡ true
@@ -392,16 +399,17 @@ issued_rows s k site life kept there rows true is low high at are = marks_issued
 issued_rows s k site life kept there rows false is low high at are =
     λ n. closed_put rows (issued_row s site kept) k low high n ∙ marks_fallen s k (issued_case site life kept) rows are is n
 
+-- no case has the number 0
+pub numbered : (cases : List KeptCase) (k : ℕ) (there : KeptCase) → case_at cases k ≡ Some there → 1 ≤ k
+numbered cases zero there e = absurd (cc (e))
+numbered cases (suc k) there e = omega arith
+
 pub kept_issued : (s : State) (k : ℕ) (site : Site) (life : Life) (kept : KeptList) (there : KeptCase) (old rows : List (Option Row)) → case_at s.cases k ≡ Some there → ((n : ℕ) → row_at rows n ≡ row_at old n)
     → k ≤ length rows → AreKept s old
     → AreKept (state_after_step (steps.Issued k site life kept) s)
     (cond (stands_in (state_after_step (steps.Issued k site life kept) s) k) (slice_set rows (k - 1) (Some (issued_row s site kept))) (rows_after_close k (slice_set rows (k - 1) (Some (issued_row s site kept)))))
 kept_issued s k site life kept there old rows at same high h =
-    (issued_rows s k site life kept there rows (stands_in (state_after_step (steps.Issued k site life kept) s) k) refl (not_zero k at) high at (λ n. same n ∙ h.0 n), day_formed s k (issued_case site life kept) h.1)
-  where
-    not_zero : (k : ℕ) → case_at s.cases k ≡ Some there → 1 ≤ k
-    not_zero zero e = absurd (cc (e))
-    not_zero (suc k) e = omega arith
+    (issued_rows s k site life kept there rows (stands_in (state_after_step (steps.Issued k site life kept) s) k) refl (numbered s.cases k there at) high at (λ n. same n ∙ h.0 n), day_formed s k (issued_case site life kept) h.1)
 
 pub kept_opened : (s : State) (c : KeptCase) (rows : List (Option Row)) → Goes s (steps.CaseFiled c) → AreKept s rows → AreKept (state_after_step (steps.CaseFiled c) s) rows
 kept_opened s c rows goes h = (marks_opened s c rows goes.0 h.0, λ none. absurd (goes.1 none))

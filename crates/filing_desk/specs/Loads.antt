@@ -39,7 +39,8 @@ NamesBadRow kept KeeperFault = ⊥
 NamesBadRow kept (BadRow table key) = IsFirstBad kept (place table, key)
 NamesBadRow kept NoMemory = Unit {0}
 
--- why opening failed: the keeper failed, in the load or in the change after it; or a row is the first bad one of those that a load of it finds; or memory ran out
+-- why opening failed: the keeper may fail, as one with a higher count can come of it; or a row is the first bad one of those that a load of it finds; or memory ran out. The keeper is gone then,
+-- so this does not say that it failed in the load or in the change after it, only that one which never fails is not said to have failed
 abbrev pub HasOpenCause : {K : Type 0} → (K → Kept → Type 0) → (K → Option (List ℕ) → Kept → Type 0) → (K → Type 0) → (K → ℕ)
     → K → Option (List ℕ) → OpenRefusal → Type 0
 HasOpenCause {K} Tells Finds IsSteady faults keeper path KeeperFault = (after : K) × IsLater IsSteady faults keeper after × HasFailed IsSteady faults keeper after

@@ -1,5 +1,5 @@
 -- The entries of a list of findings that are about one airfield are those that this airfield gives to it.
-use Rattle.std.proofs.Common.{◌≡◌, ◌≢◌, ℕ, ℤ, Bool, true, false, ◌&&◌, not, List, [], ◌∷◌, ◌++◌, Option, Some, None, refl, sym, ap, ◌∙◌, get_or, is_none, if◌then◌else◌, nat_eq, cond, append-nil, append_assoc, subst}
+use Rattle.std.proofs.Common.{◌≡◌, ◌≢◌, ℕ, ℤ, Bool, true, false, ◌&&◌, List, [], ◌∷◌, ◌++◌, Option, Some, None, refl, sym, ap, ◌∙◌, get_or, if◌then◌else◌, nat_eq, cond, append-nil, append_assoc, subst}
 use Rattle.std.proofs.lemmas.Bool.{and_parts}
 use Rattle.std.proofs.lemmas.Cmp.{nat_list_cmp_total}
 use Rattle.std.proofs.lemmas.List.Folds.{list_all-append}
@@ -14,8 +14,8 @@ use Rattle.ordered_list.specs.Ordered.{Rises}
 use Rattle.ordered_list.proofs.Rising.{missing, Rises-put, Rises-removed}
 use Rattle.ordered_list.proofs.Orders.{alike}
 use Rattle.airfields.specs.Names.{name_cmp}
-use Rattle.airfields.specs.Airfields.{id_of, category_of}
-use Rattle.airfields.specs.Categories.{has_civil_surfaces, is_described}
+use Rattle.airfields.specs.Airfields.{id_of}
+use Rattle.airfields.specs.Categories.{has_civil_surfaces}
 use Rattle.airfields.specs.Sites.{Site}
 use Rattle.airfields.specs.declared.airfield.Airfield.{Airfield}
 use Rattle.airfields.specs.declared.airfield.Airfield.TheVariants.{Airport as AnAirport, Heliport as AHeliport}
@@ -38,8 +38,7 @@ use Rattle.heliport_surfaces.specs.declared.parts.PadEnd.TheVariants as pad_ends
 use Rattle.heliport_surfaces.specs.declared.parts.Beside.TheVariants as sides
 use Rattle.runway_notice.specs.Notices.{notice_slope}
 use Rattle.runway_notice.specs.declared.slope.Slope.{Slope}
-use Rattle.notice_slopes.specs.OnAirfields.{is_on_described}
-use Rattle.airfield_findings.specs.Entries.{entries, no_key, field_key, runway_key, of_runway, of_runways, of_surfaces, of_pad, of_airfield, rule_b3, slope_finding, slope_entries}
+use Rattle.airfield_findings.specs.Entries.{entries, no_key, field_key, runway_key, of_runway, of_surfaces, of_pad, of_airfield, rule_b3, slope_finding, slope_entries}
 use Rattle.finding_lists.specs.declared.finding.Finding.{Finding}
 use Rattle.finding_lists.specs.declared.finding.SurfaceKey.{SurfaceKey}
 use Rattle.finding_lists.specs.declared.finding.Rule.{Rule}

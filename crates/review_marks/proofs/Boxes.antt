@@ -1,11 +1,11 @@
 -- Boxes about boxes.
-use Rattle.std.proofs.Common.{◌≡◌, Bool, true, false, Option, Some, None, refl, arith}
+use Rattle.std.proofs.Common.{◌≡◌, false, Option, Some, None, refl, arith}
 use Rattle.std.proofs.lemmas.Int.{ints}
 use Rattle.grid_exact.specs.Area.{has_point}
 use Rattle.grid_exact.specs.declared.area.Area.{Area}
 use Rattle.grid_exact.specs.declared.point.Point.{Point}
 use Rattle.outline_boxes.specs.Boxes.{Encloses, HoldsBoth, IsLeastBox}
-use Rattle.review_marks.specs.Near.{lies_in, IsAround}
+use Rattle.review_marks.specs.Near.{IsAround}
 
 out : (outer inner : Area) (x : Point) → Encloses outer inner → has_point outer x ≡ false → has_point inner x ≡ false
 out outer inner x e h = grind (arith, ints, e.west, e.south, e.east, e.north, h)

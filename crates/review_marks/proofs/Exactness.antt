@@ -1,8 +1,8 @@
 -- The marks stay exact as a case comes into the book and goes out of it.
 use Rattle.std.specs.Prelude.{IfOk}
-use Rattle.std.proofs.Common.{Result, Ok, Err, ◌≡◌, ◌⊎◌, inl, inr, ℕ, zero, suc, ◌-◌, ◌==◌, Bool, true, false, cond, nat_lt, List, [], ◌∷◌, length, Option, Some, None, IfSome, slice_get, slice_set, refl, sym, ap, ◌∙◌, subst}
+use Rattle.std.proofs.Common.{Result, Ok, Err, ◌≡◌, ◌⊎◌, inl, inr, ℕ, zero, suc, ◌-◌, ◌==◌, Bool, true, false, cond, nat_lt, List, [], ◌∷◌, length, Option, Some, None, IfSome, slice_get, slice_set, refl, sym, ◌∙◌, subst}
 use Rattle.airfields.specs.declared.airfield.Airfield.{Airfield}
-use Rattle.review_marks.specs.Books.{joined, row_at, rows_after_close, rows_after_commit, differs, IsExact, IsExactRow}
+use Rattle.review_marks.specs.Books.{joined, row_at, rows_after_close, rows_after_commit, rows_after_put, differs, IsExact, IsExactRow}
 use Rattle.oe_findings.specs.List.{findings_of}
 use Rattle.review_marks.specs.declared.change.MarkChange.{MarkChange}
 use Rattle.review_marks.specs.declared.change.MarkChange.TheVariants as changes
@@ -46,10 +46,17 @@ exact_close airfields rows number exact = by_zero (number == 0)
 
 -- ---- the change that adds a case
 
+exact_row : (airfields : List Airfield) (rows : List (Option Row)) (case : ℕ) (row : Row) → IsExactRow airfields row → IsExact airfields rows → IsExact airfields (rows_after_put case row rows)
+exact_row airfields rows case row is exact = by_zero (case == 0)
+  where
+    by_zero : (b : Bool) → IsExact airfields (cond b rows (slice_set rows (case - 1) (Some row)))
+    by_zero true = exact
+    by_zero false = exact_put airfields rows (case - 1) (Some row) is exact
+
 commits : (airfields : List Airfield) (c : MarkChange) (old new : List (Option Row)) (case : ℕ) (row : Row) → c ≡ changes.Added case row → IsExactRow airfields row → ((n : ℕ) → row_at new n ≡ row_at old n)
     → IsExact airfields old → IsExact airfields (rows_after_commit c new)
 commits airfields c old new case row e is same exact =
-    subst (λ (x : MarkChange). IsExact airfields (rows_after_commit x new)) (sym e) (exact_put airfields new (case - 1) (Some row) is (exact_same airfields old new same exact))
+    subst (λ (x : MarkChange). IsExact airfields (rows_after_commit x new)) (sym e) (exact_row airfields new case row is (exact_same airfields old new same exact))
 
 pub exact_added : {E : Type 0} (airfields : List Airfield) (r : Result MarkChange E) (old new : List (Option Row)) (case : ℕ) (row : Row) → IfOk r (λ c. c ≡ changes.Added case row) → IsExactRow airfields row
     → ((n : ℕ) → row_at new n ≡ row_at old n) → IfOk r (λ c. IsExact airfields old → IsExact airfields (rows_after_commit c new))

@@ -1,10 +1,9 @@
 -- Where a change of an airfield does not concern a structure, the structure's list of findings is as before.
-use Rattle.std.proofs.Common.{◌≡◌, ◌≢◌, ℕ, Bool, true, false, not, ◌&&◌, ◌||◌, cond, List, [], ◌∷◌, ◌++◌, Option, Some, None, refl, sym, ap, ◌∙◌, subst, get_or, is_none, if◌then◌else◌, nat_eq}
-use Rattle.std.proofs.lemmas.Bool.{and_parts}
+use Rattle.std.proofs.Common.{◌≡◌, ◌≢◌, ℕ, Bool, true, false, not, ◌&&◌, ◌||◌, cond, List, [], ◌∷◌, ◌++◌, Option, Some, None, refl, sym, ap, ◌∙◌, get_or, if◌then◌else◌, nat_eq}
 use Rattle.std.proofs.lemmas.Cmp.{nat_list_cmp_total}
-use Rattle.std.specs.List.{All, flat_map}
-use Rattle.std.specs.Option.{option_map, option_map_or, option_to_list}
-use Rattle.std.specs.Prelude.{option_and_then, IsTrue, ◌↔◌}
+use Rattle.std.specs.List.{flat_map}
+use Rattle.std.specs.Option.{option_map, option_to_list}
+use Rattle.std.specs.Prelude.{IsTrue, ◌↔◌}
 use Rattle.std.specs.Ordering.{is_eq}
 use Rattle.std.specs.Cmp.Lexicographic.{pointwise}
 use Rattle.std.specs.Bool.{Decides}
@@ -12,19 +11,17 @@ use Rattle.std.specs.declared.cmp.Ordering.{Ordering}
 use Rattle.std.specs.declared.cmp.Ordering.TheVariants.{Less, Equal, Greater}
 use Rattle.std.specs.Cmp.Lexicographic.{bytes_decides}
 use Rattle.std.proofs.lemmas.Slice.Eq.{slice_eq-Decides}
-use Rattle.ordered_list.specs.Ordered.{Rises, found_by, put_by, removed_by, by_order}
+use Rattle.ordered_list.specs.Ordered.{Rises, put_by, removed_by, by_order}
 use Rattle.ordered_list.proofs.Rising.{missing, missing_below, found_key}
-use Rattle.ordered_list.proofs.Finding.{not_equal, found_by-put_other, found_by-removed_other}
+use Rattle.ordered_list.proofs.Finding.{found_by-put_other, found_by-removed_other}
 use Rattle.ordered_list.proofs.Orders.{alike}
 use Rattle.airfields.specs.Names.{name_cmp}
-use Rattle.airfields.specs.Airfields.{id_of, category_of}
-use Rattle.airfields.specs.Categories.{is_described}
+use Rattle.airfields.specs.Airfields.{id_of}
 use Rattle.airfields.specs.Sites.{Site}
 use Rattle.airfields.specs.declared.airfield.Airfield.{Airfield}
 use Rattle.airport_register.specs.Amendments.{airfield_at, list_with_replaced}
 use Rattle.airport_register.proofs.Rules.{same_name}
 use Rattle.height_rules.specs.AboveGround.{notice_excess, height_excess}
-use Rattle.notice_slopes.specs.Exemptions.{exemption_of}
 use Rattle.notice_slopes.specs.OnAirfields.{is_on_described}
 use Rattle.airfield_findings.specs.Entries.{entries, no_key, field_key, of_airfield, slope_entries}
 use Rattle.finding_lists.specs.declared.finding.Finding.{Finding}

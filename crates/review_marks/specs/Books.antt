@@ -70,14 +70,18 @@ with_marks (m ∷ ms) rows = with_marks ms (with_mark m rows)
 
 -- the book has room for the case that a change adds
 abbrev pub HasRoom : List (Option Row) → MarkChange → Type 0
-HasRoom rows (Added number row) = (1 ≤ number) × (number ≤ length rows)
+HasRoom rows (Added number row) = number ≤ length rows
 HasRoom rows (Marked marks) = Unit {0}
 
 -- the book without a case
 abbrev pub rows_after_close : ℕ → List (Option Row) → List (Option Row)
 rows_after_close number rows = cond (number == 0) rows (cond (nat_lt (number - 1) (length rows)) (slice_set rows (number - 1) None) rows)
 
+-- the book with this row of a case; no case has the number 0
+abbrev pub rows_after_put : ℕ → Row → List (Option Row) → List (Option Row)
+rows_after_put number row rows = cond (number == 0) rows (slice_set rows (number - 1) (Some row))
+
 -- the book after a change
 abbrev pub rows_after_commit : MarkChange → List (Option Row) → List (Option Row)
-rows_after_commit (Added number row) rows = slice_set rows (number - 1) (Some row)
+rows_after_commit (Added number row) rows = rows_after_put number row rows
 rows_after_commit (Marked marks) rows = with_marks marks.items rows

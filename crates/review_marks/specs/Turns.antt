@@ -1,6 +1,6 @@
 -- The book after an airfield changed.
 use Rattle.std.specs.Prelude.{◌≡◌, ℕ, ◌+◌, ◌<◌, ◌≤◌, Bool, true, false, ◌||◌, nat_eq, cond, List, [], ◌∷◌, Option, Some, None, if◌then◌else◌}
-use Rattle.std.specs.Option.{option_map, option_map_or}
+use Rattle.std.specs.Option.{option_map}
 use Rattle.airfields.specs.declared.airfield.Airfield.{Airfield}
 use Rattle.ordered_list.specs.Ordered.{Rises}
 use Rattle.airfields.specs.Names.{name_cmp}

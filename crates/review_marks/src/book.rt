@@ -1,7 +1,7 @@
 //! The book of marks.
 
-ghost use Rattle.std.specs.Prelude.{◌≡◌, ◌≤◌, ◌-◌, [], is_some, length, None, Some, option_copied, IfOk, option_map, slice_set};
-ghost use Rattle.review_marks.specs.Books.{row_at, is_marked_in, row_marked_as, marked_cases, rows_after_commit, with_mark, with_marks};
+ghost use Rattle.std.specs.Prelude.{◌≡◌, ◌≤◌, [], is_some, length, None, option_copied, IfOk, option_map};
+ghost use Rattle.review_marks.specs.Books.{row_at, is_marked_in, row_marked_as, marked_cases, rows_after_put, with_mark, with_marks};
 
 use crate::change::{Mark, MarkChange};
 use crate::row::Row;
@@ -142,12 +142,14 @@ impl MarkBook {
         }
     }
 
-    /// Stores the row of a case, for which there is room.
+    /// Stores the row of a case, for which there is room. No case has the number 0.
     pub(crate) fn put_row(&mut self, case: u32, row: Row)
-        requires number { 1 ≤ case }
         requires room { case ≤ length self.old }
-        ensures { self.new ≡ slice_set self.old (case - 1) (Some row) }
+        ensures { self.new ≡ rows_after_put case row self.old }
     {
+        if case == 0 {
+            return;
+        }
         self.rows[case as usize - 1] = Some(row);
     }
 }

@@ -1,11 +1,10 @@
-//! Journals over disks in memory that fail, stop and crash, and over a file. What a stop at each call leaves of a desk is shown by sessions.
+//! Journals over disks in memory that fail, stop and crash, and a file of the machine. What a stop at each call leaves of a desk is shown by sessions.
 
 use crate::rows::{has_rows, put};
-use crash_disks::{Disk, Failed, FileDisk, MemoryDisk, cut_synced, write_synced};
+use crash_disks::{Disk, FileDisk, MemoryDisk, cut_synced, write_synced};
 use grid_exact::NoMemory;
 use oe_journal::{Answer, Call, JournalKeeper, run_all};
-use oe_keeper::{ByName, FailList, KeepErr, Keeper, RowChange, Table};
-use oe_sqlite::SqliteKeeper;
+use oe_keeper::{FailList, Keeper, RowChange, Table};
 use std::alloc::Global;
 use std::test::Fail;
 
@@ -148,31 +147,5 @@ fn a_file_that_is_cut(rt: HostRuntime) -> Result<(), Fail> {
     let mut bytes = [7; 12];
     assert_eq!(rt; disk.read_at(0, &mut bytes), Ok(10));
     assert_eq!(rt; bytes, [1, 0, 0, 0, 0, 0, 0, 0, 25, 80, 7, 7]);
-    Ok(())
-}
-
-#[test]
-fn in_a_file_by_its_name(rt: HostRuntime) -> Result<(), Fail> {
-    let alloc = rt.alloc();
-    let place = Some("office.oej");
-    let mut keeper = ByName::new(
-        SqliteKeeper::new(&rt),
-        JournalKeeper::new(FileDisk::new(&rt)),
-    );
-    assert!(rt; has_rows(&keeper.load(alloc, place)?, &[]));
-    assert!(rt; keeper.apply(alloc, &[format(alloc)?]).is_ok());
-    let mut busy = JournalKeeper::new(FileDisk::new(&rt));
-    assert!(rt; matches!(busy.load(alloc, place), Err(KeepErr::Failed)));
-    drop(keeper);
-    let mut disk = FileDisk::new(&rt);
-    assert_eq!(rt; disk.open(None), Err(Failed));
-    assert_eq!(rt; disk.open(place), Ok(()));
-    assert_eq!(rt; disk.size(), Ok(35));
-    drop(disk);
-    let mut again = ByName::new(
-        SqliteKeeper::new(&rt),
-        JournalKeeper::new(FileDisk::new(&rt)),
-    );
-    assert!(rt; has_rows(&again.load(alloc, Some("office.oej"))?, &FORMAT));
     Ok(())
 }

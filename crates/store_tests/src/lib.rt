@@ -1,4 +1,4 @@
-//! Tests of keepers: in memory, with failures, of SQLite and of journals, in memory and in a file.
+//! Tests of keepers in memory, with failures, of SQLite and of journals, and of a file of the machine.
 #![tactic(auto)]
 
 #[cfg(test)]
@@ -9,5 +9,3 @@ mod keeper_tests;
 mod rows;
 #[cfg(test)]
 mod sqlite_tests;
-#[cfg(test)]
-mod table_tests;

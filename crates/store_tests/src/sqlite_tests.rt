@@ -1,4 +1,4 @@
-//! Keepers of SQLite, in memory and in a file.
+//! A keeper of SQLite in memory.
 
 use crate::rows::{has_rows, put, remove};
 use oe_keeper::{KeepErr, Keeper, Table};
@@ -25,20 +25,5 @@ fn in_memory(rt: HostRuntime) -> Result<(), Fail> {
     ];
     keeper.apply(alloc, &changes)?;
     assert!(rt; has_rows(&keeper.load(alloc, None)?, &ROWS));
-    Ok(())
-}
-
-#[test]
-fn in_a_file(rt: HostRuntime) -> Result<(), Fail> {
-    let alloc = rt.alloc();
-    let mut keeper = SqliteKeeper::new(&rt);
-    assert_eq!(rt; keeper.load(alloc, Some("office.db"))?.len(), 0);
-    keeper.apply(alloc, &[put(alloc, Table::Desk, "format", "1")?])?;
-    keeper.apply(alloc, &[put(alloc, Table::Airfield, "AAA", "x")?])?;
-    drop(keeper);
-    let mut again = SqliteKeeper::new(&rt);
-    assert!(rt; has_rows(&again.load(alloc, Some("office.db"))?, &ROWS));
-    let mut keeper = SqliteKeeper::new(&rt);
-    assert!(rt; matches!(keeper.load(alloc, Some(".")), Err(KeepErr::Failed)));
     Ok(())
 }

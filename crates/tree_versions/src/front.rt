@@ -1,5 +1,5 @@
 //! Fronts: the first entries of a history.
-ghost use Rattle.std.specs.Prelude.{◌≡◌, ◌+◌, ◌<◌, ◌^◌, ◌++◌, ◌∷◌, [], length, MatchBool};
+ghost use Rattle.std.specs.Prelude.{◌≡◌, ◌+◌, ◌<◌, ◌^◌, ◌++◌, ◌∷◌, [], length, nat_le, MatchBool};
 ghost use mathlib.Core.List.{IsPrefix};
 
 use crate::history::{Addition, History, HistoryRule, NoGain};
@@ -62,7 +62,8 @@ impl<E, V, J: Naming<V>> Front<E, V, J> {
 
     /// Whether the other front has no more entries than this one. Of two fronts of one opening the shorter begins the longer.
     pub fn covers(&self, other: &Front<E, V, J>) -> bool
-        ensures { MatchBool result (IsPrefix other.now self.now) (IsPrefix self.now other.now) }
+        ensures begun { MatchBool result (IsPrefix other.now self.now) (IsPrefix self.now other.now) }
+        ensures exact { result ≡ nat_le (length other.now) (length self.now) }
     {
         let mut both = self.seen.again();
         both.learn(&other.seen);

@@ -36,7 +36,7 @@ list_for_decision-requires-clause-told g c =
     let front : c.len.result ≡ length e.front = c.len.ensures.count ∙ ap length c.front.ensures in
     let few : length e.front ≤ length p.published = omega (arith, c.if-len-number.false, c.number.ensures.number, ap length note, front) in
     let P : List Entry × List Entry → Type 0 = λ t. MatchBool c.covers.result (IsPrefix t.0 t.1) (IsPrefix t.1 t.0) in
-    let either : P (e.front, p.published) = subst P (λ i. (c.front-3.ensures i, (c.front-2.ensures ∙ note) i)) c.covers.ensures in
+    let either : P (e.front, p.published) = subst P (λ i. (c.front-3.ensures i, (c.front-2.ensures ∙ note) i)) c.covers.ensures.begun in
     let begins : IsPrefix e.front p.published = begins_by c.covers.result e.front p.published either few in
     let all : IsPrefix e.front k.accepted = prefix_trans e.front p.published k.accepted begins (published_begins o.register k.accepted p h.offers) in
     told c.names_go_on.ensures c.findings_are_told.ensures g.J.Naming.first o k.state k.accepted base e h.named.value h.named.desk c.is_storable.ensures h.goes.entries all c.is_over.ensures

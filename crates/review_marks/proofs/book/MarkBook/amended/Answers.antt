@@ -1,5 +1,4 @@
-use Rattle.std.proofs.Common.{◌≡◌, ◌<◌, ◌≤◌, ◌+◌, ◌++◌, ◌∷◌, [], List, ℕ, Some, sym, ap, ◌∙◌, subst, arith, length, take, drop, cond, suc}
-use Rattle.airfields.specs.declared.airfield.Airfield.{Airfield}
+use Rattle.std.proofs.Common.{◌≡◌, ◌<◌, ◌≤◌, ◌+◌, ◌++◌, ◌∷◌, [], List, ℕ, subst, arith, length, take, drop, cond, suc}
 use Rattle.review_marks.specs.Books.{row_at, with_marks}
 use Rattle.review_marks.specs.Shares.{AirfieldChange, change_of, concerns_row}
 use Rattle.review_marks.specs.Turns.{HasReached, IsTurnedTo}

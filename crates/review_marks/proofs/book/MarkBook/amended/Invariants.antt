@@ -1,4 +1,4 @@
-use Rattle.std.proofs.Common.{◌≡◌, take, drop}
+use Rattle.std.proofs.Common.{take, drop}
 use Rattle.review_marks.specs.Shares.{change_of}
 use Rattle.review_marks.specs.Turns.{IsTurnedTo}
 use Rattle.review_marks.proofs.Turning.{IsAt}

@@ -1,4 +1,4 @@
-use Rattle.std.proofs.Common.{◌≡◌, ◌+◌, List, ℕ, sym, subst}
+use Rattle.std.proofs.Common.{◌+◌, List, ℕ, sym, subst}
 use Rattle.review_marks.specs.Turns.{ClimbsTo, HasReached}
 use Rattle.review_marks.proofs.Turning.{reached_put, climbs_on, climbs_more}
 use Rattle.review_marks.proofs.NearCases.{sites_on}

@@ -1,4 +1,3 @@
-use Rattle.std.proofs.Common.{◌≡◌}
 use Rattle.review_marks.specs.Nearby.{AreSites}
 use Rattle.review_marks.specs.Turns.{ClimbsTo, HasReached}
 use Rattle.review_marks.proofs.book.MarkBook.reached.Given as goal

@@ -1,4 +1,4 @@
-use Rattle.std.proofs.Common.{◌≡◌, ◌++◌, ◌∷◌, [], List, ap, ◌∙◌, sym, subst}
+use Rattle.std.proofs.Common.{◌++◌, ◌∷◌, [], List, ap, ◌∙◌, sym, subst}
 use Rattle.review_marks.specs.Turns.{IsTurnedTo}
 use Rattle.review_marks.specs.declared.change.Mark.{Mark}
 use Rattle.review_marks.proofs.Turning.{turned_on, with_found}

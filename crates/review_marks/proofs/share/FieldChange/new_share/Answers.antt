@@ -1,4 +1,4 @@
-use Rattle.std.proofs.Common.{◌≡◌, sym, ap, ◌∙◌}
+use Rattle.std.proofs.Common.{sym, ap, ◌∙◌}
 use Rattle.std.specs.Option.{option_map}
 use Rattle.airfield_findings.specs.Prepared.{airfield_of}
 use Rattle.review_marks.specs.Shares.{AirfieldChange, concerns, differ_shares, share_of}
