@@ -36,7 +36,7 @@ class Stores(Trial):
                 self.assertEqual(self.desk(self.store(f"{number}.db", [*ROWS, row]), DAY), FAULT)
 
     def test_places_that_are_no_file(self) -> None:
-        for place in (".", "no/office.db", "no/office.oej", "./.oej/"):
+        for place in (".", ":memory:", "no/office.db", "no/office.oej", "./.oej/"):
             with self.subTest(place):
                 self.assertEqual(self.desk(place, DAY), FAULT)
 

@@ -1,4 +1,4 @@
-//! Tests of keepers in memory, with failures, of SQLite and of journals, and of a file of the machine.
+//! Tests of a keeper in memory with failures, of journals, and of a file of the machine.
 #![tactic(auto)]
 
 #[cfg(test)]
@@ -7,5 +7,3 @@ mod journal_tests;
 mod keeper_tests;
 #[cfg(test)]
 mod rows;
-#[cfg(test)]
-mod sqlite_tests;
