@@ -23,6 +23,11 @@ WANTED = ("sh", "awk", "cat", "chmod", "df", "dirname", "find", "flock", "git", 
 SECONDS = 60
 
 
+def heed_interrupts() -> None:
+    """What a shell starts in the background ignores Ctrl-C, and so would what it starts itself."""
+    signal.signal(signal.SIGINT, signal.SIG_DFL)
+
+
 class Build(Trial):
     def setUp(self) -> None:
         super().setUp()
@@ -42,7 +47,7 @@ class Build(Trial):
 
     def begin(self, *words: str, program: Path | None = None) -> "subprocess.Popen[str]":
         return subprocess.Popen([program or self.top / "oe", *words], cwd=self.folder, env={"PATH": str(self.path)}, text=True, start_new_session=True,
-                                stdin=subprocess.PIPE, stdout=subprocess.PIPE, stderr=subprocess.PIPE)
+                                stdin=subprocess.PIPE, stdout=subprocess.PIPE, stderr=subprocess.PIPE, preexec_fn=heed_interrupts)
 
     def end(self, begun: "subprocess.Popen[str]", given: str = "") -> Ended:
         out, err = begun.communicate(given, timeout=SECONDS)
