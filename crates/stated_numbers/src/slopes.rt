@@ -31,7 +31,7 @@ pub fn runway_slopes()
 {}
 
 /// A lemma, never run: 77.19(d), (e). What an approach surface covers lies within 20 fortieths of its width, what its transitional surface reaches
-/// does not, and beyond the conical surface that one ends 5,000 feet from there.
+/// lies there or farther out, and beyond the conical surface at most 5,000 feet from there.
 pub fn half_widths()
     ensures covered { (a : Approach) (o : Offset) → ApproachCovers a o
         → AtMostRoot (lateral_excess a o) (pos 20 *ℤ a.width) o.square }
