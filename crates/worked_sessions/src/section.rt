@@ -7,7 +7,7 @@ use crate::desks::{kept, unkept};
 use crate::links::answer_links;
 use crate::rows::take_rows;
 use crate::signs::bytes_of;
-use crate::stops::{answer_stops, journal};
+use crate::stops::{Stopping, answer_stops};
 use crate::title::Wanted;
 use crash_disks::MemoryDisk;
 use filing_desk::Clerk;
@@ -64,7 +64,7 @@ fn two_keepers(alloc: Global) -> Result<TwoKeepers, Broken> {
     let mut fails = FailList::new(alloc);
     fails.push(1)?;
     let first = MemoryKeeper::new(alloc, Tables::empty(alloc), fails);
-    Ok(ByName::new(first, journal(alloc, None)))
+    Ok(ByName::new(first, JournalKeeper::<MemoryDisk>::stopping(alloc, None)))
 }
 
 /// A section of links.
@@ -150,7 +150,7 @@ impl Sections {
             return linked(self.alloc, lines, wanted.is_bytewise, output);
         }
         if let Some(pick) = wanted.stops {
-            return answer_stops(self.alloc, lines, pick, output);
+            return answer_stops::<JournalKeeper<MemoryDisk>, O>(self.alloc, lines, pick, output);
         }
         if wanted.is_journal {
             return self.keep_journal(wanted.goes_on, lines, output);
