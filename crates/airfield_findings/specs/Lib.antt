@@ -1,3 +1,8 @@
+pub mod Areas
+pub mod Around
+pub mod Beside
+pub mod Kept
+pub mod Plots
 pub mod Entries
 pub mod Reaches
 pub mod PreparedAirports

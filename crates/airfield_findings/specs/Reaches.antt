@@ -15,7 +15,7 @@ use Rattle.height_rules.specs.Heights.{notice_top, standards_top}
 use Rattle.runway_notice.specs.Notices.{notice_slope}
 use Rattle.imaginary_surfaces.specs.Areas.{HullHas}
 use Rattle.surface_tree.specs.declared.placed.Plot.{Plot}
-use Rattle.airfield_plots.specs.Plots.{IsOver, IsPlotOf}
+use Rattle.airfield_findings.specs.Plots.{IsOver, IsPlotOf}
 use Rattle.airfield_findings.specs.Entries.{of_airfield, of_runway, of_surfaces, slope_entries}
 
 -- both tops of a structure are levels

@@ -4,7 +4,7 @@ ghost use Rattle.std.specs.Prelude.{◌↔◌};
 ghost use Rattle.grid_exact.specs.Area.{Has};
 ghost use Rattle.grid_exact.specs.declared.point.Point.{Point as APoint};
 ghost use Rattle.outline_boxes.specs.Bounds.{box_of};
-ghost use Rattle.airfield_plots.specs.Plots.{IsOver};
+ghost use Rattle.airfield_findings.specs.Plots.{IsOver};
 
 use grid_exact::Area;
 use outline_boxes::Bounds;

@@ -1,4 +1,5 @@
-//! The findings of a structure for one airfield: which of its standards and slopes the structure exceeds, and by how much.
+//! The findings of a structure for one airfield: which of its standards and slopes the structure exceeds, and by how much; and where the airfield
+//! stands in a tree of areas.
 //!
 //! An excess is in whole tenths of a foot.
 #![tactic(auto)]
@@ -6,6 +7,7 @@
 mod bounds;
 mod datum;
 mod entry;
+mod plots;
 mod prepared;
 mod prepared_airport;
 mod reach;
@@ -15,6 +17,7 @@ mod strips;
 mod surfaces;
 
 pub use entry::{field_key, no_field, put_entry};
+pub use plots::{LARGE_LEVEL, SMALL_LEVEL, airport_plot, heliport_plot};
 pub use prepared::Prepared;
 pub use slopes::put_slope;
 pub use standards::put_airfield;

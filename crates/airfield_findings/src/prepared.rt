@@ -2,23 +2,32 @@
 
 ghost use Rattle.std.specs.Prelude.{◌≡◌, nat_eq, IfOk};
 ghost use Rattle.airfields.specs.Airfields.{IsHeld};
-ghost use Rattle.airfield_plots.specs.declared.plots.TheConstants.{SMALL_LEVEL};
+ghost use Rattle.airfield_findings.specs.declared.plots.TheConstants.{SMALL_LEVEL};
 ghost use Rattle.airfield_findings.specs.Surfaces.{airfield_with};
 ghost use Rattle.airfield_findings.specs.Reaches.{IsInPlace};
 
+use crate::plots::SMALL_LEVEL;
 use crate::surfaces::Surfaces;
-use airfield_plots::SMALL_LEVEL;
 use airfields::{Airfield, FieldId};
 use grid_exact::NoMemory;
 use std::alloc::Global;
 use surface_tree::{Placed, Plot};
 
 /// An airfield with its surfaces, and its plot; it has no findings for structures outside the plot's area.
-#[derive(Drop)]
 pub struct Prepared {
     pub(crate) surfaces: Surfaces,
     pub(crate) plot: Plot,
     ghost in_place: { IsInPlace plot (airfield_with surfaces) },
+}
+
+// By hand, so that no crate above proves again how what it holds is dropped.
+impl Drop for Prepared {
+    fn drop(self) {
+        let Prepared {
+            surfaces: _,
+            plot: _,
+        } = self;
+    }
 }
 
 impl Prepared {
@@ -47,7 +56,7 @@ impl Prepared {
 /// In a tree of areas, a prepared airfield has the airfield's name as its key, and its own plot.
 impl Placed for Prepared {
     ghost use Rattle.airfields.specs.Airfields.{id_of};
-    ghost use Rattle.airfield_plots.specs.declared.plots.TheConstants.{SMALL_LEVEL};
+    ghost use Rattle.airfield_findings.specs.declared.plots.TheConstants.{SMALL_LEVEL};
     ghost use Rattle.airfield_findings.specs.Surfaces.{airfield_with};
 
     type Key = FieldId;

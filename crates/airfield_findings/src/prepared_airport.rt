@@ -13,9 +13,9 @@ ghost use Rattle.airfield_findings.specs.Reaches.{IsInPlace};
 
 use crate::bounds::bounds_of;
 use crate::datum::Datum;
+use crate::plots::airport_plot;
 use crate::reach::surfaces_area;
 use crate::strips::Strips;
-use airfield_plots::airport_plot;
 use airfields::{Airport, Category, FieldId};
 use grid_exact::{NoMemory, Point};
 use height_rules::{Structure, excess_near_limited, near_area};

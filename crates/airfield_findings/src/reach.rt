@@ -10,8 +10,8 @@ ghost use Rattle.airfields.specs.declared.airfield.Airport.{Airport as AnAirport
 ghost use Rattle.horizontal_hull.specs.Arcs.{dome_of};
 ghost use Rattle.imaginary_surfaces.specs.Areas.{AreStripAreas};
 ghost use Rattle.outline_boxes.specs.Boxes.{Encloses, IsLeastBox};
-ghost use Rattle.airfield_plots.specs.Areas.{AreRunwayAreas, AreSurfaceAreas};
-ghost use Rattle.airfield_plots.specs.Plots.{IsJoin, IsOver};
+ghost use Rattle.airfield_findings.specs.Areas.{AreRunwayAreas, AreSurfaceAreas};
+ghost use Rattle.airfield_findings.specs.Plots.{IsJoin, IsOver};
 ghost use Rattle.airfield_findings.specs.Entries.{of_surfaces};
 ghost use Rattle.airfield_findings.specs.Reaches.{IsRunwayReach};
 

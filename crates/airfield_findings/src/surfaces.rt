@@ -6,8 +6,8 @@ ghost use Rattle.airfields.specs.declared.airfield.Airfield.TheVariants.{Helipor
 ghost use Rattle.airfield_findings.specs.Reaches.{IsInPlace};
 ghost use Rattle.airfield_findings.specs.Surfaces.{airfield_with};
 
+use crate::plots::heliport_plot;
 use crate::prepared_airport::PreparedAirport;
-use airfield_plots::heliport_plot;
 use airfields::{Airfield, FieldId, Heliport};
 use grid_exact::NoMemory;
 use heliport_surfaces::Pad;

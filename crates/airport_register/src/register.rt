@@ -21,9 +21,15 @@ use std::sync::Arc;
 pub const MOST_AIRFIELDS: usize = 16_384;
 
 /// The register, which contracts see as the list of its airfields in rising order of name.
-#[derive(Drop)]
 pub struct Register {
     items: OrderedTree<Airfield, OwnKey>,
+}
+
+// By hand, so that no crate above proves again how what it holds is dropped.
+impl Drop for Register {
+    fn drop(self) {
+        let Register { items: _ } = self;
+    }
 }
 
 impl Model for Register {

@@ -14,7 +14,7 @@ use std::collections::VecDeque;
 
 /// A disk in memory. Its calls count from 1. It fails at the listed ones; the one numbered `stop` and all
 /// later ones do nothing and fail. Want of memory is a fault too.
-#[derive(Debug, Drop)]
+#[derive(Debug)]
 pub struct MemoryDisk {
     alloc: Global,
     first: Vec<u8>,
@@ -26,6 +26,22 @@ pub struct MemoryDisk {
     faults: u64,
     ghost held: { bytes.items ≡ replay first.items steps.items },
     ghost ran: { fits first.items steps.items ≡ true },
+}
+
+// By hand, so that no crate above proves again how what it holds is dropped.
+impl Drop for MemoryDisk {
+    fn drop(self) {
+        let MemoryDisk {
+            alloc: _,
+            first: _,
+            steps: _,
+            bytes: _,
+            fail: _,
+            stop: _,
+            calls: _,
+            faults: _,
+        } = self;
+    }
 }
 
 impl MemoryDisk {

@@ -1,3 +1,8 @@
+pub mod Over
+pub mod Structures
+pub mod Numbers
+pub mod Staying
+pub mod Lines
 pub mod LineFacts
 pub mod SessionFacts
 pub mod ShiftFacts

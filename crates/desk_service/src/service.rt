@@ -16,7 +16,7 @@ use link_gates::{Gate, GateErr, Port, TURN_LIMIT, Worked, open_ports, work_all};
 use oe_findings::Sky;
 use oe_http::{Sink, write_whole};
 use oe_keeper::Keeper;
-use seat_desk::{Opening, PublishingClerk};
+use publishing_clerk::{Opening, PublishingClerk};
 use std::alloc::Global;
 use std::marker::Brand;
 use std::sync::{Mutex, Wait};

@@ -3,13 +3,14 @@
 ghost use Rattle.std.specs.Prelude.{◌≡◌, ◌≢◌, ◌≤◌, ◌<◌, ◌+◌, ◌∷◌, true, false, IfOk, IfSome, All, None, length, map, vec_len};
 ghost use Rattle.oe_http.specs.Causes.{Rose};
 ghost use Rattle.http_session.specs.Replying.{Replies};
-ghost use Rattle.seat_desk.specs.Sittings.{Sitting};
-ghost use Rattle.seat_desk.specs.Replies.{LineOver};
+ghost use Rattle.desk_service.specs.Sittings.{Sitting};
+ghost use Rattle.desk_service.specs.Replies.{LineOver};
 ghost use Rattle.link_gates.specs.Ports.{NoneLeft};
 ghost use Rattle.link_gates.specs.Serving.{SessionOf, WorksOff};
 ghost use Rattle.link_gates.specs.Teams.{served_in};
 ghost use Rattle.link_gates.specs.declared.shift.TheConstants.{TURN_LIMIT};
 
+use crate::desk::SeatDesk;
 use desk_machine::Entry;
 use grid_exact::NoMemory;
 use http_routes::Routes;
@@ -18,7 +19,7 @@ use line_session::Answering;
 use link_gates::{Port, Shift, TURN_LIMIT, Worked, worker};
 use oe_findings::Sky;
 use oe_keeper::Keeper;
-use seat_desk::{Locked, Opening, PublishingClerk, SeatDesk};
+use publishing_clerk::{Locked, Opening, PublishingClerk};
 use std::alloc::Global;
 use std::marker::Brand;
 use std::sync::ledger::{Blank, Ledger};

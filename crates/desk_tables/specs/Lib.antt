@@ -1,3 +1,6 @@
+pub mod Names
+pub mod RegisterParts
+pub mod Reachable
 pub mod Tables
 pub mod Rows
 pub mod Changes

@@ -3,15 +3,14 @@ ghost use Rattle.std.specs.Prelude.{◌≡◌, ◌<◌, Some};
 ghost use Rattle.desk_machine.specs.States.{empty, last_number};
 
 use crate::sessions::{AIRPORT, CASE, check_reply};
-use clerk_fronts::{Front, Locked};
 use desk_machine::Entry;
+use desk_service::SeatDesk;
 use filing_desk::Clerk;
 use grid_exact::Steps;
 use oe_findings::Sky;
 use oe_keeper::NoKeeper;
 use oe_wire::{Request, append_reply, read_record};
-use publishing_clerk::{Evaluation, Opening, PublishingClerk};
-use seat_desk::SeatDesk;
+use publishing_clerk::{Evaluation, Front, Locked, Opening, PublishingClerk};
 use std::alloc::Global;
 use std::marker::Brand;
 use std::process::Abort;

@@ -4,13 +4,12 @@ ghost use Rattle.desk_machine.specs.States.{empty, last_number};
 
 use crate::sessions::Session::{First, Second};
 use crate::sessions::{AIRPORT, CASE, Turn, check_replies};
-use clerk_fronts::Locked;
 use desk_machine::Entry;
+use desk_service::SeatDesk;
 use filing_desk::Clerk;
 use oe_findings::Sky;
 use oe_keeper::NoKeeper;
-use publishing_clerk::{Opening, PublishingClerk};
-use seat_desk::SeatDesk;
+use publishing_clerk::{Locked, Opening, PublishingClerk};
 use std::alloc::Global;
 use std::marker::Brand;
 use std::process::Abort;

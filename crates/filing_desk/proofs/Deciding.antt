@@ -16,7 +16,7 @@ use Rattle.desk_machine.specs.Machine.{Answer as Decided, Kept, No, Done, ruling
 use Rattle.desk_machine.proofs.Replaying.{replayed_always, same_entries, append_nothing}
 use Rattle.filing_desk.specs.declared.answer.Answer.{Answer}
 use Rattle.filing_desk.specs.declared.answer.Answer.TheVariants as answers
-use Rattle.reachable_desks.specs.Desks.{IsDesk, IsTold}
+use Rattle.desk_tables.specs.Reachable.{IsDesk, IsTold}
 use Rattle.filing_desk.specs.Answers.{Answers}
 use Rattle.filing_desk.specs.Clerks.{Clerking, IsReplay, HasOpening, Advances}
 

@@ -7,7 +7,7 @@ use Rattle.desk_machine.specs.States.{State, last_number}
 use Rattle.desk_machine.specs.Machine.{Answer as Decided, No, state_after, entries_of_answer, replay}
 use Rattle.filing_desk.specs.declared.answer.Answer.{Answer}
 use Rattle.filing_desk.specs.declared.answer.Answer.TheVariants as answers
-use Rattle.reachable_desks.specs.Desks.{IsDesk}
+use Rattle.desk_tables.specs.Reachable.{IsDesk}
 use Rattle.filing_desk.specs.Answers.{answer_of}
 use Rattle.filing_desk.specs.Handed.{Told}
 

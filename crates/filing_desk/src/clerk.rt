@@ -8,7 +8,7 @@ ghost use Rattle.desk_machine.specs.States.{case_at, entry_at, last_number};
 ghost use Rattle.desk_machine.specs.Evaluations.{site_of};
 ghost use Rattle.desk_machine.specs.Machine.{decide};
 ghost use Rattle.desk_machine.specs.Marks.{case_view, marks};
-ghost use Rattle.reachable_desks.specs.Desks.{IsDesk};
+ghost use Rattle.desk_tables.specs.Reachable.{IsDesk};
 ghost use Rattle.filing_desk.specs.Answers.{decision};
 ghost use Rattle.filing_desk.specs.Clerks.{Advances, HasOpening};
 ghost use Rattle.filing_desk.specs.Handed.{HasCause, Told};
@@ -19,10 +19,10 @@ use crate::office::Office;
 use airfields::Filing;
 use case_records::{CaseList, CaseView};
 use desk_machine::Entry;
+use desk_tables::desk_goes_on;
 use grid_exact::{NoMemory, Text};
 use oe_findings::Sky;
 use oe_keeper::Keeper;
-use reachable_desks::desk_goes_on;
 use std::alloc::Global;
 use std::marker::Model;
 use wire_requests::Change;
@@ -30,12 +30,22 @@ use wire_requests::Change;
 /// Decides changing requests one after the other, and stores each accepted one in its keeper. Seen as its state, the requests accepted
 /// since the opening, and the keeper. The state is always the replay of these requests from the state at the opening, and the keeper's
 /// rows, where known, are those of the state.
-#[derive(Drop)]
 pub struct Clerk<K: Keeper> {
     pub(crate) office: Office,
     pub(crate) keeper: K,
     /// The number of the last entry at the opening.
     pub(crate) base: u64,
+}
+
+// By hand, so that no crate above proves again how what it holds is dropped.
+impl<K: Keeper + Drop> Drop for Clerk<K> {
+    fn drop(self) {
+        let Clerk {
+            office: _,
+            keeper: _,
+            base: _,
+        } = self;
+    }
 }
 
 impl<K: Keeper> Model for Clerk<K> {
@@ -107,7 +117,12 @@ impl<K: Keeper> Clerk<K> {
         ensures desk { IsDesk self.state }
         ensures told { Told K.Tells self.keeper self.state }
     {
-        self.keeper
+        let Clerk {
+            office: _,
+            keeper,
+            base: _,
+        } = self;
+        keeper
     }
 
     /// The case of this number; `None` exactly where there is no such case.

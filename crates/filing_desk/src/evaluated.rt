@@ -2,7 +2,7 @@
 
 ghost use Rattle.std.specs.Prelude.{◌≡◌, ◌&&◌, nat_le, Some, IfOk, option_copied};
 ghost use Rattle.desk_machine.specs.Evaluations.{same_site};
-ghost use Rattle.reachable_desks.specs.Desks.{IsTold};
+ghost use Rattle.desk_tables.specs.Reachable.{IsTold};
 
 use airfields::Filing;
 use case_records::KeptList;
@@ -23,7 +23,7 @@ pub struct Evaluated {
 impl Model for Evaluated {
     ghost use Rattle.std.specs.Prelude.{Some};
     ghost use Rattle.desk_machine.specs.Evaluations.{Given};
-    ghost use Rattle.reachable_desks.specs.Desks.{IsTold};
+    ghost use Rattle.desk_tables.specs.Reachable.{IsTold};
 
     ghost Value = { Given };
 

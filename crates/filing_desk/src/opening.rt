@@ -12,10 +12,9 @@ ghost use Rattle.filing_desk.specs.Loads.{HasOpenCause, HasRenewed, IsOpened, Na
 use crate::clerk::Clerk;
 use crate::desk::Desk;
 use crate::office::Office;
-use desk_tables::{ChangeList, Unread, opened_rows, read_desk};
+use desk_tables::{ChangeList, Unread, desk_starts, opened_is_desk, opened_rows, read_desk};
 use grid_exact::{NoMemory, Text};
 use oe_keeper::{KeepErr, Keeper, NoKeeper, Table, Tables};
-use reachable_desks::{desk_starts, opened_is_desk};
 use std::alloc::Global;
 
 /// Why a clerk could not be opened.

@@ -35,8 +35,8 @@ use Rattle.runway_notice.specs.Notices.{notice_slope}
 use Rattle.runway_notice.proofs.AreaFacts.{area_covers, area_skips, none_listed}
 use Rattle.airfield_findings.specs.Entries.{of_runway}
 use Rattle.airfield_findings.proofs.ReachFacts.{surfaces_nowhere}
-use Rattle.airfield_plots.specs.Areas.{AreAirportAreas, AreAreas, AreRunwayAreas, AreSurfaceAreas}
-use Rattle.airfield_plots.proofs.Joins.{left, right}
+use Rattle.airfield_findings.specs.Areas.{AreAirportAreas, AreAreas, AreRunwayAreas, AreSurfaceAreas}
+use Rattle.airfield_findings.proofs.Joins.{left, right}
 use Rattle.oe_findings.specs.Outside.{IsOutside, LeavesOut, LeavesRunwaysOut, LeavesSurfacesOut}
 use Rattle.oe_findings.proofs.OutsideFacts.{airport_left_out, heliport_left_out, runway_outside, surfaces_left_out, undescribed_left_out}
 

@@ -5,7 +5,7 @@ use Rattle.grid_exact.specs.declared.area.Area.{Area}
 use Rattle.grid_exact.specs.declared.point.Point.{Point}
 use Rattle.airfields.specs.declared.airfield.Airfield.{Airfield}
 use Rattle.surface_tree.specs.Visits.{near_area}
-use Rattle.airfield_plots.proofs.Once.{areas_same}
+use Rattle.airfield_findings.proofs.Once.{areas_same}
 use Rattle.airfield_findings.specs.Prepared.{airfield_of}
 use Rattle.airfield_findings.specs.declared.prepared.Prepared.{Prepared}
 use Rattle.oe_findings.specs.Nearness.{AreNear, HasOneNear}

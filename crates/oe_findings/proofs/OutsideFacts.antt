@@ -28,7 +28,7 @@ use Rattle.imaginary_surfaces.specs.Areas.{HullHas, SkipsIn, in_order}
 use Rattle.heliport_surfaces.specs.Areas.{SkipsIn as PadSkips}
 use Rattle.runway_notice.specs.Notices.{notice_slope}
 use Rattle.airfield_findings.specs.Entries.{of_runway, of_runways}
-use Rattle.airfield_plots.proofs.Joins.{left, right}
+use Rattle.airfield_findings.proofs.Joins.{left, right}
 use Rattle.airfield_findings.proofs.ReachFacts.{not_civil_or, nothing, pad_none, pad_slope_none, undescribed_slope, undescribed_standards}
 use Rattle.oe_findings.specs.Outside.{IsOutside, LeavesRunwaysOut, LeavesSurfacesOut, LeavesOut}
 

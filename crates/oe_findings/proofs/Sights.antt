@@ -21,7 +21,7 @@ use Rattle.surface_tree.specs.Visits.{all_hits}
 use Rattle.surface_tree.specs.declared.placed.Plot.{Plot}
 use Rattle.surface_tree.proofs.Even.{level_hits, other_hits, flat_map_kept}
 use Rattle.surface_tree.proofs.Visits.{filter_twice}
-use Rattle.airfield_plots.specs.declared.plots.TheConstants.{LARGE_LEVEL, SMALL_LEVEL}
+use Rattle.airfield_findings.specs.declared.plots.TheConstants.{LARGE_LEVEL, SMALL_LEVEL}
 use Rattle.airfield_findings.specs.Entries.{entries, no_key, of_airfield, slope_entries}
 use Rattle.finding_lists.specs.Orders.{merged_list}
 use Rattle.airfield_findings.specs.Prepared.{airfield_of}

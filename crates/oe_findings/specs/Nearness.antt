@@ -4,7 +4,7 @@ use Rattle.grid_exact.specs.declared.area.Area.{Area}
 use Rattle.grid_exact.specs.declared.point.Point.{Point}
 use Rattle.airfields.specs.declared.airfield.Airfield.{Airfield}
 use Rattle.surface_tree.specs.Visits.{near_area}
-use Rattle.airfield_plots.specs.Areas.{AreAreas}
+use Rattle.airfield_findings.specs.Areas.{AreAreas}
 
 -- n surfaces of these airfields have areas whose centers are near the point: in each coordinate within one and a half times the side of
 -- the area's size

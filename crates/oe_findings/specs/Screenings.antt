@@ -5,7 +5,7 @@ use Rattle.airfields.specs.Sites.{Site}
 use Rattle.airfields.specs.declared.airfield.Airfield.{Airfield}
 use Rattle.height_rules.specs.AboveGround.{notice_excess, height_excess}
 use Rattle.notice_slopes.specs.OnAirfields.{is_on_described}
-use Rattle.airfield_plots.specs.declared.plots.TheConstants.{SMALL_LEVEL}
+use Rattle.airfield_findings.specs.declared.plots.TheConstants.{SMALL_LEVEL}
 use Rattle.airfield_findings.specs.Entries.{entries, no_key, of_airfield, slope_entries}
 use Rattle.finding_lists.specs.Orders.{merged_list}
 use Rattle.airfield_findings.specs.Prepared.{airfield_of}

@@ -6,7 +6,7 @@ ghost use Rattle.std.specs.Option.{option_to_list};
 ghost use Rattle.airfields.specs.Airfields.{IsHeld, IsHeldAirport, IsHeldHeliport};
 ghost use Rattle.grid_exact.specs.Area.{has_point};
 ghost use Rattle.airfields.specs.declared.airfield.Airfield.TheVariants.{Airport as AnAirport, Heliport as AHeliport};
-ghost use Rattle.airfield_plots.specs.Areas.{AreAirportAreas, AreAreas, AreHeliportAreas, AreSurfaceAreas};
+ghost use Rattle.airfield_findings.specs.Areas.{AreAirportAreas, AreAreas, AreHeliportAreas, AreSurfaceAreas};
 ghost use Rattle.oe_findings.specs.Outside.{LeavesOut, LeavesSurfacesOut};
 
 use crate::runways::push_runways;

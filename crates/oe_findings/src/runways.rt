@@ -4,7 +4,7 @@ ghost use Rattle.std.specs.Prelude.{◌≡◌, ◌++◌, List, OnOk};
 ghost use Rattle.std.specs.List.{All};
 ghost use Rattle.airfields.specs.Runways.{IsProper};
 ghost use Rattle.grid_exact.specs.declared.area.Area.{Area as AnArea};
-ghost use Rattle.airfield_plots.specs.Areas.{AreRunwayAreas};
+ghost use Rattle.airfield_findings.specs.Areas.{AreRunwayAreas};
 ghost use Rattle.oe_findings.specs.Outside.{LeavesRunwaysOut};
 
 use airfields::Runway;

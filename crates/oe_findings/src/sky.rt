@@ -25,10 +25,19 @@ use std::sync::ledger::Ledger;
 
 /// The register with the surfaces of its airfields, which contracts see as the list of the airfields in rising order of name. It never
 /// changes.
-#[derive(Drop)]
 pub struct Sky {
     register: Register,
     surroundings: Surroundings,
+}
+
+// By hand, so that no crate above proves again how what it holds is dropped.
+impl Drop for Sky {
+    fn drop(self) {
+        let Sky {
+            register: _,
+            surroundings: _,
+        } = self;
+    }
 }
 
 impl Model for Sky {

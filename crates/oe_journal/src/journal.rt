@@ -21,13 +21,25 @@ use oe_keeper::{KeepErr, Keeper, RowChange, Tables};
 use std::alloc::Global;
 
 /// Keeps the tables as frames of a file.
-#[derive(Drop)]
 pub struct JournalKeeper<D: Disk> {
     disk: D,
     end: u64,
     is_open: bool,
     is_told: bool,
     to_settle: bool,
+}
+
+// By hand, so that no crate above proves again how what it holds is dropped.
+impl<D: Disk + Drop> Drop for JournalKeeper<D> {
+    fn drop(self) {
+        let JournalKeeper {
+            disk: _,
+            end: _,
+            is_open: _,
+            is_told: _,
+            to_settle: _,
+        } = self;
+    }
 }
 
 impl<D: Disk> JournalKeeper<D> {
@@ -51,7 +63,14 @@ impl<D: Disk> JournalKeeper<D> {
     pub fn into_disk(self) -> D
         ensures { result ≡ self.disk }
     {
-        self.disk
+        let JournalKeeper {
+            disk,
+            end: _,
+            is_open: _,
+            is_told: _,
+            to_settle: _,
+        } = self;
+        disk
     }
 
     /// Writes the frame behind the frames that count: what stands behind its gate, then the gate.

@@ -15,12 +15,24 @@ use std::alloc::Global;
 
 /// A keeper in memory, whose rows are always known. It counts the calls of `load` and `apply` from 1, fails at exactly the listed ones,
 /// and ignores the place.
-#[derive(Debug, Drop)]
+#[derive(Debug)]
 pub struct MemoryKeeper {
     tables: Tables,
     fail: FailList,
     calls: u64,
     faults: u64,
+}
+
+// By hand, so that no crate above proves again how what it holds is dropped.
+impl Drop for MemoryKeeper {
+    fn drop(self) {
+        let MemoryKeeper {
+            tables: _,
+            fail: _,
+            calls: _,
+            faults: _,
+        } = self;
+    }
 }
 
 impl MemoryKeeper {

@@ -14,11 +14,18 @@ use std::marker::Model;
 
 /// The rows of the five tables, seen as one map from a table's index and a key to a row, in order of table
 /// and key.
-#[derive(Debug, Drop)]
+#[derive(Debug)]
 pub struct Tables {
     pages: Vec<Page>,
     /// The number of rows in all pages.
     count: usize,
+}
+
+// By hand, so that no crate above proves again how what it holds is dropped.
+impl Drop for Tables {
+    fn drop(self) {
+        let Tables { pages: _, count: _ } = self;
+    }
 }
 
 impl Model for Tables {
@@ -76,8 +83,8 @@ impl Tables {
     pub fn joined(self, alloc: Global) -> Result<Tables, NoMemory>
         ensures { IfOk result (λ t. t ≡ self) }
     {
-        let count = self.count;
-        let rows = all_rows(alloc, self.pages)?;
+        let Tables { pages, count } = self;
+        let rows = all_rows(alloc, pages)?;
         let pages = one_page(alloc, rows)?;
         Ok(Tables { pages, count })
     }

@@ -22,8 +22,8 @@ use Rattle.case_requests.specs.declared.act.Act.TheVariants as acts
 use Rattle.desk_machine.specs.declared.entry.Entry.{Entry}
 use Rattle.desk_machine.specs.States.{State}
 use Rattle.desk_machine.specs.Fronts.{register_after_act, register_after}
-use Rattle.reachable_desks.specs.Desks.{IsDesk, IsEntryOf, IsTold}
-use Rattle.reachable_desks.specs.Names.{IsNamed, PutsNames}
+use Rattle.desk_tables.specs.Reachable.{IsDesk, IsEntryOf, IsTold}
+use Rattle.desk_tables.specs.Names.{IsNamed, PutsNames}
 use Rattle.publishing_clerk.specs.Evaluations.{Evaluating, IsEvaluation, given_as}
 
 -- ---- one entry

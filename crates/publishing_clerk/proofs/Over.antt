@@ -16,7 +16,7 @@ use Rattle.publishing_clerk.specs.Evaluations.{IsOver, IsEvaluation}
 abbrev pub Follows : List Airfield → Entry → List Airfield → Type 0
 Follows old e new = new ≡ register_after_act old e.change.act
 
-reached : (v : List Airfield) (es : List Entry) (w : List Airfield) → Reaches Follows v es w → w ≡ register_after v es
+pub reached : (v : List Airfield) (es : List Entry) (w : List Airfield) → Reaches Follows v es w → w ≡ register_after v es
 reached v [] w h = sym h
 reached v (e ∷ es) w h = reached h.0 es w h.2 ∙ ap (λ r. register_after r es) h.1
 

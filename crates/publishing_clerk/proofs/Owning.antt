@@ -20,7 +20,7 @@ use Rattle.filing_desk.specs.Answers.{answer_of}
 use Rattle.filing_desk.specs.declared.answer.Answer.{Answer}
 use Rattle.filing_desk.specs.declared.answer.Answer.TheVariants as answers
 use Rattle.filing_desk.specs.Clerks.{Clerking, Advances}
-use Rattle.reachable_desks.specs.Desks.{IsDesk, IsEntryOf}
+use Rattle.desk_tables.specs.Reachable.{IsDesk, IsEntryOf}
 use Rattle.publishing_clerk.specs.Rulings.{HasOwn, reply_of, entry_decided}
 
 -- ---- places

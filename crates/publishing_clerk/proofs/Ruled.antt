@@ -14,7 +14,7 @@ use Rattle.filing_desk.specs.declared.answer.Answer.{Answer}
 use Rattle.filing_desk.specs.declared.answer.Answer.TheVariants as answers
 use Rattle.filing_desk.specs.Clerks.{Clerking, IsReplay, Advances}
 use Rattle.filing_desk.specs.Handed.{HasCause}
-use Rattle.reachable_desks.specs.Desks.{IsDesk}
+use Rattle.desk_tables.specs.Reachable.{IsDesk}
 use Rattle.tree_versions.specs.Fronts.{Edition}
 use Rattle.tree_versions.proofs.Prefixes.{prefix_length}
 use Rattle.publishing_clerk.specs.Publishing.{IsPublishing, GoesOn, IsOffered, offered}

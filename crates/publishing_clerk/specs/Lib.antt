@@ -1,3 +1,4 @@
 pub mod Evaluations
 pub mod Publishing
 pub mod Rulings
+pub mod Fronts

@@ -7,7 +7,7 @@ use Rattle.desk_machine.specs.States.{State, last_number}
 use Rattle.desk_machine.specs.Machine.{decide_again, entries_of_answer, state_after}
 use Rattle.desk_machine.specs.Fronts.{register_after}
 use Rattle.filing_desk.specs.Clerks.{Clerking, IsReplay}
-use Rattle.reachable_desks.specs.Desks.{IsDesk}
+use Rattle.desk_tables.specs.Reachable.{IsDesk}
 use Rattle.tree_versions.specs.Fronts.{Edition, entries_of, last_of}
 
 -- the clerk, and those entries accepted since the opening that are published

@@ -6,7 +6,7 @@ ghost use Rattle.surface_tree.specs.declared.square.TheConstants.{TOP_LEVEL};
 ghost use Rattle.oe_findings.specs.List.{findings_of};
 ghost use Rattle.oe_findings.specs.Nearness.{AreNear};
 ghost use Rattle.wire_cursor.specs.Groups.{IsValidSite};
-ghost use Rattle.reachable_desks.specs.Desks.{IsTold};
+ghost use Rattle.desk_tables.specs.Reachable.{IsTold};
 ghost use Rattle.publishing_clerk.specs.Evaluations.{Evaluating, IsEvaluation, given_as};
 
 use crate::opening::Opening;

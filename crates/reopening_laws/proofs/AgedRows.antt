@@ -26,10 +26,10 @@ use Rattle.desk_tables.specs.Rows.{AreRows, is_bare}
 use Rattle.desk_tables.specs.Tables.{filing_found, found_in}
 use Rattle.desk_tables.specs.Values.{Row}
 use Rattle.desk_tables.proofs.Kepts.{equal, itself, put_elsewhere, put_here}
-use Rattle.reachable_desks.specs.Desks.{IsCaseOf, IsDesk}
-use Rattle.reachable_desks.proofs.NewCases.{case_found}
-use Rattle.reachable_desks.proofs.Places.{mapped}
-use Rattle.reachable_desks.proofs.RowsInOrder.{ComesAt, comes_at}
+use Rattle.desk_tables.specs.Reachable.{IsCaseOf, IsDesk}
+use Rattle.desk_tables.proofs.NewCases.{case_found}
+use Rattle.desk_tables.proofs.Places.{mapped}
+use Rattle.desk_tables.proofs.RowsInOrder.{ComesAt, comes_at}
 use Rattle.reopening_laws.specs.Older.{IsAged, RevisesNothing}
 use Rattle.reopening_laws.proofs.CaseKeys.{number_again, number_in}
 use Rattle.reopening_laws.proofs.CaseRows.{filing_below}

@@ -19,13 +19,13 @@ use Rattle.desk_tables.specs.Tables.{Today, filing_found, found_in}
 use Rattle.desk_tables.specs.Parts.{Part}
 use Rattle.desk_tables.specs.declared.layout.Layout.{Layout}
 use Rattle.desk_tables.specs.declared.value.RowValue.TheVariants.{Case}
-use Rattle.reachable_desks.specs.Desks.{IsCaseOf, IsDesk}
+use Rattle.desk_tables.specs.Reachable.{IsCaseOf, IsDesk}
 use Rattle.reopening_laws.proofs.CaseKeys.{keys_rise, number_again, number_in}
 use Rattle.reopening_laws.proofs.PartsOf.{ComesIn, IsPartOf, either_format}
-use Rattle.reachable_desks.proofs.Places.{all_at, mapped, past, unmapped}
+use Rattle.desk_tables.proofs.Places.{all_at, mapped, past, unmapped}
 use Rattle.reopening_laws.proofs.RowNames.{name_found}
-use Rattle.reachable_desks.proofs.RowsInOrder.{ComesAt}
-use Rattle.reachable_desks.proofs.Walks.{HasRead}
+use Rattle.desk_tables.proofs.RowsInOrder.{ComesAt}
+use Rattle.desk_tables.proofs.Walks.{HasRead}
 
 -- ---- the case of a number
 

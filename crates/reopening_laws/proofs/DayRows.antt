@@ -16,12 +16,12 @@ use Rattle.desk_tables.specs.Tables.{ClosedOn, DayName, Format, IsDayName, Today
 use Rattle.desk_tables.specs.Parts.{Part}
 use Rattle.desk_tables.specs.declared.layout.Layout.{Layout}
 use Rattle.desk_tables.specs.declared.value.RowValue.TheVariants.{Desk}
-use Rattle.reachable_desks.specs.Desks.{IsDesk}
+use Rattle.desk_tables.specs.Reachable.{IsDesk}
 use Rattle.reopening_laws.proofs.ClosedSets.{closed_limited}
 use Rattle.reopening_laws.proofs.PartsOf.{ComesIn, IsPartOf, either_format}
-use Rattle.reachable_desks.proofs.Places.{mapped}
+use Rattle.desk_tables.proofs.Places.{mapped}
 use Rattle.reopening_laws.proofs.RowNames.{day_named, day_sure, name_found}
-use Rattle.reachable_desks.proofs.RowsInOrder.{ComesAt}
+use Rattle.desk_tables.proofs.RowsInOrder.{ComesAt}
 
 module _ (s : State) (desk : IsDesk s) (n : ℕ) (b : Layout) (f : Bool) (kept so_far : Kept) (are : AreTables f s kept) (p : Part) (part : IsPartOf s n p)
     (lone : f ≡ true → b.is_lone ≡ false) where

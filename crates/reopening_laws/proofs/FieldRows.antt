@@ -18,7 +18,7 @@ use Rattle.airport_register.proofs.Fields.{found_held}
 use Rattle.airport_register.proofs.Rules.{found_named, same_name}
 use Rattle.row_register.specs.Airfields.{airfield_row}
 use Rattle.row_register.specs.Runways.{runway_key_text}
-use Rattle.reachable_desks.specs.Names.{HasName, IsNamed}
+use Rattle.desk_tables.specs.Names.{HasName, IsNamed}
 use Rattle.oe_keeper.specs.Kept.{Kept}
 use Rattle.oe_keeper.specs.declared.change.Table.TheVariants as tables
 use Rattle.desk_machine.specs.States.{State}
@@ -28,12 +28,12 @@ use Rattle.desk_tables.specs.Parts.{Part}
 use Rattle.desk_tables.specs.Planned.{PlansNothing}
 use Rattle.desk_tables.specs.declared.layout.Layout.{Layout}
 use Rattle.desk_tables.specs.declared.value.RowValue.TheVariants.{Airfield as AnAirfield, Runway as ARunway}
-use Rattle.reachable_desks.specs.Desks.{IsDesk}
+use Rattle.desk_tables.specs.Reachable.{IsDesk}
 use Rattle.reopening_laws.proofs.PartsOf.{ComesIn, IsPartOf, PartsGrow, either_format, format_allows}
-use Rattle.reachable_desks.proofs.Places.{mapped, unmapped}
+use Rattle.desk_tables.proofs.Places.{mapped, unmapped}
 use Rattle.reopening_laws.proofs.RowNames.{name_found, runway_named, runway_sure}
-use Rattle.reachable_desks.proofs.RowsInOrder.{ComesAt}
-use Rattle.reachable_desks.proofs.Walks.{HasRead}
+use Rattle.desk_tables.proofs.RowsInOrder.{ComesAt}
+use Rattle.desk_tables.proofs.Walks.{HasRead}
 
 nine_digits : (z : ℤ) → IsElevation z → HasNineDigits z
 nine_digits z h = (omega (arith, ints, h.least), omega (arith, ints, h.most))

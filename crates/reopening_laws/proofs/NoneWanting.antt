@@ -32,7 +32,7 @@ use Rattle.desk_tables.proofs.Bare.{bare_rows}
 use Rattle.desk_tables.proofs.OneRows.{one_rows}
 use Rattle.desk_tables.specs.Values.{Row}
 use Rattle.desk_tables.specs.Opening.{count_of, format_key, is_at, is_in, put_wanting, today_key, with_format, with_today, with_wanting}
-use Rattle.reachable_desks.specs.Desks.{IsDesk}
+use Rattle.desk_tables.specs.Reachable.{IsDesk}
 
 equal : (o : Ordering) → is_eq o ≡ true → o ≡ Equal
 equal Less h = absurd (cc (h))

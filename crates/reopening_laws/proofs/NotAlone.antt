@@ -20,7 +20,7 @@ use Rattle.row_register.specs.Airfields.{airfield_row}
 use Rattle.row_register.specs.Desk.{desk_row}
 use Rattle.row_register.specs.declared.desk.DeskRow.TheVariants as days
 use Rattle.row_receipts.specs.Receipts.{receipt_key}
-use Rattle.reachable_desks.specs.Names.{IsNamed}
+use Rattle.desk_tables.specs.Names.{IsNamed}
 use Rattle.oe_keeper.specs.Kept.{Key, Kept}
 use Rattle.oe_keeper.specs.declared.change.Table.TheVariants as tables
 use Rattle.desk_machine.specs.States.{State, entry_of}
@@ -29,11 +29,11 @@ use Rattle.desk_tables.specs.Tables.{ClosedOn, Format, ReceiptName, Today, day_k
 use Rattle.desk_tables.specs.Rows.{AreRows, AreTables, is_bare}
 use Rattle.desk_tables.proofs.Receipts.{one_receipt_name}
 use Rattle.desk_tables.specs.Opening.{count_of, format_key, is_in, is_lone}
-use Rattle.reachable_desks.specs.Desks.{IsDesk, IsEntryOf, IsOwn}
+use Rattle.desk_tables.specs.Reachable.{IsDesk, IsEntryOf, IsOwn}
 use Rattle.reopening_laws.proofs.ClosedSets.{has_first}
 use Rattle.reopening_laws.proofs.FieldRows.{id_named}
-use Rattle.reachable_desks.proofs.Owners.{entry_like}
-use Rattle.reachable_desks.proofs.Places.{all_at}
+use Rattle.desk_tables.proofs.Owners.{entry_like}
+use Rattle.desk_tables.proofs.Places.{all_at}
 use Rattle.reopening_laws.proofs.RequestsIn.{caller_of, entry_at}
 use Rattle.reopening_laws.proofs.RowsCounted.{as_many_in_table, as_many_rows}
 

@@ -18,7 +18,7 @@ use Rattle.desk_tables.specs.Tables.{Format, text_if_shown}
 use Rattle.desk_tables.specs.Rows.{AreRows, is_bare}
 use Rattle.desk_tables.specs.Values.{Row}
 use Rattle.desk_tables.specs.Opening.{count_of, first_format, format_key, is_at, is_first, is_older, renewed, renewed_filing, second_format}
-use Rattle.reachable_desks.proofs.RowsInOrder.{ComesAt, comes_at}
+use Rattle.desk_tables.proofs.RowsInOrder.{ComesAt, comes_at}
 use Rattle.reopening_laws.proofs.NoneWanting.{counted_by, is_here, rest_counted, some_counted}
 
 -- ---- tables with another row of the format are not of a format

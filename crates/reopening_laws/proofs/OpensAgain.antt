@@ -10,8 +10,8 @@ use Rattle.desk_tables.specs.Opening.{Opens, ReadsAll, count_of, first_format, i
 use Rattle.desk_tables.specs.Planned.{PlansNothing}
 use Rattle.desk_tables.proofs.RowFacts.{HaveOneValue}
 use Rattle.desk_tables.proofs.RowsRead.{these_read}
-use Rattle.reachable_desks.specs.Desks.{IsDesk}
-use Rattle.reachable_desks.proofs.SteppedDesks.{RegisterGoesOn}
+use Rattle.desk_tables.specs.Reachable.{IsDesk}
+use Rattle.desk_tables.proofs.SteppedDesks.{RegisterGoesOn}
 use Rattle.reopening_laws.proofs.CaseRows.{case_comes}
 use Rattle.reopening_laws.proofs.DayRows.{day_comes}
 use Rattle.reopening_laws.proofs.FieldRows.{field_comes, runway_comes}
@@ -21,11 +21,11 @@ use Rattle.reopening_laws.proofs.AgedRows.{RowsAreRenewed, leads_back}
 use Rattle.reopening_laws.proofs.OlderRows.{first_is_first, first_is_older, not_first, same_renewed, second_is_older, second_not_first}
 use Rattle.reopening_laws.proofs.NotAlone.{not_alone, rows_for_all}
 use Rattle.reopening_laws.proofs.PartsOf.{ComesIn, IsPartOf, PartsGrow, nothing_of}
-use Rattle.reachable_desks.proofs.ReadDesks.{all_counted, read_desk}
+use Rattle.desk_tables.proofs.ReadDesks.{all_counted, read_desk}
 use Rattle.reopening_laws.proofs.RequestsIn.{request_comes}
-use Rattle.reachable_desks.proofs.RowsInOrder.{ComesAt}
+use Rattle.desk_tables.proofs.RowsInOrder.{ComesAt}
 use Rattle.reopening_laws.proofs.SameDesks.{same_desk}
-use Rattle.reachable_desks.proofs.Walks.{GoesOn, HasRead, IsReadTo, goes_on}
+use Rattle.desk_tables.proofs.Walks.{GoesOn, HasRead, IsReadTo, goes_on}
 
 module _ (one : HaveOneValue) (law : RegisterGoesOn) (grow : PartsGrow) (s : State) (kept : Kept) (desk : IsDesk s) (rows : AreRows s kept)
     (old : Bool) (plain : old ≡ true → PlansNothing s) where

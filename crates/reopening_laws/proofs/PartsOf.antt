@@ -10,7 +10,7 @@ use Rattle.airfields.specs.declared.airfield.Airfield.TheVariants as fields
 use Rattle.airport_register.specs.Amendments.{after_amendment, airfield_at, first_broken, runways_in}
 use Rattle.airport_register.specs.Registers.{IsRegister}
 use Rattle.airport_register.specs.declared.amendment.Amendment.TheVariants.{PutAirport, PutRunway, PutHeliport}
-use Rattle.reachable_desks.specs.Parts.{IsPart}
+use Rattle.desk_tables.specs.RegisterParts.{IsPart}
 use Rattle.oe_keeper.specs.Kept.{Kept}
 use Rattle.oe_keeper.specs.declared.change.Table.TheVariants as tables
 use Rattle.desk_machine.specs.States.{State}
@@ -19,7 +19,7 @@ use Rattle.desk_tables.specs.Parts.{Part, IsNext, with_row}
 use Rattle.desk_tables.specs.Opening.{count_of, is_in, unread_of}
 use Rattle.desk_tables.specs.declared.layout.Layout.{Layout}
 use Rattle.desk_tables.specs.declared.value.RowValue.{RowValue}
-use Rattle.reachable_desks.proofs.Places.{none_filled}
+use Rattle.desk_tables.proofs.Places.{none_filled}
 
 -- parts of registers that grow to the whole
 pub record PartsGrow : Type 0 where

@@ -15,13 +15,13 @@ use Rattle.desk_tables.specs.Parts.{Part, entries_of}
 use Rattle.desk_tables.specs.Planned.{PlansNothing, plans_act}
 use Rattle.desk_tables.specs.declared.layout.Layout.{Layout}
 use Rattle.desk_tables.specs.declared.value.RowValue.TheVariants.{Request}
-use Rattle.reachable_desks.specs.Desks.{IsDesk, IsEntryOf}
-use Rattle.reachable_desks.proofs.Owners.{entry_like, filled_found, stands_at}
+use Rattle.desk_tables.specs.Reachable.{IsDesk, IsEntryOf}
+use Rattle.desk_tables.proofs.Owners.{entry_like, filled_found, stands_at}
 use Rattle.reopening_laws.proofs.PartsOf.{ComesIn, IsPartOf, format_allows}
-use Rattle.reachable_desks.proofs.Places.{all_at, mapped, set_each, unmapped}
+use Rattle.desk_tables.proofs.Places.{all_at, mapped, set_each, unmapped}
 use Rattle.reopening_laws.proofs.RowNames.{name_found, receipt_named, receipt_sure}
-use Rattle.reachable_desks.proofs.RowsInOrder.{ComesAt}
-use Rattle.reachable_desks.proofs.Walks.{HasRead}
+use Rattle.desk_tables.proofs.RowsInOrder.{ComesAt}
+use Rattle.desk_tables.proofs.Walks.{HasRead}
 
 -- an entry at a place of a desk
 pub entry_at : (s : State) (i : ℕ) (e : Entry) → IsDesk s → slice_get s.entries i ≡ Some e → IsEntryOf (length s.entries) i e

@@ -22,7 +22,7 @@ use Rattle.row_register.specs.declared.desk.DeskRow.TheVariants as days
 use Rattle.row_cases.specs.Cases.{case_key}
 use Rattle.row_cases.specs.Filings.{IsPlainCase, filing_row}
 use Rattle.row_cases.specs.declared.filing.FilingRow.{FilingRow}
-use Rattle.reachable_desks.specs.Parts.{IsPart}
+use Rattle.desk_tables.specs.RegisterParts.{IsPart}
 use Rattle.oe_keeper.specs.Kept.{Kept}
 use Rattle.desk_machine.specs.States.{State, case_at}
 use Rattle.desk_machine.specs.declared.entry.Entry.{Entry}
@@ -30,12 +30,12 @@ use Rattle.desk_tables.specs.Rows.{AreTables}
 use Rattle.desk_tables.specs.Tables.{ClosedOn, RunwayName, Today, runway_of, runway_text, text_if_shown}
 use Rattle.desk_tables.specs.Parts.{Part, entries_of, state_of}
 use Rattle.desk_tables.proofs.RowFacts.{HaveOneValue}
-use Rattle.reachable_desks.specs.Desks.{IsCaseOf, IsDesk}
+use Rattle.desk_tables.specs.Reachable.{IsCaseOf, IsDesk}
 use Rattle.reopening_laws.proofs.CaseRows.{case_there}
 use Rattle.reopening_laws.proofs.ClosedSets.{same_closed_days}
 use Rattle.reopening_laws.proofs.FieldRows.{field_id}
 use Rattle.reopening_laws.proofs.PartsOf.{IsPartOf, PartsGrow}
-use Rattle.reachable_desks.proofs.Places.{all_at, filled_all, same_by_places, unmapped}
+use Rattle.desk_tables.proofs.Places.{all_at, filled_all, same_by_places, unmapped}
 
 same_shown : (a b : Bool) (x : List ℕ) → text_if_shown a x ≡ text_if_shown b x → a ≡ b
 same_shown true true x e = refl

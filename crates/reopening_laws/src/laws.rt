@@ -6,10 +6,10 @@ ghost use Rattle.desk_tables.specs.Planned.{PlansNothing};
 ghost use Rattle.desk_tables.specs.Rows.{AreRows, is_bare};
 ghost use Rattle.desk_machine.specs.States.{State};
 ghost use Rattle.oe_keeper.specs.Kept.{Kept, Key};
-ghost use Rattle.reachable_desks.specs.Desks.{IsDesk};
+ghost use Rattle.desk_tables.specs.Reachable.{IsDesk};
 ghost use Rattle.reopening_laws.specs.Older.{IsAged, RevisesNothing};
 
-use reachable_desks::{
+use desk_tables::{
     airport_comes, all_is_whole, heliport_comes, names_go_on, nothing_is_part, register_goes_on,
     runway_comes,
 };

@@ -13,7 +13,7 @@ use Rattle.airfields.specs.Sites.{Site, IsSite}
 use Rattle.airfields.specs.declared.airfield.Airfield.{Airfield}
 use Rattle.airfield_findings.specs.Entries.{of_airfield, slope_entries}
 use Rattle.airfield_findings.specs.Reaches.{HasLevels}
-use Rattle.airfield_plots.proofs.Joins.{left, right}
+use Rattle.airfield_findings.proofs.Joins.{left, right}
 use Rattle.oe_findings.specs.Outside.{IsOutside}
 use Rattle.oe_findings.proofs.LeftOut.{areas_out}
 use Rattle.oe_findings.proofs.Sights.{levels_of}

@@ -6,7 +6,7 @@ use Rattle.grid_exact.specs.Area.{has_point}
 use Rattle.grid_exact.specs.declared.area.Area.{Area}
 use Rattle.airfields.specs.Sites.{Site, IsSite}
 use Rattle.airfields.specs.declared.airfield.Airfield.{Airfield}
-use Rattle.airfield_plots.specs.Areas.{AreAreas}
+use Rattle.airfield_findings.specs.Areas.{AreAreas}
 use Rattle.review_marks.specs.Shares.{AirfieldChange, names}
 use Rattle.review_marks.specs.declared.row.Row.{Row}
 

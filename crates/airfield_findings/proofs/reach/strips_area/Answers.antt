@@ -1,7 +1,7 @@
 use Rattle.std.proofs.Common.{◌++◌}
 use Rattle.std.proofs.lemmas.List.{take_all}
-use Rattle.airfield_plots.proofs.Joins.{join_next}
-use Rattle.airfield_plots.proofs.RunwayAreas.{next_runway}
+use Rattle.airfield_findings.proofs.Joins.{join_next}
+use Rattle.airfield_findings.proofs.RunwayAreas.{next_runway}
 use Rattle.airfield_findings.proofs.ReachFacts.{runways_next}
 use Rattle.airfield_findings.proofs.reach.strips_area.Goals as goal
 

@@ -2,7 +2,7 @@ use Rattle.std.proofs.Common.{List, ◌∷◌, take}
 use Rattle.std.specs.List.{All}
 use Rattle.grid_exact.specs.declared.area.Area.{Area}
 use Rattle.outline_boxes.specs.Boxes.{Encloses, IsLeastBox}
-use Rattle.airfield_plots.specs.Areas.{AreRunwayAreas}
+use Rattle.airfield_findings.specs.Areas.{AreRunwayAreas}
 use Rattle.airfield_findings.specs.Reaches.{IsRunwayReach}
 use Rattle.airfield_findings.proofs.reach.strips_area.Given as goal
 

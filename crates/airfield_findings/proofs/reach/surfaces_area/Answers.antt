@@ -6,9 +6,9 @@ use Rattle.grid_exact.specs.declared.area.Area.{Area}
 use Rattle.outline_boxes.specs.Boxes.{Encloses}
 use Rattle.horizontal_hull.specs.Arcs.{Dome}
 use Rattle.horizontal_hull.specs.Areas.{AreHullAreas, CoverHull}
-use Rattle.airfield_plots.specs.Areas.{AreRunwayAreas}
-use Rattle.airfield_plots.proofs.Conical.{horizontal_in}
-use Rattle.airfield_plots.proofs.Joins.{join_inner}
+use Rattle.airfield_findings.specs.Areas.{AreRunwayAreas}
+use Rattle.airfield_findings.proofs.Conical.{horizontal_in}
+use Rattle.airfield_findings.proofs.Joins.{join_inner}
 use Rattle.airfield_findings.specs.Reaches.{IsRunwayReach}
 use Rattle.airfield_findings.proofs.ReachFacts.{surfaces_none, surfaces_nowhere}
 use Rattle.airfield_findings.proofs.reach.surfaces_area.Goals as goal

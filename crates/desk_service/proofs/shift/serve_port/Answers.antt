@@ -1,5 +1,5 @@
 use Rattle.std.proofs.Common.{ap}
-use Rattle.seat_desk.specs.Sittings.{Sitting}
+use Rattle.desk_service.specs.Sittings.{Sitting}
 use Rattle.desk_service.proofs.shift.serve_port.Goals as goal
 
 pub returns-clause-works : goal.returns-clause-works

@@ -6,7 +6,7 @@ use Rattle.airfields.specs.declared.runway.Runway.{Runway}
 use Rattle.horizontal_hull.specs.Arcs.{Dome, dome_of}
 use Rattle.horizontal_hull.specs.Areas.{AreHullAreas, CoverHull}
 use Rattle.airfield_findings.proofs.ReachFacts.{surfaces_nowhere}
-use Rattle.airfield_plots.specs.Areas.{AreRunwayAreas}
+use Rattle.airfield_findings.specs.Areas.{AreRunwayAreas}
 use Rattle.oe_findings.specs.Outside.{LeavesRunwaysOut}
 use Rattle.oe_findings.proofs.OutsideFacts.{surfaces_left_out}
 use Rattle.oe_findings.proofs.area_list.push_surfaces.Goals as goal

@@ -1,4 +1,4 @@
-use Rattle.airfield_plots.proofs.Once.{areas_same}
+use Rattle.airfield_findings.proofs.Once.{areas_same}
 use Rattle.oe_findings.proofs.laws.one_list.Goals as goal
 
 pub returns : goal.returns

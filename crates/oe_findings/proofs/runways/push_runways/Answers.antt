@@ -5,7 +5,7 @@ use Rattle.grid_exact.specs.Level.{IsLevel}
 use Rattle.grid_exact.specs.declared.cap.Cap.{Cap}
 use Rattle.grid_exact.specs.declared.point.Point.{Point}
 use Rattle.imaginary_surfaces.specs.Areas.{AreStripAreas, HullHas, SkipsIn}
-use Rattle.airfield_plots.proofs.RunwayAreas.{next_runway}
+use Rattle.airfield_findings.proofs.RunwayAreas.{next_runway}
 use Rattle.oe_findings.proofs.OutsideFacts.{next_left_out}
 use Rattle.oe_findings.proofs.runways.push_runways.Goals as goal
 

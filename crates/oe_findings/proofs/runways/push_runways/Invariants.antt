@@ -1,6 +1,6 @@
 use Rattle.std.proofs.Common.{◌≡◌, ◌++◌, List, take}
 use Rattle.grid_exact.specs.declared.area.Area.{Area}
-use Rattle.airfield_plots.specs.Areas.{AreRunwayAreas}
+use Rattle.airfield_findings.specs.Areas.{AreRunwayAreas}
 use Rattle.oe_findings.specs.Outside.{LeavesRunwaysOut}
 use Rattle.oe_findings.proofs.runways.push_runways.Given as goal
 

@@ -1,5 +1,5 @@
 use Rattle.desk_tables.proofs.RowFacts.{HaveOneValue}
-use Rattle.reachable_desks.proofs.SteppedDesks.{RegisterGoesOn}
+use Rattle.desk_tables.proofs.SteppedDesks.{RegisterGoesOn}
 use Rattle.reopening_laws.proofs.PartsOf.{PartsGrow}
 use Rattle.reopening_laws.proofs.OpensAgain.{first_opens, first_renewed, second_opens, second_renewed}
 use Rattle.reopening_laws.proofs.laws.older_reopens.Goals as goal

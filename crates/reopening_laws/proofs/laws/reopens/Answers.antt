@@ -1,5 +1,5 @@
 use Rattle.desk_tables.proofs.RowFacts.{HaveOneValue}
-use Rattle.reachable_desks.proofs.SteppedDesks.{RegisterGoesOn}
+use Rattle.desk_tables.proofs.SteppedDesks.{RegisterGoesOn}
 use Rattle.reopening_laws.proofs.PartsOf.{PartsGrow}
 use Rattle.reopening_laws.proofs.OpensAgain.{opens_again}
 use Rattle.reopening_laws.proofs.laws.reopens.Goals as goal

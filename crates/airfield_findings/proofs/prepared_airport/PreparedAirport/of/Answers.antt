@@ -7,7 +7,7 @@ use Rattle.height_rules.specs.Heights.{notice_top, standards_top}
 use Rattle.height_rules.specs.NearAreas.{HasLimit, IsNearArea}
 use Rattle.outline_boxes.specs.Bounds.{box_of}
 use Rattle.airfield_findings.specs.StripLists.{runways_of}
-use Rattle.airfield_plots.specs.Plots.{IsOver}
+use Rattle.airfield_findings.specs.Plots.{IsOver}
 use Rattle.airfields.specs.declared.runway.Runway.{Runway}
 use Rattle.airfields.specs.declared.airfield.Airport.{Airport}
 use Rattle.airfield_findings.specs.PreparedAirports.{IsPreparedAirport}
