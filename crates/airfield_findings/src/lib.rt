@@ -17,7 +17,7 @@ mod strips;
 mod surfaces;
 
 pub use entry::{field_key, no_field, put_entry};
-pub use plots::{LARGE_LEVEL, SMALL_LEVEL, airport_plot, heliport_plot};
+pub use plots::{LARGE_LEVEL, SMALL_LEVEL};
 pub use prepared::Prepared;
 pub use slopes::put_slope;
 pub use standards::put_airfield;

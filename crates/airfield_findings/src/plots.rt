@@ -59,7 +59,7 @@ fn beside_grid(point: &Point) -> Plot
 
 /// The plot of an airport, from the boxes of its parts: of the limit of 77.17(a)(2), of the notice slope of 77.9(b), and of its surfaces
 /// of 77.19. An airport with none of them is placed east of the grid.
-pub fn airport_plot(
+pub(crate) fn airport_plot(
     airport: &Airport,
     near: &Option<Area>,
     notice: &Option<Area>,
@@ -84,7 +84,7 @@ pub fn airport_plot(
 
 /// The plot of a heliport: the area of its notice slope of 77.9(b)(3), which contains those of its surfaces of 77.23. A heliport whose
 /// category is not described has no surfaces and is placed east of the grid.
-pub fn heliport_plot(heliport: &Heliport, areas: &[Area]) -> Plot
+pub(crate) fn heliport_plot(heliport: &Heliport, areas: &[Area]) -> Plot
     requires held { IsHeldHeliport heliport.now }
     requires areas { ArePadAreas heliport.now areas.now }
     ensures plot { IsPlotOf (AHeliport heliport.now) result }
