@@ -1,5 +1,5 @@
 -- What was written of the line of a service.
-use Rattle.std.proofs.Common.{ℕ, List, [], ◌++◌, ◌≡◌, ◌∙◌, Option, Some, None, refl, sym, append-nil, subst}
+use Rattle.std.proofs.Common.{ℕ, List, [], ◌≡◌, ◌∙◌, Option, Some, None, refl, sym, append-nil, subst}
 use Rattle.std.specs.Prelude.{IfSome}
 use Rattle.std.specs.Io.KnownBytes.{Appends}
 use Rattle.oe_http.specs.Written.{Sent}

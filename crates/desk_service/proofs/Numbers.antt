@@ -4,7 +4,6 @@ use Rattle.airfields.specs.declared.airfield.Airfield.{Airfield}
 use Rattle.finding_lists.specs.declared.finding.Finding.{Finding}
 use Rattle.finding_lists.specs.declared.verdict.Verdict.{Verdict}
 use Rattle.desk_machine.specs.declared.entry.Entry.{Entry}
-use Rattle.wire_replies.specs.declared.reply.Reply.{Reply}
 use Rattle.wire_replies.specs.declared.reply.Reply.TheVariants as replies
 use Rattle.desk_service.specs.Sittings.{IsVersion}
 

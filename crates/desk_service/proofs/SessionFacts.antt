@@ -4,7 +4,7 @@ use Rattle.link_gates.specs.Serving.{Meets, Serves, SessionOf, WorksOff}
 use Rattle.line_session.specs.declared.session.Ended.{Ended}
 use Rattle.line_session.specs.declared.session.Ended.TheVariants as endings
 use Rattle.http_session.specs.Machine.{Exchange, Runs, Step}
-use Rattle.http_session.specs.Endings.{BeginsNext, Ends, EndsSo, Served}
+use Rattle.http_session.specs.Endings.{BeginsNext, CarriesOut, Ends, EndsSo, Served}
 
 module _ {A B : Type 0} (part : A → B) (step : Step B) where
   abbrev over : Step A
@@ -37,11 +37,16 @@ module _ {A B : Type 0} (part : A → B) (step : Step B) where
   ends_so ended s t None held_old held_new p = tt
   ends_so ended s t (Some stream) held_old held_new p = ends ended s t stream _ p
 
+  carries : (s t : A) (stream : Option (List ℕ)) → CarriesOut over s t stream → CarriesOut step (part s) (part t) stream
+  carries s t None p = tt
+  carries s t (Some stream) p = (p.0, p.1, runs s stream p.0 t p.1 p.2, p.3)
+
   session_of : (ended : Ended) (s t : A) (left_old left_new held_old held_new : Option (List ℕ)) (read_old read_new write_old write_new : ℕ)
       → SessionOf over ended s t left_old left_new held_old held_new read_old read_new write_old write_new
       → SessionOf step ended (part s) (part t) left_old left_new held_old held_new read_old read_new write_old write_new
   session_of ended s t left_old left_new held_old held_new read_old read_new write_old write_new p = record {
     ends = ends_so ended s t left_old held_old held_new p.ends;
+    carried = carries s t left_old p.carried;
     causes = p.causes;
   }
 

@@ -1,5 +1,5 @@
 -- Shifts that were made of ports, in order.
-use Rattle.std.proofs.Common.{ℕ, ◌+◌, Option, Some, None, List, [], ◌∷◌, ◌++◌, ◌≡◌, ◌∙◌, refl, sym, ap, ap₂, append-nil, append_assoc, arith, length, map, subst, All}
+use Rattle.std.proofs.Common.{ℕ, ◌+◌, Option, Some, None, List, [], ◌∷◌, ◌++◌, ◌≡◌, ◌∙◌, sym, ap, append-nil, append_assoc, arith, length, map, subst, All}
 use Rattle.std.proofs.lemmas.List.{length-append, map-append}
 use Rattle.std.proofs.lemmas.Option.{none-some, same_Some}
 use Rattle.std.specs.Prelude.{IfSome}

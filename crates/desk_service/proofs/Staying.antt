@@ -20,7 +20,7 @@ use Rattle.publishing_clerk.specs.Rulings.{IsRuled, Ruled}
 use Rattle.publishing_clerk.specs.Publishing.{Publishing}
 use Rattle.publishing_clerk.specs.Fronts.{HasRuled, IsCounted, WasAsked}
 use Rattle.tree_versions.proofs.Prefixes.{prefix_self, prefix_trans}
-use Rattle.desk_service.specs.Sittings.{HasAsked, HasChanged, HasRuling, IsEvaluated, IsShownReply, IsSynced, Looks, Sitting, Stays}
+use Rattle.desk_service.specs.Sittings.{HasAsked, HasRuling, IsEvaluated, IsShownReply, IsSynced, Looks, Sitting, Stays}
 use Rattle.desk_service.specs.Replies.{Answers, Tells}
 
 module _ {K : Type 0} where

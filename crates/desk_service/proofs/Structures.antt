@@ -14,7 +14,7 @@ use Rattle.filing_desk.specs.Clerks.{Clerking}
 use Rattle.publishing_clerk.specs.Publishing.{Publishing}
 use Rattle.publishing_clerk.specs.Evaluations.{Evaluating, IsEvaluation}
 use Rattle.publishing_clerk.specs.Fronts.{FilingOf, IsFilingOf}
-use Rattle.desk_service.specs.Sittings.{IsEvaluated, Looks, Sitting, Stays}
+use Rattle.desk_service.specs.Sittings.{IsEvaluated, Looks, Sitting}
 
 module _ {K : Type 0} where
   -- an act without a case evaluates nothing

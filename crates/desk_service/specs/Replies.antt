@@ -36,6 +36,10 @@ pub record Tells {K : Type 0} (IsSteady : K → Type 0) (faults : K → ℕ) (fi
   pub answers : Answers IsSteady faults first base opening s r reply t
   pub appended : new ≡ old ++ reply_text reply
 
+-- what the session sees is what comes after a reply to a request, whatever became of the reply's text
+abbrev pub IsAfter : {K : Type 0} → (K → Type 0) → (K → ℕ) → Option (List Airfield) → ℕ → State → Sitting K → Request → Sitting K → Type 0
+IsAfter IsSteady faults first base opening s r t = (reply : Reply) × Answers IsSteady faults first base opening s r reply t
+
 -- a line and the text of its reply
 pub data Line {K : Type 0} (IsSteady : K → Type 0) (faults : K → ℕ) (first : Option (List Airfield)) (base : ℕ) (opening : State)
     (s : Sitting K) (line text : List ℕ) (t : Sitting K) : Type 0 where

@@ -63,6 +63,8 @@ fn append_answer<F: Front<J>, J: Opening, R: Wait, L: Ledger>(
 ) -> Result<(), NoMemory>
     ensures ok { OnOk result (Appends F.Keeper.IsSteady F.Keeper.faults J.first J.base J.opening
         place.old line.now (string_bytes text.old) (string_bytes text.new) place.new) }
+    ensures made { OnErr result ((reply : List ℕ) × Line F.Keeper.IsSteady F.Keeper.faults
+        J.first J.base J.opening place.old line.now reply place.new) }
     ensures part { OnErr result (Extends (string_bytes text.old) (string_bytes text.new)) }
 {
     if line.is_empty() {
@@ -86,6 +88,9 @@ fn append_too_long<F: Front<J>, J: Opening>(text: &mut String) -> Result<(), NoM
         × ((s : Sitting F.Keeper) (line : List ℕ) → LINE_LIMIT < length line
         → Line F.Keeper.IsSteady F.Keeper.faults J.first J.base J.opening s line reply s)
         × (string_bytes text.new ≡ string_bytes text.old ++ reply)) }
+    ensures made { OnErr result ((reply : List ℕ)
+        × ((s : Sitting F.Keeper) (line : List ℕ) → LINE_LIMIT < length line
+        → Line F.Keeper.IsSteady F.Keeper.faults J.first J.base J.opening s line reply s)) }
     ensures part { OnErr result (Extends (string_bytes text.old) (string_bytes text.new)) }
 {
     append_reply(text, &Reply::Refused(Refusal::Malformed { field: 0 }))

@@ -2,7 +2,7 @@
 
 ghost use Rattle.std.specs.Prelude.{◌≡◌, OnOk, OnErr, string_bytes};
 ghost use Rattle.grid_exact.specs.Texts.{Extends};
-ghost use Rattle.desk_service.specs.Replies.{Tells};
+ghost use Rattle.desk_service.specs.Replies.{IsAfter, Tells};
 ghost use Rattle.wire_requests.specs.declared.request.Request.TheVariants as requests;
 ghost use Rattle.wire_requests.specs.declared.request.Query.TheVariants as queries;
 
@@ -28,6 +28,8 @@ fn screen<F: Front<J>, J: Opening, R: Wait, L: Ledger>(
     ensures ok { OnOk result (Tells F.Keeper.IsSteady F.Keeper.faults J.first J.base J.opening
         place.old (requests.Query (queries.Screen filing.now))
         (string_bytes text.old) (string_bytes text.new) place.new) }
+    ensures made { OnErr result (IsAfter F.Keeper.IsSteady F.Keeper.faults J.first J.base J.opening
+        place.old (requests.Query (queries.Screen filing.now)) place.new) }
     ensures part { OnErr result (Extends (string_bytes text.old) (string_bytes text.new)) }
 {
     let Ok(shown) = place.look() else {
@@ -49,6 +51,8 @@ fn verdict<F: Front<J>, J: Opening, R: Wait, L: Ledger>(
     ensures ok { OnOk result (Tells F.Keeper.IsSteady F.Keeper.faults J.first J.base J.opening
         place.old (requests.Query (queries.Verdict filing.now))
         (string_bytes text.old) (string_bytes text.new) place.new) }
+    ensures made { OnErr result (IsAfter F.Keeper.IsSteady F.Keeper.faults J.first J.base J.opening
+        place.old (requests.Query (queries.Verdict filing.now)) place.new) }
     ensures part { OnErr result (Extends (string_bytes text.old) (string_bytes text.new)) }
 {
     let Ok(shown) = place.look() else {
@@ -69,6 +73,8 @@ fn sync<F: Front<J>, J: Opening, R: Wait>(
     ensures ok { OnOk result (Tells F.Keeper.IsSteady F.Keeper.faults J.first J.base J.opening
         place.old (requests.Query queries.Sync)
         (string_bytes text.old) (string_bytes text.new) place.new) }
+    ensures made { OnErr result (IsAfter F.Keeper.IsSteady F.Keeper.faults J.first J.base J.opening
+        place.old (requests.Query queries.Sync) place.new) }
     ensures part { OnErr result (Extends (string_bytes text.old) (string_bytes text.new)) }
 {
     place.learn();
@@ -91,6 +97,8 @@ pub(crate) fn ask<F: Front<J>, J: Opening, R: Wait, L: Ledger>(
     ensures ok { OnOk result (Tells F.Keeper.IsSteady F.Keeper.faults J.first J.base J.opening
         place.old (requests.Query query.now)
         (string_bytes text.old) (string_bytes text.new) place.new) }
+    ensures made { OnErr result (IsAfter F.Keeper.IsSteady F.Keeper.faults J.first J.base J.opening
+        place.old (requests.Query query.now) place.new) }
     ensures part { OnErr result (Extends (string_bytes text.old) (string_bytes text.new)) }
 {
     match query {
@@ -115,6 +123,8 @@ pub(crate) fn fulfil<F: Front<J>, J: Opening, R: Wait, L: Ledger>(
     ensures ok { OnOk result (Tells F.Keeper.IsSteady F.Keeper.faults J.first J.base J.opening
         place.old request.now
         (string_bytes text.old) (string_bytes text.new) place.new) }
+    ensures made { OnErr result (IsAfter F.Keeper.IsSteady F.Keeper.faults J.first J.base J.opening
+        place.old request.now place.new) }
     ensures part { OnErr result (Extends (string_bytes text.old) (string_bytes text.new)) }
 {
     match request {

@@ -9,7 +9,7 @@ ghost use Rattle.publishing_clerk.specs.Evaluations.{given_in};
 ghost use Rattle.publishing_clerk.specs.Rulings.{IsRuled};
 ghost use Rattle.publishing_clerk.specs.Fronts.{HasRuled, IsCounted, IsReplied, WasAsked};
 ghost use Rattle.desk_service.specs.Sittings.{HasRuling, IsAskedOfClerk, IsEvaluated, IsVersion, Looks, Stands, Stays};
-ghost use Rattle.desk_service.specs.Replies.{Tells};
+ghost use Rattle.desk_service.specs.Replies.{IsAfter, Tells};
 ghost use Rattle.wire_replies.specs.Replies.{reply_text};
 ghost use Rattle.wire_replies.specs.declared.reply.Reply.{Reply};
 ghost use Rattle.wire_requests.specs.declared.request.Request.TheVariants as requests;
@@ -115,6 +115,8 @@ impl<'r, F: Front<J>, J: Opening, R: Wait> Place<'r, F, J, R> {
         ensures ok { OnOk result (Tells F.Keeper.IsSteady F.Keeper.faults J.first J.base J.opening
             self.old (requests.Query query.now)
             (string_bytes text.old) (string_bytes text.new) self.new) }
+        ensures made { OnErr result (IsAfter F.Keeper.IsSteady F.Keeper.faults J.first J.base J.opening
+            self.old (requests.Query query.now) self.new) }
         ensures part { OnErr result (Extends (string_bytes text.old) (string_bytes text.new)) }
     {
         let answered = self.answer(alloc, steps, query);
@@ -176,6 +178,8 @@ impl<'r, F: Front<J>, J: Opening, R: Wait> Place<'r, F, J, R> {
         ensures ok { OnOk result (Tells F.Keeper.IsSteady F.Keeper.faults J.first J.base J.opening
             self.old (requests.Change change.now)
             (string_bytes text.old) (string_bytes text.new) self.new) }
+        ensures made { OnErr result (IsAfter F.Keeper.IsSteady F.Keeper.faults J.first J.base J.opening
+            self.old (requests.Change change.now) self.new) }
         ensures part { OnErr result (Extends (string_bytes text.old) (string_bytes text.new)) }
     {
         let Ok(evaluated) = self.evaluate(alloc, steps, change) else {
@@ -215,6 +219,9 @@ impl<'r, F: Front<J>, J: Opening, R: Wait> Place<'r, F, J, R> {
             × HasRuling F.Keeper.IsSteady F.Keeper.faults J.base J.opening change.now evaluated
             self.old reply self.new
             × (string_bytes text.new ≡ string_bytes text.old ++ reply_text reply)) }
+        ensures made { OnErr result ((reply : Reply)
+            × HasRuling F.Keeper.IsSteady F.Keeper.faults J.base J.opening change.now evaluated
+            self.old reply self.new) }
         ensures same { self.new.front ≡ self.old.front }
         ensures part { OnErr result (Extends (string_bytes text.old) (string_bytes text.new)) }
     {

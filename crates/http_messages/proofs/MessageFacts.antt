@@ -18,7 +18,7 @@ use Rattle.http_messages.specs.Frames.{Frame, Body, Refused, frame_of}
 use Rattle.http_messages.specs.Given.{HoldsHead, HoldsSaid, IsGiven}
 use Rattle.http_messages.specs.Said.{SaysOr}
 use Rattle.http_messages.specs.declared.said.HeadRead.TheVariants as reads
-use Rattle.http_messages.specs.Messages.{BeginsWith, Comes, GivesMessage, IsBroken, Turns}
+use Rattle.http_messages.specs.Messages.{BeginsWith, Comes, GivesMessage, IsBroken, IsCut, Turns}
 
 -- a read before changes nothing of what comes
 pub gives_on : (x y z : Option (List ℕ)) (i : Incoming) → Keeps x y → GivesMessage y z i → GivesMessage x z i
@@ -160,6 +160,17 @@ gives_cut held more (Some xs) (Some ys) said len x kept end short =
         short = omega (arith, length-append (drop len held) xs, length-drop len held, inside held x.0 len x.1, whole, short);
       }),
     )
+
+-- a body is not held whole
+pub cut_body : (held : List ℕ) (said : Head) (len : ℕ) → HoldsSaid held said len → length held < len + said.size → IsCut held
+cut_body held said len x short = inr (record {
+  head = x.0;
+  rest = drop len held;
+  size = said.size;
+  begins = subst (λ (t : List ℕ). BeginsWith t x.0 (drop len held) (Body said.size)) (append-nil held)
+      (subst (λ (t : List ℕ). BeginsWith (held ++ []) x.0 t (Body said.size)) (append-nil (drop len held)) (begins held x.0 len [] (Body said.size) x.1 x.2.framed));
+  short = omega (arith, length-drop len held, inside held x.0 len x.1, short);
+})
 
 pub gives_refused : (bytes : List ℕ) (headers : List HeaderSpan) (spans : RequestSpans) (left : Option (List ℕ)) (status : ℕ)
     → ((head : RequestHead) → IsRequestAt bytes headers spans head → SaysOr (reads.Refused status) head)

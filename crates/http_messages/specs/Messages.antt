@@ -39,9 +39,13 @@ pub record EndsInBody (stream : List ℕ) : Type 0 where
 abbrev pub RefusesFields : List ℕ → ℕ → Type 0
 RefusesFields stream status = (head : RequestHead) × (rest : List ℕ) × BeginsWith stream head rest (Refused status)
 
+-- a head or a body is wanting its end
+abbrev pub IsCut : List ℕ → Type 0
+IsCut bytes = IsOpen bytes ⊎ EndsInBody bytes
+
 -- a stream ends inside a head or a body
 abbrev pub IsTruncated : List ℕ → Type 0
-IsTruncated stream = (0 < length stream) × (IsOpen stream ⊎ EndsInBody stream)
+IsTruncated stream = (0 < length stream) × IsCut stream
 
 -- a stream is refused with this status
 abbrev pub IsRefused : List ℕ → ℕ → Type 0

@@ -7,7 +7,7 @@ ghost use Rattle.oe_http.specs.declared.lines.TheConstants.{INPUT_LIMIT};
 ghost use Rattle.httparse.specs.Grammar.{RequestHead};
 ghost use Rattle.httparse.specs.Spans.{IsRequestAt, IsRequestWithin};
 ghost use Rattle.http_heads.specs.declared.decision.TheConstants.{HEAD_LIMIT};
-ghost use Rattle.http_messages.specs.Messages.{GivesMessage, IsBroken, IsOfHeld, Turns, most_left, unread_of};
+ghost use Rattle.http_messages.specs.Messages.{GivesMessage, IsBroken, IsCut, IsOfHeld, Turns, most_left, unread_of};
 ghost use Rattle.http_messages.specs.Statuses.{HasStatus};
 ghost use Rattle.http_messages.specs.Given.{HoldsSaid, IsGiven};
 
@@ -146,7 +146,8 @@ fn take_request<S: Source>(
     }
 }
 
-/// Takes the request whose head is held, where its body is held too.
+/// Takes the request whose head is held; `None` only where its body is not held whole.
+#[tactic(auto, using(crate::proofs::MessageFacts::cut_body, crate::proofs::MessageFacts::holds_said))]
 fn take_held(
     alloc: Global,
     held: &mut Held,
@@ -161,7 +162,8 @@ fn take_held(
     ensures turns { IfSome result (λ next. Turns (most_left held.old) (most_left held.new) next) }
     ensures status { IfSome result (λ next. HasStatus next) }
     ensures held { IfSome result (λ next. IsOfHeld next) }
-    ensures none { IfNone result (held.new.bytes.items ≡ held.old.bytes.items) }
+    ensures none { IfNone result (IsCut held.old.bytes.items) }
+    ensures same { IfNone result (held.new.bytes.items ≡ held.old.bytes.items) }
     ensures taken { held.new.taken ≡ held.old.taken }
 {
     match read_head(alloc, &held.bytes, headers, spans) {
@@ -176,14 +178,16 @@ fn take_held(
     }
 }
 
-/// Takes the next request without a read, where it is held whole or what is held is refused. If not, [`next_request`] reads on.
+/// Takes the next request without a read; `None` exactly where what is held is neither a whole request nor refused, memory apart.
+/// [`next_request`] then reads on.
 pub fn held_request(alloc: Global, held: &mut Held) -> Option<Incoming>
     ensures gives { IfSome result (λ next. (left : Option (List ℕ))
         → GivesMessage (unread_of held.old left) (unread_of held.new left) next) }
     ensures turns { IfSome result (λ next. Turns (most_left held.old) (most_left held.new) next) }
     ensures status { IfSome result (λ next. HasStatus next) }
     ensures held { IfSome result (λ next. IsOfHeld next) }
-    ensures none { IfNone result (held.new.bytes.items ≡ held.old.bytes.items) }
+    ensures none { IfNone result (IsCut held.old.bytes.items) }
+    ensures same { IfNone result (held.new.bytes.items ≡ held.old.bytes.items) }
     ensures taken { held.new.taken ≡ held.old.taken }
 {
     let mut headers = [EMPTY_HEADER_SPAN; MOST_FIELDS];

@@ -17,10 +17,10 @@ use Rattle.line_session.specs.declared.session.Ended.TheVariants as endings
 
 -- ---- an exchange before the others
 
-opens_none : StaysOpen []
+pub opens_none : StaysOpen []
 opens_none = All-nil (λ (x : Exchange). x.close ≡ false)
 
-opens_more : (e : Exchange) (es : List Exchange) → e.close ≡ false → StaysOpen es → StaysOpen (e ∷ es)
+pub opens_more : (e : Exchange) (es : List Exchange) → e.close ≡ false → StaysOpen es → StaysOpen (e ∷ es)
 opens_more e es c o = All-cons (λ (x : Exchange). x.close ≡ false) e es c o
 
 closes_more : (e : Exchange) (es : List Exchange) → e.close ≡ false → ClosesAtLast es → ClosesAtLast (e ∷ es)

@@ -53,7 +53,25 @@ abbrev pub EndsSo : {St : Type 0} → Step St → Ended → St → St → Option
 EndsSo step ended before after None held_old held_new = Unit {0}
 EndsSo step ended before after (Some stream) held_old held_new = Ends step ended before after stream (λ text. Appends held_old held_new text)
 
+-- however a session ends: the first requests of a stream took one state to the other, in order, at most up to the first that asks to end the session
+abbrev pub CarriesOut : {St : Type 0} → Step St → St → St → Option (List ℕ) → Type 0
+CarriesOut step before after None = Unit {0}
+CarriesOut step before after (Some stream) =
+    (es : List Exchange) × (left : List ℕ) × Runs step before stream es after left × (StaysOpen es ⊎ ClosesAtLast es)
+
 -- ---- for proofs alone
+
+-- requests took the state on, up to where the stream stands now
+abbrev pub RunsTo : {St : Type 0} → Step St → St → St → Option (List ℕ) → Option (List ℕ) → Type 0
+RunsTo step before after None unread = Unit {0}
+RunsTo step before after (Some stream) None = ⊥
+RunsTo step before after (Some stream) (Some left) = (es : List Exchange) × Served step before stream es after left
+
+-- the state stays, or the next request took it on
+abbrev pub GoesFurther : {St : Type 0} → Step St → St → St → Option (List ℕ) → Type 0
+GoesFurther step before after None = Unit {0}
+GoesFurther step before after (Some stream) =
+    (after ≡ before) ⊎ ((e : Exchange) × (left : List ℕ) × Asks stream e.asked e.close left × step before e.asked e.reply after)
 
 -- a text that is not empty was written, or a front of it
 abbrev pub WroteFront : Option (List ℕ) → Option (List ℕ) → List ℕ → Type 0

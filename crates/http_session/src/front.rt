@@ -1,6 +1,6 @@
 //! Replies to HTTP requests, over anything that answers records.
 
-ghost use Rattle.std.specs.Prelude.{◌≡◌, [], OnOk, string_bytes};
+ghost use Rattle.std.specs.Prelude.{◌≡◌, [], List, ℕ, OnErr, OnOk, string_bytes};
 ghost use Rattle.http_session.specs.Replying.{AnswersRecord};
 
 use crate::status::{NOT_ALLOWED, NOT_FOUND, status_of};
@@ -31,8 +31,10 @@ impl<F: Answering> Routed<F> {
 /// Writes the reply to a record into an empty text.
 fn answer_record<F: Answering>(desk: &mut F, line: &[u8], text: &mut String) -> Result<(), NoMemory>
     requires empty { string_bytes text.old ≡ [] }
-    ensures { OnOk result (AnswersRecord F.step desk.old line.now
+    ensures ok { OnOk result (AnswersRecord F.step desk.old line.now
         (string_bytes text.new) desk.new) }
+    ensures made { OnErr result ((reply : List ℕ)
+        × AnswersRecord F.step desk.old line.now reply desk.new) }
 {
     if line.is_empty() {
         return append_reply(text, &Reply::Refused(Refusal::Malformed { field: 1 }));

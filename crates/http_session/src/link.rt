@@ -14,7 +14,7 @@ ghost use Rattle.http_messages.specs.declared.request.Incoming.TheVariants as in
 ghost use Rattle.http_messages.specs.declared.status.TheConstants.{NO_MEMORY};
 ghost use Rattle.line_session.specs.Session.{Completes, HasCauses};
 ghost use Rattle.http_session.specs.Machine.{Reply, reply_text, refusal_text};
-ghost use Rattle.http_session.specs.Endings.{EndsSo, Finishes, GivesUp, Goes, IsRequest, RefusesSo, Stops, WroteFront};
+ghost use Rattle.http_session.specs.Endings.{CarriesOut, EndsSo, Finishes, GivesUp, Goes, GoesFurther, IsRequest, RefusesSo, Stops, WroteFront};
 
 use crate::Replying;
 use http::Method;
@@ -241,6 +241,8 @@ fn answer_one<A: Replying, L: TwoWay>(
         (waiting.old.items ++ reply_text reply close) rest) }
     ensures memory { IsErrOf result SendErr.NoMemory
         → Sent (L.Sink.held link.old) (L.Sink.held link.new) waiting.old.items waiting.new.items }
+    ensures made { OnErr result ((desk.new ≡ desk.old) ⊎ ((reply : Reply) × A.step desk.old
+        (record { method = method.now; target = target.now; body = body.now }) reply desk.new)) }
     ensures left { L.Source.left link.new ≡ L.Source.left link.old }
     ensures read_faults { L.Source.faults link.new ≡ L.Source.faults link.old }
     ensures later { L.Sink.faults link.old ≤ L.Sink.faults link.new }
@@ -282,6 +284,9 @@ fn exchange<A: Replying, L: TwoWay>(
         → GivesMessage x y (incoming.Request method.now target.now body.now close)
         → Stops A.step ended desk.old desk.new x (L.Sink.held link.old) (L.Sink.held link.new)
         waiting.old.items) }
+    ensures further { IfSome result (λ ended. (x y : Option (List ℕ))
+        → GivesMessage x y (incoming.Request method.now target.now body.now close)
+        → GoesFurther A.step desk.old desk.new x) }
     ensures left { L.Source.left link.new ≡ L.Source.left link.old }
     ensures read_faults { L.Source.faults link.new ≡ L.Source.faults link.old }
     ensures later { L.Sink.faults link.old ≤ L.Sink.faults link.new }
@@ -329,7 +334,7 @@ fn at_hand(alloc: Global, held: &mut Held, waiting: usize) -> Option<Incoming>
     ensures turns { IfSome result (λ next. Turns (most_left held.old) (most_left held.new) next) }
     ensures status { IfSome result (λ next. HasStatus next) }
     ensures held { IfSome result (λ next. IsOfHeld next) }
-    ensures none { IfNone result (held.new.bytes.items ≡ held.old.bytes.items) }
+    ensures same { IfNone result (held.new.bytes.items ≡ held.old.bytes.items) }
     ensures taken { held.new.taken ≡ held.old.taken }
 {
     if waiting >= MOST_WAITING {
@@ -375,7 +380,7 @@ fn receive<L: TwoWay>(
 }
 
 /// Replies to what came. Returns how the session ends, if it does.
-#[tactic(auto, using(crate::proofs::SessionFacts::stops_closed, crate::proofs::SessionFacts::stops_truncated, crate::proofs::SessionFacts::stops_refused, crate::proofs::SessionFacts::stops_read, crate::proofs::SessionFacts::stops_long))]
+#[tactic(auto, using(crate::proofs::SessionFacts::stops_closed, crate::proofs::SessionFacts::stops_truncated, crate::proofs::SessionFacts::stops_refused, crate::proofs::SessionFacts::stops_read, crate::proofs::SessionFacts::stops_long, crate::proofs::CarryFacts::stays))]
 fn respond<A: Replying, L: TwoWay>(
     alloc: Global,
     desk: &mut A,
@@ -391,6 +396,8 @@ fn respond<A: Replying, L: TwoWay>(
     ensures ends { IfSome result (λ ended. (x y : Option (List ℕ)) → GivesMessage x y came
         → Stops A.step ended desk.old desk.new x (L.Sink.held link.old) (L.Sink.held link.new)
         waiting.old.items) }
+    ensures further { IfSome result (λ ended. (x y : Option (List ℕ)) → GivesMessage x y came
+        → GoesFurther A.step desk.old desk.new x) }
     ensures request { IsNone result → IsRequest came }
     ensures left { L.Source.left link.new ≡ L.Source.left link.old }
     ensures read_faults { L.Source.faults link.new ≡ L.Source.faults link.old }
@@ -428,11 +435,13 @@ fn respond<A: Replying, L: TwoWay>(
 
 /// Writes a response to each request of a link, in order. Responses are gathered, and written before each read and at the
 /// end. The buffers of the responses and of the reply's text are reused.
-#[tactic(auto, using(crate::proofs::UnderwayFacts::underway_start, line_session::proofs::SessionFacts::fell_none, line_session::proofs::SessionFacts::fell_more, line_session::proofs::SessionFacts::took_more))]
+#[tactic(auto, using(crate::proofs::UnderwayFacts::underway_start, crate::proofs::CarryFacts::runs_start, line_session::proofs::SessionFacts::fell_none, line_session::proofs::SessionFacts::fell_more, line_session::proofs::SessionFacts::took_more))]
 pub fn session<A: Replying, L: TwoWay>(alloc: Global, desk: &mut A, link: &mut L) -> Ended
     // The link then holds its old content and, by how the session ended, the responses to its requests.
     ensures ends { EndsSo A.step result desk.old desk.new (L.Source.left link.old)
         (L.Sink.held link.old) (L.Sink.held link.new) }
+    // However it ends, the desk was asked the first requests of the link, in order, at most up to the first that asks to end the session.
+    ensures carried { CarriesOut A.step desk.old desk.new (L.Source.left link.old) }
     // A fault is reported only where that end's count of faults rose, and a long input only at its limit.
     ensures causes { HasCauses result (L.Source.left link.old) (L.Source.left link.new)
         (L.Source.faults link.old) (L.Source.faults link.new) (L.Sink.faults link.old)

@@ -1,6 +1,6 @@
 //! The trait of what replies to the requests of a session.
 
-ghost use Rattle.std.specs.Prelude.{◌≡◌, [], IfOk, string_bytes};
+ghost use Rattle.std.specs.Prelude.{◌≡◌, ◌⊎◌, [], IfOk, OnErr, string_bytes};
 ghost use Rattle.http.specs.StatusCode.{IsStatusCode};
 ghost use Rattle.http_session.specs.Machine.{Asked, Reply};
 
@@ -27,7 +27,8 @@ pub trait Replying {
     ///
     /// # Errors
     ///
-    /// `NoMemory` where memory ran out. A part of the body may then be in the text.
+    /// `NoMemory` where memory ran out. The state is then the one before the request, or the one after it, and a part of the body may be in the
+    /// text.
     fn reply(
         &mut self,
         alloc: Global,
@@ -39,5 +40,7 @@ pub trait Replying {
         requires empty { string_bytes text.old ≡ [] }
         ensures reply { IfOk result (λ r. step self.old
             (record { method = method.now; target = target.now; body = body.now })
-            (record { status = r.status; allow = r.allow; body = string_bytes text.new }) self.new) };
+            (record { status = r.status; allow = r.allow; body = string_bytes text.new }) self.new) }
+        ensures made { OnErr result ((self.new ≡ self.old) ⊎ ((reply : Reply) × step self.old
+            (record { method = method.now; target = target.now; body = body.now }) reply self.new)) };
 }

@@ -82,7 +82,8 @@ fn mixed(alloc: Global) -> Result<Vec<u8>, Fail> {
 fn lines_are_answered_in_order_until_a_stream_or_memory_fails(rt: HostRuntime) -> Result<(), Fail> {
     let alloc = rt.alloc();
     let mixed = mixed(alloc)?;
-    // what comes in, how much of it in one read, the read and the write that fail (none: 0), and what then comes out
+    // what comes in, how much of it in one read, the read and the write that fail (none: 0), how the session ends, what then comes out, and how
+    // many lines were asked
     let table = [
         (
             mixed.as_slice(),
@@ -91,6 +92,7 @@ fn lines_are_answered_in_order_until_a_stream_or_memory_fails(rt: HostRuntime) -
             0,
             Ended::Closed,
             "one\ntwo\nlong\nthree\n",
+            5,
         ),
         (
             b"one\ntwo\nthree\n".as_slice(),
@@ -99,6 +101,7 @@ fn lines_are_answered_in_order_until_a_stream_or_memory_fails(rt: HostRuntime) -
             0,
             Ended::ReadFault,
             "one\ntwo\n",
+            2,
         ),
         // what waits is written before the next read
         (
@@ -108,8 +111,19 @@ fn lines_are_answered_in_order_until_a_stream_or_memory_fails(rt: HostRuntime) -
             2,
             Ended::WriteFault,
             "one\ntwo\n",
+            3,
         ),
-        (b"one\ntwo\n".as_slice(), 10, 0, 1, Ended::WriteFault, ""),
+        (b"one\ntwo\n".as_slice(), 10, 0, 1, Ended::WriteFault, "", 2),
+        // after a refused write no more is read
+        (
+            b"one\ntwo\nthree\n".as_slice(),
+            10,
+            0,
+            1,
+            Ended::WriteFault,
+            "",
+            2,
+        ),
         // of a reply that fails midway nothing is written
         (
             b"one\nstop\nthree\n".as_slice(),
@@ -118,17 +132,17 @@ fn lines_are_answered_in_order_until_a_stream_or_memory_fails(rt: HostRuntime) -
             0,
             Ended::NoMemory,
             "one\n",
+            2,
         ),
     ];
-    for (text, most, read, write, ended, replies) in table {
+    for (text, most, read, write, ended, replies, asked) in table {
         let bytes = Bytes::from_slice(alloc, text)?;
         let mut input = FakeSource::new(bytes, most.max(1), vec![in alloc; read]?);
         let mut output = FakeSink::new(alloc, 1000, vec![in alloc; write]?)?;
-        assert_eq!(rt;
-            echo_all(alloc, &mut Echo { lines: 0 }, &mut input, &mut output),
-            ended
-        );
+        let mut desk = Echo { lines: 0 };
+        assert_eq!(rt; echo_all(alloc, &mut desk, &mut input, &mut output), ended);
         assert_eq!(rt; output.bytes(), replies.as_bytes());
+        assert_eq!(rt; desk.lines, asked);
     }
     Ok(())
 }

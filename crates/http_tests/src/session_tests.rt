@@ -13,7 +13,7 @@ use std::alloc::Global;
 use std::marker::Model;
 use std::test::Fail;
 
-/// Replies to a request by its target and its body, and counts the requests. For a body that is no text it has no memory.
+/// Replies to a request by its target and its body, and counts its replies. For a body that is no text it has no memory.
 #[derive(Drop)]
 struct Echo {
     requests: u64,
@@ -40,7 +40,6 @@ impl Replying for Echo {
         body: &[u8],
         text: &mut String,
     ) -> Result<Response, NoMemory> {
-        self.requests = self.requests.saturating_add(1);
         let Ok(place) = str::from_utf8(target) else {
             return Err(NoMemory);
         };
@@ -49,6 +48,7 @@ impl Replying for Echo {
         };
         text.push_str(place)?;
         text.push_str(words)?;
+        self.requests = self.requests.saturating_add(1);
         Ok(Response {
             status: 200,
             allow: None,
@@ -178,12 +178,13 @@ fn a_link_that_fails_at_each_call(rt: HostRuntime) -> Result<(), Fail> {
         let bytes = Bytes::from_vec(times(alloc, A, 3)?);
         let source = FakeSource::new(bytes, 1, vec![in alloc; read]?);
         let mut link = FakeLink::new(source, FakeSink::new(alloc, 1000, vec![in alloc; write]?)?);
-        assert_eq!(rt;
-            echo_all(alloc, &mut Echo { requests: 0 }, &mut link),
-            ended
-        );
+        let mut desk = Echo { requests: 0 };
+        assert_eq!(rt; echo_all(alloc, &mut desk, &mut link), ended);
         let wanted = times(alloc, A_TOLD.as_bytes(), told)?;
         assert_eq!(rt; link.sink().bytes(), wanted.as_slice());
+        // the response that could not be written was the last one asked for
+        let lost = if ended == Ended::WriteFault { 1 } else { 0 };
+        assert_eq!(rt; desk.requests, u64::from(told).saturating_add(lost));
     }
     Ok(())
 }

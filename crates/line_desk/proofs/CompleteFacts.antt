@@ -6,14 +6,13 @@ use Rattle.wire_requests.specs.Requests.{IsMalformed, IsRecord, Empty}
 use Rattle.wire_requests.specs.declared.request.Request.{Request}
 use Rattle.wire_requests.specs.declared.request.Request.TheVariants as requests
 use Rattle.wire_replies.specs.Replies.{reply_text}
-use Rattle.wire_replies.specs.declared.reply.Reply.{Reply}
 use Rattle.wire_replies.specs.declared.reply.Reply.TheVariants as replies
 use Rattle.case_records.specs.declared.refusal.Refusal.{Refusal}
 use Rattle.case_records.specs.declared.refusal.Refusal.TheVariants as refusals
 use Rattle.desk_machine.specs.declared.entry.Entry.{Entry}
 use Rattle.desk_machine.specs.States.{State}
 use Rattle.desk_machine.specs.Machine.{Answer as Decided, Done, Kept, No, entries_of_answer, state_after}
-use Rattle.filing_desk.specs.Answers.{answer_of, decision, MakesEntry}
+use Rattle.filing_desk.specs.Answers.{answer_of, decision}
 use Rattle.filing_desk.specs.Clerks.{Advances, Clerking}
 use Rattle.filing_desk.specs.Handed.{HasCause}
 use Rattle.filing_desk.specs.declared.answer.Answer.{Answer}

@@ -1,6 +1,6 @@
 -- Questions: what was appended is the reply.
-use Rattle.std.proofs.Common.{◌≡◌, ◌≤◌, refl, arith, ap, ◌∙◌, inl, inr, ℕ, List, ◌++◌, false, Result, Ok, Err}
-use Rattle.std.specs.Result.{OnOk, is_err}
+use Rattle.std.proofs.Common.{◌≡◌, refl, arith, ap, ◌∙◌, inl, inr, ℕ, List, [], ◌++◌, false, Result, Ok, Err}
+use Rattle.std.specs.Result.{OnOk, OnErr, is_err}
 use Rattle.airfields.specs.Sites.{Site}
 use Rattle.finding_lists.specs.declared.finding.Finding.{Finding}
 use Rattle.oe_findings.specs.List.{findings_of}
@@ -14,7 +14,7 @@ use Rattle.wire_requests.specs.declared.request.Request.TheVariants as requests
 use Rattle.desk_machine.specs.States.{last_number}
 use Rattle.desk_queries.specs.Queries.{IsAnswer, no_memory}
 use Rattle.filing_desk.specs.Keepers.{IsLater}
-use Rattle.line_desk.specs.Desk.{Serving, Tells, Decided, NoRoom}
+use Rattle.line_desk.specs.Desk.{IsAfter, Serving, Tells, Decided, NoRoom}
 
 module _ {K : Type 0} (IsSteady : K → Type 0) (faults : K → ℕ) (k : Serving K) (old new : List ℕ) where
   -- a question leaves the keeper as it is
@@ -31,7 +31,18 @@ module _ {K : Type 0} (IsSteady : K → Type 0) (faults : K → ℕ) (k : Servin
   query_told query reply (inl is) t = Decided reply is t refl as_before
   query_told query reply (inr e) t = NoRoom (t ∙ ap (λ (r : Reply). old ++ reply_text r) e) refl as_before
 
--- ---- where a call answered Ok
+-- the same, where the text of the reply may not be there whole
+module _ {K : Type 0} (IsSteady : K → Type 0) (faults : K → ℕ) (k : Serving K) where
+  pub found_after : (site : Site) → IsAfter IsSteady faults k (requests.Query (queries.Screen site)) k
+  found_after site =
+      let last = last_number k.state in
+      let list = findings_of k.state.register site in
+      (reply_text (replies.Found last list), found_told IsSteady faults k [] (reply_text (replies.Found last list)) site last list refl refl refl)
+
+  pub query_after : (query : Query) (reply : Reply) → IsAnswer k.state query reply → IsAfter IsSteady faults k (requests.Query query) k
+  query_after query reply is = (reply_text reply, query_told IsSteady faults k [] (reply_text reply) query reply is refl)
+
+-- ---- where a call answered Ok, or Err
 
 pub on_ok : {A E P Q : Type 0} (r : Result A E) → (P → Q) → OnOk r P → OnOk r Q
 on_ok (Ok x) f p = f p
@@ -40,3 +51,11 @@ on_ok (Err e) f p = tt
 pub ok_shown : {A E P : Type 0} (r : Result A E) → false ≡ is_err r → OnOk r P → P
 ok_shown (Ok x) h p = p
 ok_shown (Err e) h p = absurd (cc (h))
+
+pub on_err : {A E P : Type 0} (r : Result A E) → P → OnErr r P
+on_err (Ok x) p = tt
+on_err (Err e) p = p
+
+pub err_shown : {A E P Q : Type 0} (r : Result A E) → (P → Q) → OnErr r P → OnErr r Q
+err_shown (Ok x) f p = tt
+err_shown (Err e) f p = f p

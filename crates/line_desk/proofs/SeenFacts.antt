@@ -1,5 +1,5 @@
 -- What a session does is what it is seen to do through a map of its states.
-use Rattle.std.proofs.Common.{◌≡◌, inl, inr, ap, ℕ, List, [], ◌∷◌, Option, Some, None}
+use Rattle.std.proofs.Common.{inl, inr, ap, ℕ, List, [], ◌∷◌, Option, Some, None}
 use Rattle.std.specs.Str.Lines.{lines}
 use Rattle.line_session.specs.Machine.{Runs, Starts, Step}
 use Rattle.line_session.specs.Session.{Answered, AnsweredFront, AnsweredRead, Begun, Replied}

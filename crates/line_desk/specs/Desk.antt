@@ -56,6 +56,10 @@ pub data Tells {K : Type 0} (IsSteady : K → Type 0) (faults : K → ℕ) (befo
   NotKept : (change : Asked) → r ≡ requests.Change change → MakesEntry (decision before.state change) → new ≡ old ++ reply_text not_kept → after.state ≡ before.state
       → IsLater IsSteady faults before.keeper after.keeper → HasFailed IsSteady faults before.keeper after.keeper → Tells IsSteady faults before r old new after
 
+-- the state is the one after a reply to a request, whatever became of the reply's text
+abbrev pub IsAfter : {K : Type 0} → (K → Type 0) → (K → ℕ) → Serving K → Request → Serving K → Type 0
+IsAfter IsSteady faults before r after = (text : List ℕ) × Tells IsSteady faults before r [] text after
+
 -- a line, the text of its reply, and the states before and after, where no keeper fails
 pub data Plain (before : State) (line text : List ℕ) (after : State) : Type 0 where
   -- an empty line has no reply

@@ -39,7 +39,7 @@ impl<K: Keeper, L: Ledger> Model for LineDesk<K, L> {
 ///
 /// # Errors
 ///
-/// `NoMemory` where memory was refused for the text; a part of the reply may then have been appended, and the change may have been made.
+/// `NoMemory` where memory was refused for the text. The clerk is then as after a reply to the line, a part of which may have been appended.
 pub fn append_answer<K: Keeper, L: Ledger>(
     alloc: Global,
     clerk: &mut Clerk<K>,
@@ -51,6 +51,8 @@ pub fn append_answer<K: Keeper, L: Ledger>(
 ) -> Result<(), NoMemory>
     ensures ok { OnOk result (Answers K.IsSteady K.faults (serving clerk.old) line.now
         (string_bytes text.old) (string_bytes text.new) (serving clerk.new)) }
+    ensures made { OnErr result ((reply : List ℕ) × Step K.IsSteady K.faults
+        (serving clerk.old) line.now reply (serving clerk.new)) }
     ensures part { OnErr result (Extends (string_bytes text.old) (string_bytes text.new)) }
 {
     if line.is_empty() {
@@ -74,6 +76,9 @@ fn append_too_long<K: Keeper>(text: &mut String) -> Result<(), NoMemory>
         × ((s : Serving K) (line : List ℕ) → LINE_LIMIT < length line
         → Step K.IsSteady K.faults s line reply s)
         × (string_bytes text.new ≡ string_bytes text.old ++ reply)) }
+    ensures made { OnErr result ((reply : List ℕ)
+        × ((s : Serving K) (line : List ℕ) → LINE_LIMIT < length line
+        → Step K.IsSteady K.faults s line reply s)) }
     ensures part { OnErr result (Extends (string_bytes text.old) (string_bytes text.new)) }
 {
     append_reply(text, &Reply::Refused(Refusal::Malformed { field: 0 }))

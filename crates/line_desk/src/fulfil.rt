@@ -2,7 +2,7 @@
 
 ghost use Rattle.std.specs.Prelude.{◌≡◌, OnOk, OnErr, string_bytes};
 ghost use Rattle.grid_exact.specs.Texts.{Extends};
-ghost use Rattle.line_desk.specs.Desk.{Tells, change_reply, serving};
+ghost use Rattle.line_desk.specs.Desk.{IsAfter, Tells, change_reply, serving};
 ghost use Rattle.wire_requests.specs.declared.request.Request.TheVariants as requests;
 ghost use Rattle.wire_requests.specs.declared.request.Query.TheVariants as queries;
 
@@ -28,6 +28,8 @@ fn append_findings<K: Keeper, L: Ledger>(
     ensures ok { OnOk result (Tells K.IsSteady K.faults (serving clerk.now)
         (requests.Query (queries.Screen filing.now))
         (string_bytes text.old) (string_bytes text.new) (serving clerk.now)) }
+    ensures made { OnErr result (IsAfter K.IsSteady K.faults (serving clerk.now)
+        (requests.Query (queries.Screen filing.now)) (serving clerk.now)) }
     ensures part { OnErr result (Extends (string_bytes text.old) (string_bytes text.new)) }
 {
     if clerk.sky().find(alloc, list, filing, steps).is_err() {
@@ -60,6 +62,8 @@ fn make_change<K: Keeper>(
     ensures ok { OnOk result (Tells K.IsSteady K.faults (serving clerk.old)
         (requests.Change change.now)
         (string_bytes text.old) (string_bytes text.new) (serving clerk.new)) }
+    ensures made { OnErr result (IsAfter K.IsSteady K.faults (serving clerk.old)
+        (requests.Change change.now) (serving clerk.new)) }
     ensures part { OnErr result (Extends (string_bytes text.old) (string_bytes text.new)) }
 {
     let answer = clerk.apply(alloc, change);
@@ -78,6 +82,8 @@ pub(crate) fn ask<K: Keeper, L: Ledger>(
     ensures ok { OnOk result (Tells K.IsSteady K.faults (serving clerk.now)
         (requests.Query query.now)
         (string_bytes text.old) (string_bytes text.new) (serving clerk.now)) }
+    ensures made { OnErr result (IsAfter K.IsSteady K.faults (serving clerk.now)
+        (requests.Query query.now) (serving clerk.now)) }
     ensures part { OnErr result (Extends (string_bytes text.old) (string_bytes text.new)) }
 {
     if let Query::Screen(filing) = query {
@@ -98,6 +104,8 @@ pub(crate) fn fulfil<K: Keeper, L: Ledger>(
     ensures ok { OnOk result (Tells K.IsSteady K.faults (serving clerk.old)
         request.now
         (string_bytes text.old) (string_bytes text.new) (serving clerk.new)) }
+    ensures made { OnErr result (IsAfter K.IsSteady K.faults (serving clerk.old)
+        request.now (serving clerk.new)) }
     ensures part { OnErr result (Extends (string_bytes text.old) (string_bytes text.new)) }
 {
     match request {

@@ -21,7 +21,7 @@ starts_on step a b [] more t u r q = rw r.0 (subst (λ s. Starts step s more u) 
 starts_on step a b (l ∷ done) more t u r q =
     inr (inr (r.0, r.1 ++ u, r.2, r.3, starts_on step r.2 b done more r.1 u r.4 q, ap (λ x. x ++ u) r.5 ∙ append_assoc r.0 r.1 u))
 
-runs_one : {St : Type 0} (step : Step St) (a b : St) (line reply : List ℕ) → step a line reply b → Runs step a (line ∷ []) reply b
+pub runs_one : {St : Type 0} (step : Step St) (a b : St) (line reply : List ℕ) → step a line reply b → Runs step a (line ∷ []) reply b
 runs_one step a b line reply s = (reply, [], b, s, (refl, refl), sym (append-nil reply))
 
 starts_none : {St : Type 0} (step : Step St) (s : St) (ls : List (List ℕ)) → Starts step s ls []

@@ -10,10 +10,10 @@ use Rattle.oe_http.specs.Written.{Sent}
 use Rattle.oe_http.specs.Lines.{GivesLine}
 use Rattle.oe_http.specs.declared.lines.Next.TheVariants as next
 use Rattle.oe_http.proofs.SentFacts.{appends_none, appends_on}
-use Rattle.line_session.specs.Machine.{Step, Starts}
-use Rattle.line_session.specs.Session.{Begun}
-use Rattle.line_session.specs.Replies.{RepliesNext}
-use Rattle.line_session.proofs.SessionFacts.{Underway, underway_start, underway_stop, fell_none, fell_more, took_more}
+use Rattle.line_session.specs.Machine.{Step, Runs, Starts}
+use Rattle.line_session.specs.Session.{Begun, CarriedOut, CarriesOut}
+use Rattle.line_session.specs.Replies.{GoesOn, RepliesNext}
+use Rattle.line_session.proofs.SessionFacts.{Underway, runs_on, runs_one, underway_start, underway_stop, fell_none, fell_more, took_more}
 
 front_nil : (a b : List ℕ) → a ++ b ≡ [] → a ≡ []
 front_nil [] b e = refl
@@ -94,6 +94,75 @@ pub begun_moved : {St : Type 0} (step : Step St) (a b : St) (x y h k m : Option 
     → Underway step a b x y h (append_known k p) → Grown h k → Sent k m p rest → Begun step a x h m
 begun_moved step a b x y h k m p rest u g s = begun_now step a b x y h m rest (underway_moved step a b x y h k m p rest u s) (grown_moved h k m p rest g s)
 
+-- these lines took the state on, and a beginning of their replies was written
+record CarriedTo {St : Type 0} (step : Step St) (a b : St) (xs : List ℕ) (left : List (List ℕ)) (h k : Option (List ℕ)) : Type 0 where
+  done : List (List ℕ)
+  first : lines xs ≡ done ++ left
+  written : List ℕ
+  rest : List ℕ
+  runs : Runs step a done (written ++ rest) b
+  appends : Appends h k written
+
+carried_to : {St : Type 0} (step : Step St) (a b : St) (xs ys : List ℕ) (h k : Option (List ℕ)) (p : List ℕ)
+    → Underway step a b (Some xs) (Some ys) h (append_known k p) → Grown h k → CarriedTo step a b xs (lines ys) h k
+carried_to step a b xs ys None k p u g = record {
+  done = u.done;
+  first = u.split;
+  written = [];
+  rest = u.replied.text;
+  runs = u.replied.runs;
+  appends = tt;
+}
+carried_to step a b xs ys (Some hs) None p u g = absurd g.1
+carried_to step a b xs ys (Some hs) (Some ks) p u g =
+    let e : u.replied.text ≡ g.0 ++ p = append_cancel_left hs u.replied.text (g.0 ++ p) (sym u.replied.appends ∙ ap (λ t. t ++ p) g.1 ∙ append_assoc hs g.0 p) in
+    record {
+      done = u.done;
+      first = u.split;
+      written = g.0;
+      rest = p;
+      runs = subst (λ t. Runs step a u.done t b) e u.replied.runs;
+      appends = g.1;
+    }
+
+carried_on : {St : Type 0} (step : Step St) (a b c : St) (xs ys : List ℕ) (h k : Option (List ℕ))
+    → CarriedTo step a b xs (lines ys) h k → GoesOn step b c (Some ys) → CarriedOut step a c xs h k
+carried_on step a b c xs ys h k t (inl e) = record {
+  done = t.done;
+  more = lines ys;
+  first = t.first;
+  written = t.written;
+  rest = t.rest;
+  runs = rw e t.runs;
+  appends = t.appends;
+}
+carried_on step a b c xs ys h k t (inr g) = record {
+  done = t.done ++ g.0 ∷ [];
+  more = g.2;
+  first = t.first ∙ ap (λ ls. t.done ++ ls) g.3 ∙ sym (append_assoc t.done (g.0 ∷ []) g.2);
+  written = t.written;
+  rest = t.rest ++ g.1;
+  runs = subst (λ text. Runs step a (t.done ++ g.0 ∷ []) text c) (append_assoc t.written t.rest g.1)
+      (runs_on step a b c t.done (g.0 ∷ []) (t.written ++ t.rest) g.1 t.runs (runs_one step b c g.0 g.1 g.4));
+  appends = t.appends;
+}
+
+pub goes_on : {St : Type 0} (step : Step St) (b c : St) (y : Option (List ℕ)) → c ≡ b → GoesOn step b c y
+goes_on step b c None e = tt
+goes_on step b c (Some ys) e = inl e
+
+carried_more : {St : Type 0} (step : Step St) (a b c : St) (x y h k : Option (List ℕ)) (p : List ℕ)
+    → Underway step a b x y h (append_known k p) → Grown h k → GoesOn step b c y → CarriesOut step a c x h k
+carried_more step a b c None y h k p u g m = tt
+carried_more step a b c (Some xs) None h k p u g m = absurd u
+carried_more step a b c (Some xs) (Some ys) h k p u g m = carried_on step a b c xs ys h k (carried_to step a b xs ys h k p u g) m
+
+-- however a session ends
+pub carried_moved : {St : Type 0} (step : Step St) (a b c : St) (x y h k m : Option (List ℕ)) (p rest : List ℕ)
+    → Underway step a b x y h (append_known k p) → Grown h k → Sent k m p rest → GoesOn step b c y → CarriesOut step a c x h m
+carried_moved step a b c x y h k m p rest u g s w =
+    carried_more step a b c x y h m rest (underway_moved step a b x y h k m p rest u s) (grown_moved h k m p rest g s) w
+
 -- where nothing waits, that is what was written
 underway_empty : {St : Type 0} (step : Step St) (a b : St) (x y h k : Option (List ℕ)) → Underway step a b x y h (append_known k []) → Underway step a b x y h k
 underway_empty step a b x y h None u = u
@@ -121,6 +190,13 @@ pub replies_long : {St : Type 0} (step : Step St) (a b : St) (x y : Option (List
 replies_long step a b None y line old new text g s e k = tt
 replies_long step a b (Some xs) None line old new text g s e k = absurd g
 replies_long step a b (Some xs) (Some ys) line old new text g s e k = (g.0, text, g.1, s g.0 g.2, waits_more k old new text e)
+
+-- a line that is too long was read, and its reply is not there whole
+pub goes_long : {St : Type 0} (step : Step St) (a b : St) (x y : Option (List ℕ)) (line text : List ℕ)
+    → GivesLine x y next.TooLong line → ((long : List ℕ) → LINE_LIMIT < length long → step a long text b) → GoesOn step a b x
+goes_long step a b None y line text g s = tt
+goes_long step a b (Some xs) None line text g s = absurd g
+goes_long step a b (Some xs) (Some ys) line text g s = inr (g.0, text, lines ys, g.1, s g.0 g.2)
 
 -- what a session's clauses follow from
 pub ruleset session_facts = (underway_start, fell_none, took_more, fell_more, begun_now, begun_moved)

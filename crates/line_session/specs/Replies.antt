@@ -1,5 +1,5 @@
 -- For proofs alone: one turn of a session's loop.
-use Rattle.std.specs.Prelude.{ℕ, List, [], ◌∷◌, ◌≡◌, ◌≢◌, Bool, true, false, Option, Some, None, Result, Ok, Err}
+use Rattle.std.specs.Prelude.{ℕ, List, [], ◌∷◌, ◌≡◌, ◌≢◌, ◌⊎◌, Bool, true, false, Option, Some, None, Result, Ok, Err}
 use Rattle.std.specs.Io.KnownBytes.{Appends, append_known}
 use Rattle.std.specs.Str.Lines.{lines}
 use Rattle.grid_exact.specs.Texts.{Extends}
@@ -34,10 +34,16 @@ EndsRead None now = Unit {0}
 EndsRead (Some xs) None = ⊥
 EndsRead (Some xs) (Some ys) = (xs ≡ []) × (ys ≡ [])
 
+-- the state stays, or the next line took it further
+abbrev pub GoesOn : {St : Type 0} → Step St → St → St → Option (List ℕ) → Type 0
+GoesOn step before after None = Unit {0}
+GoesOn step before after (Some xs) =
+    (after ≡ before) ⊎ ((line reply : List ℕ) × (more : List (List ℕ)) × (lines xs ≡ line ∷ more) × step before line reply after)
+
 -- a line and its reply, no line, or an error; after an error the waiting replies are unchanged, before a part of the next one
 abbrev pub Replies : {St : Type 0} → Step St → St → St → Option (List ℕ) → Option (List ℕ) → Option (List ℕ) → List ℕ → List ℕ → Result Bool ReadError → Type 0
 Replies step before after unread_old unread_new left waiting_old waiting_new (Ok true) = RepliesNext step before after unread_old unread_new waiting_old waiting_new
 Replies step before after unread_old unread_new left waiting_old waiting_new (Ok false) =
     EndsRead unread_old unread_new × (waiting_new ≡ waiting_old) × (after ≡ before)
 Replies step before after unread_old unread_new left waiting_old waiting_new (Err e) =
-    Extends waiting_old waiting_new × (e ≢ errors.NoMemory → TakesPart unread_old left × (after ≡ before))
+    Extends waiting_old waiting_new × (e ≢ errors.NoMemory → TakesPart unread_old left × (after ≡ before)) × GoesOn step before after unread_old

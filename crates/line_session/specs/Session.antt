@@ -40,6 +40,21 @@ Begun step before None held_old held_new = Unit {0}
 Begun step before (Some input) held_old held_new =
     (text : List ℕ) × Appends held_old held_new text × Starts step before (lines input) text
 
+-- the first lines of an input took one state to another, in order, and a beginning of their replies was written
+pub record CarriedOut {St : Type 0} (step : Step St) (before after : St) (input : List ℕ) (held_old held_new : Option (List ℕ)) : Type 0 where
+  pub done : List (List ℕ)
+  pub more : List (List ℕ)
+  pub first : lines input ≡ done ++ more
+  pub written : List ℕ
+  pub rest : List ℕ
+  pub runs : Runs step before done (written ++ rest) after
+  pub appends : Appends held_old held_new written
+
+-- as above, where the input is known
+abbrev pub CarriesOut : {St : Type 0} → Step St → St → St → Option (List ℕ) → Option (List ℕ) → Option (List ℕ) → Type 0
+CarriesOut step before after None held_old held_new = Unit {0}
+CarriesOut step before after (Some input) held_old held_new = CarriedOut step before after input held_old held_new
+
 -- nothing is left of an input
 abbrev pub ReadToEnd : Option (List ℕ) → Option (List ℕ) → Type 0
 ReadToEnd None left = Unit {0}

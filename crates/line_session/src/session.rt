@@ -5,7 +5,7 @@ ghost use Rattle.oe_http.specs.Lines.{HasFeed};
 ghost use Rattle.oe_http.specs.Causes.{Rose, HasCause};
 ghost use Rattle.oe_http.specs.Written.{Sent};
 ghost use Rattle.oe_http.specs.Pending.{unread_bytes, most_left, Reads};
-ghost use Rattle.line_session.specs.Session.{Answered, Begun, Completes, HasCauses, IsOfLines, WritesWhole};
+ghost use Rattle.line_session.specs.Session.{Answered, Begun, CarriesOut, Completes, HasCauses, IsOfLines, WritesWhole};
 ghost use Rattle.line_session.specs.Replies.{ending_of, Replies};
 
 use crate::Answering;
@@ -49,7 +49,7 @@ fn ended_by(error: ReadError) -> Ended
 
 /// Reads a line and appends its reply to the waiting ones. Returns whether there was a line. The input is read only
 /// where no reply waits.
-#[tactic(auto, using(crate::proofs::WaitingFacts::replies_whole, crate::proofs::WaitingFacts::replies_long))]
+#[tactic(auto, using(crate::proofs::WaitingFacts::replies_whole, crate::proofs::WaitingFacts::replies_long, crate::proofs::WaitingFacts::goes_long))]
 fn next_reply<A: Answering, S: Source>(
     reader: &mut LineReader,
     desk: &mut A,
@@ -137,6 +137,9 @@ pub fn records<A: Answering, S: Source, O: Sink>(
         (O.held output.new) }
     ensures written { WritesWhole A.step desk.old desk.new result (S.left input.old)
         (S.left input.new) (O.held output.old) (O.held output.new) }
+    // However it ends, the desk was asked the first lines of the input, in order, and no other.
+    ensures carried { CarriesOut A.step desk.old desk.new (S.left input.old) (O.held output.old)
+        (O.held output.new) }
     // It ends in one of the ways of a session over lines.
     ensures lines { IsOfLines result }
     ensures causes { HasCauses result (S.left input.old) (S.left input.new) (S.faults input.old)

@@ -3,12 +3,13 @@ use Rattle.std.specs.Prelude.{ℕ, ◌≡◌, List, [], ◌∷◌, length, Optio
 use Rattle.line_session.specs.Session.{HasCauses}
 use Rattle.line_session.specs.declared.session.Ended.{Ended}
 use Rattle.http_session.specs.Machine.{Step}
-use Rattle.http_session.specs.Endings.{EndsSo}
+use Rattle.http_session.specs.Endings.{CarriesOut, EndsSo}
 use Rattle.link_gates.specs.Ports.{ahead, behind}
 
--- a session of HTTP was had on a link and ended so: the bytes that it wrote, and why it ended
+-- a session of HTTP was had on a link and ended so: the bytes that it wrote, the requests that it carried out, and why it ended
 pub record SessionOf {St : Type 0} (step : Step St) (ended : Ended) (before after : St) (left_old left_new held_old held_new : Option (List ℕ)) (read_old read_new write_old write_new : ℕ) : Type 0 where
   pub ends : EndsSo step ended before after left_old held_old held_new
+  pub carried : CarriesOut step before after left_old
   pub causes : HasCauses ended left_old left_new read_old read_new write_old write_new
 
 -- what a session does: the state before, the link before, how it ended, the state after, the link after

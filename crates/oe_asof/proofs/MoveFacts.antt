@@ -1,5 +1,5 @@
 -- How a line moves the entries and the airfields of a desk.
-use Rattle.std.proofs.Common.{◌≡◌, refl, sym, ap, ◌∙◌, subst, ℕ, List, [], ◌∷◌, ◌++◌, Option, None}
+use Rattle.std.proofs.Common.{◌≡◌, refl, sym, ap, ◌∙◌, subst, ℕ, List, [], ◌∷◌, ◌++◌, None}
 use Rattle.wire_requests.specs.Changes.{Asked}
 use Rattle.wire_requests.specs.declared.request.Request.{Request}
 use Rattle.wire_requests.specs.declared.request.Request.TheVariants as requests

@@ -1,6 +1,5 @@
 -- A session that ended before its first line was read.
 use Rattle.std.proofs.Common.{◌≡◌, ◌⊎◌, refl, inl, inr, ℕ, List, [], ◌∷◌, Option, Some, None}
-use Rattle.std.specs.Io.KnownBytes.{Appends}
 use Rattle.std.specs.Str.Lines.{lines}
 use Rattle.oe_http.proofs.SentFacts.{appends_none}
 use Rattle.line_session.specs.Machine.{Step, Starts}

@@ -1,14 +1,14 @@
 -- Replies of the desk to lines.
-use Rattle.std.proofs.Common.{◌≡◌, ◌<◌, ◌≤◌, refl, sym, ap, subst, arith, ℕ, List, ◌++◌, length, Bool, true, false, IfSome}
+use Rattle.std.proofs.Common.{◌≡◌, ◌<◌, ◌≤◌, refl, sym, ap, subst, arith, ℕ, List, [], ◌∷◌, ◌++◌, length, Bool, true, false, IfSome}
 use Rattle.airfields.specs.declared.airfield.Airfield.{Airfield}
 use Rattle.desk_machine.specs.States.{State, last_number}
 use Rattle.grid_exact.specs.declared.text.TheConstants.{LINE_LIMIT}
 use Rattle.oe_keeper.specs.Kept.{Kept}
 use Rattle.filing_desk.specs.Handed.{Told as ToldRows}
-use Rattle.line_desk.specs.Desk.{Answers, Serving}
-use Rattle.line_desk.proofs.StepFacts.{refused_long}
+use Rattle.line_desk.specs.Desk.{Answers, Serving, Step}
+use Rattle.line_desk.proofs.StepFacts.{after_wanting, blank, refused_long}
 use Rattle.oe_asof.specs.Lines.{Long, asks}
-use Rattle.oe_asof.specs.Replies.{IsToldOf, malformed_text}
+use Rattle.oe_asof.specs.Replies.{IsToldOf, malformed_text, no_memory_text}
 use Rattle.oe_asof.specs.Sessions.{DatedOver, DatedStep, Dating}
 use Rattle.oe_asof.specs.Versions.{Version, latest, version, with_version}
 use Rattle.oe_asof.specs.Histories.{Appended, HasAll, IsCurrent, IsToldBy, base_in, opening_in}
@@ -74,3 +74,33 @@ module _ {K : Type 0} (Tells : K → Kept → Type 0) (IsSteady : K → Type 0) 
         (DatedStep.Served is (record { step = a.step; told = rows }) (ap base_in c.versions_are) (ap opening_in c.versions_are)),
     a.appended,
   )
+
+  -- ---- where the text of the reply may not be there whole
+
+  -- a line that asks, whose reply changes nothing
+  pub told_anyhow : (vs : List Version) (k : Serving K) (d : Dating (Serving K)) (line : List ℕ) → dating vs k ≡ d → asks line ≡ true
+      → (reply : List ℕ) × DatedOver Tells IsSteady faults d line reply (dating vs k)
+  told_anyhow vs k d line at is =
+      (no_memory_text, subst (λ (x : Dating (Serving K)). DatedOver Tells IsSteady faults x line no_memory_text (dating vs k)) at (DatedStep.Told is (IsToldOf.Wanting refl) refl))
+
+  pub served_anyhow : (vs ws : List Version) (k l : Serving K) (d : Dating (Serving K)) (line : List ℕ) → dating vs k ≡ d → asks line ≡ false → ws ≡ vs → ToldRows Tells l.keeper l.state
+      → ((reply : List ℕ) × Step IsSteady faults k line reply l) → (reply : List ℕ) × DatedOver Tells IsSteady faults d line reply (dating ws l)
+  served_anyhow vs ws k l d line at is same rows (reply, step) = (
+    reply,
+    subst (λ (x : Dating (Serving K)). DatedOver Tells IsSteady faults x line reply (dating ws l)) at
+        (DatedStep.Served is (record { step = step; told = rows }) (ap base_in same) (ap opening_in same)),
+  )
+
+  -- no memory for any line
+  wanting_step : (s : Serving K) (line : List ℕ) → (reply : List ℕ) × Step IsSteady faults s line reply s
+  wanting_step s [] = let a = blank IsSteady faults s [] [] refl in (a.reply, a.step)
+  wanting_step s (b ∷ bs) = after_wanting IsSteady faults s (b ∷ bs) (omega arith)
+
+  wanting_by : (vs : List Version) (k : Serving K) (d : Dating (Serving K)) (line : List ℕ) (b : Bool) → dating vs k ≡ d → asks line ≡ b → ToldRows Tells k.keeper k.state
+      → (reply : List ℕ) × DatedOver Tells IsSteady faults d line reply (dating vs k)
+  wanting_by vs k d line true at is rows = told_anyhow vs k d line at is
+  wanting_by vs k d line false at is rows = served_anyhow vs vs k k d line at is refl rows (wanting_step k line)
+
+  pub wanting_anyhow : (vs : List Version) (k : Serving K) (d : Dating (Serving K)) (line : List ℕ) → dating vs k ≡ d → ToldRows Tells k.keeper k.state
+      → (reply : List ℕ) × DatedOver Tells IsSteady faults d line reply (dating vs k)
+  wanting_anyhow vs k d line at rows = wanting_by vs k d line (asks line) at refl rows

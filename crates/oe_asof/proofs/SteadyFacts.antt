@@ -2,9 +2,9 @@
 use Rattle.std.proofs.Common.{ℕ, List, ap, subst, sym}
 use Rattle.oe_keeper.specs.Kept.{Kept}
 use Rattle.desk_machine.specs.States.{State}
-use Rattle.line_desk.specs.Desk.{Plain, Serving, StepOver}
+use Rattle.line_desk.specs.Desk.{Serving}
 use Rattle.line_desk.proofs.PlainFacts.{plain, steady_on}
-use Rattle.oe_asof.specs.Sessions.{DatedOver, DatedPlain, DatedStep, Dating, Served, Told, in_serving, itself}
+use Rattle.oe_asof.specs.Sessions.{DatedOver, DatedPlain, DatedStep, Dating, Served, Told}
 
 -- the session without its keeper
 abbrev pub unkept : {K : Type 0} → Dating (Serving K) → Dating State

@@ -1,19 +1,17 @@
 -- What the versions of a desk say of an earlier entry.
-use Rattle.std.proofs.Common.{◌≡◌, ◌≢◌, refl, sym, ap, ◌∙◌, subst, arith, ℕ, suc, ◌+◌, ◌-◌, ◌≤◌, ◌<◌, ◌==◌, List, [], ◌∷◌, length, take, Bool, true, false, cond, Option, Some, None, ◌⊎◌, inl, inr}
+use Rattle.std.proofs.Common.{◌≡◌, ◌≢◌, refl, sym, ap, ◌∙◌, arith, ℕ, suc, ◌+◌, ◌-◌, ◌≤◌, ◌<◌, ◌==◌, List, [], ◌∷◌, length, take, Bool, true, false, cond, Some, None, ◌⊎◌, inl, inr}
 use Rattle.std.specs.Option.{option_map}
 use Rattle.std.specs.Ordering.{nat_cmp, is_eq}
 use Rattle.std.specs.Cmp.{unsigned_tied}
 use Rattle.std.proofs.lemmas.Bool.{cases_lt}
 use Rattle.std.proofs.lemmas.Bool.Decides.{nat_tests}
-use Rattle.airfields.specs.Sites.{Site}
 use Rattle.airfields.specs.declared.airfield.Airfield.{Airfield}
 use Rattle.oe_findings.specs.List.{findings_of}
-use Rattle.ordered_list.specs.Ordered.{found_by}
 use Rattle.desk_machine.specs.declared.entry.Entry.{Entry}
 use Rattle.desk_machine.specs.States.{State, last_number}
 use Rattle.desk_machine.specs.Fronts.{register_after, register_after_act}
 use Rattle.oe_asof.specs.Replies.{WasAccepted, IsToldOf, accepted_since, airfields_then, not_kept_text, as_of_text}
-use Rattle.oe_asof.specs.Versions.{AreEnds, Version, airfields_at, airfields_of, latest, number_of, version}
+use Rattle.oe_asof.specs.Versions.{AreEnds, Version, airfields_at, latest, number_of, version}
 use Rattle.oe_asof.specs.Histories.{IsCurrent, IsToldBy, versions_since, later_versions}
 use Rattle.oe_asof.proofs.CurrentFacts.{counted, last_is}
 

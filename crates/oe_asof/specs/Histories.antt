@@ -1,5 +1,5 @@
 -- For proofs alone: the versions in the history of a desk.
-use Rattle.std.specs.Prelude.{ℕ, ◌+◌, ◌≡◌, ◌≤◌, List, [], ◌∷◌, ◌++◌, Option, Some, None}
+use Rattle.std.specs.Prelude.{ℕ, ◌+◌, ◌≡◌, ◌≤◌, List, [], ◌∷◌, ◌++◌, Some, None}
 use Rattle.airfields.specs.Sites.{Site}
 use Rattle.airfields.specs.declared.airfield.Airfield.{Airfield}
 use Rattle.oe_findings.specs.List.{findings_of}

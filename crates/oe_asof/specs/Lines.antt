@@ -1,5 +1,5 @@
 -- Lines that ask what the list of a structure was.
-use Rattle.std.specs.Prelude.{ℕ, pos, ◌≤ℤ◌, ◌+◌, ◌≤◌, ◌<◌, ◌≡◌, ◌≢◌, List, ◌∷◌, Bool, true, length, nat_eq, Option, Some, None, codes}
+use Rattle.std.specs.Prelude.{ℕ, pos, ◌≤ℤ◌, ◌+◌, ◌≤◌, ◌<◌, ◌≡◌, List, ◌∷◌, Bool, length, nat_eq, Some, None, codes}
 use Rattle.std.specs.List.{starts_with}
 use Rattle.std.specs.Fmt.{decimal}
 use Rattle.airfields.specs.Sites.{Site}

@@ -3,7 +3,7 @@
 ghost use Rattle.std.specs.Prelude.{◌≡◌, ◌≤◌, ◌<◌, ◌++◌, true, List, ℕ, length, IfOk, IfSome, OnOk, OnErr, string_bytes};
 ghost use Rattle.grid_exact.specs.Texts.{Extends};
 ghost use Rattle.desk_machine.specs.States.{last_number};
-ghost use Rattle.line_desk.specs.Desk.{Answers, Serving, serving};
+ghost use Rattle.line_desk.specs.Desk.{Answers, Serving, Step, serving};
 ghost use Rattle.oe_asof.specs.Versions.{latest, version, with_version};
 ghost use Rattle.oe_asof.specs.Histories.{HasAll, IsCurrent, base_in, opening_in};
 ghost use Rattle.oe_asof.specs.Sessions.{DatedOver, opened_over};
@@ -65,8 +65,9 @@ fn keep_version<K: Keeper>(
     requires room { 1 ≤ history.old.spare }
     requires order { IfSome (latest history.old.versions)
         (λ v. v.number ≤ last_number clerk.now.state) }
-    ensures { OnOk result (history.new.versions ≡ with_version history.old.versions
+    ensures kept { OnOk result (history.new.versions ≡ with_version history.old.versions
         (version (last_number clerk.now.state) clerk.now.state.register)) }
+    ensures same { OnErr result (history.new.versions ≡ history.old.versions) }
 {
     let number = clerk.accepted();
     if history.last() == Some(number) {
@@ -104,6 +105,9 @@ fn serve<K: Keeper, L: Ledger>(
         (string_bytes text.old) (string_bytes text.new) (serving clerk.new)) }
     ensures all { OnOk result (IsCurrent (base_in history.old.versions)
         (opening_in history.old.versions) clerk.new.state history.new.versions) }
+    ensures made { OnErr result ((reply : List ℕ) × Step K.IsSteady K.faults (serving clerk.old)
+        line.now reply (serving clerk.new)) }
+    ensures same { OnErr result (history.new.versions ≡ history.old.versions) }
     ensures part { OnErr result (Extends (string_bytes text.old) (string_bytes text.new)) }
 {
     if line.is_empty() {
@@ -148,6 +152,8 @@ impl<K: Keeper, L: Ledger> Answering for DatedDesk<K, L> {
 
     fn answer(&mut self, line: &[u8], text: &mut String) -> Result<(), NoMemory> {
         if !self.whole {
+            // what the keeper tells are the rows of the clerk
+            self.clerk.keeper();
             return Err(NoMemory);
         }
         if asks_as_of(line) {
@@ -161,7 +167,7 @@ impl<K: Keeper, L: Ledger> Answering for DatedDesk<K, L> {
             );
         }
         self.whole = false;
-        serve(
+        let served = serve(
             self.alloc,
             &mut self.clerk,
             &mut self.history,
@@ -170,9 +176,10 @@ impl<K: Keeper, L: Ledger> Answering for DatedDesk<K, L> {
             &mut self.steps,
             line,
             text,
-        )?;
+        );
         // what the keeper tells are the rows of the clerk
         self.clerk.keeper();
+        served?;
         self.whole = true;
         Ok(())
     }

@@ -1,6 +1,6 @@
 -- Replies to questions about ceilings, by what was appended.
-use Rattle.std.proofs.Common.{◌≡◌, ◌≢◌, ◌<◌, ◌≤◌, ℕ, ℤ, pos, ◌≤ℤ◌, List, [], ◌∷◌, ◌++◌, length, arith, refl, ap, subst, Option, Some, None, Result, Ok, Err, ◌∙◌, ◌==◌, Bool, false}
-use Rattle.std.specs.Result.{OnOk}
+use Rattle.std.proofs.Common.{◌≡◌, ◌≢◌, ◌<◌, ℕ, ℤ, List, [], ◌∷◌, ◌++◌, length, arith, refl, ap, subst, Option, Result, Ok, Err, ◌∙◌, ◌==◌, Bool, false}
+use Rattle.std.specs.Result.{OnErr, OnOk}
 use Rattle.airfields.specs.Sites.{Site}
 use Rattle.finding_lists.specs.declared.finding.Finding.{Finding}
 use Rattle.grid_exact.specs.declared.text.TheConstants.{LINE_LIMIT}
@@ -11,13 +11,21 @@ use Rattle.wire_requests.specs.declared.request.ReadRefusal.{ReadRefusal}
 use Rattle.wire_requests.specs.declared.request.ReadRefusal.TheVariants as reading
 use Rattle.wire_requests.specs.declared.request.Request.{Request}
 use Rattle.site_questions.specs.Charts.{Chart, malformed, no_memory, refusal_text}
-use Rattle.site_questions.specs.Ceilings.{CeilingTold, Told, HeightGiven, OtherForm, Refused, Wanting, CeilingStep, CeilingAnswers, IsCeilingReply, Found, NoRoom, IsRecordReply, Screened, TooHigh, Other, ceiling_text}
+use Rattle.site_questions.specs.Ceilings.{CeilingTold, Blank, Told, HeightGiven, OtherForm, Refused, Wanting, CeilingStep, CeilingAnswers, IsCeilingReply, Found, NoRoom, IsRecordReply, Screened, TooHigh, Other, ceiling_text}
 use Rattle.site_questions.specs.declared.ceiling_desk.TheConstants.{HEIGHT_FIELD}
 use Rattle.site_questions.specs.declared.screens.TheConstants.{FORM_FIELD}
 
 pub on_ok : {A E P Q : Type 0} (r : Result A E) → (P → Q) → OnOk r P → OnOk r Q
 on_ok (Ok x) f p = f p
 on_ok (Err e) f p = tt
+
+pub on_err : {A E P : Type 0} (r : Result A E) → P → OnErr r P
+on_err (Ok x) p = tt
+on_err (Err e) p = p
+
+pub err_shown : {A E P Q : Type 0} (r : Result A E) → (P → Q) → OnErr r P → OnErr r Q
+err_shown (Ok x) f p = tt
+err_shown (Err e) f p = f p
 
 pub some_bytes : (b : Bool) (line : List ℕ) → b ≡ (length line == 0) → b ≡ false → line ≢ []
 some_bytes b [] e f = absurd (cc (e, f))
@@ -53,3 +61,8 @@ unread chart reading.NoMemory line old new some is t = record { reply = no_memor
 -- a line that is too long is refused
 pub refused_long : (chart : Chart) (line : List ℕ) → LINE_LIMIT < length line → CeilingStep chart line (refusal_text (reading.Malformed 0)) chart
 refused_long chart line long = record { told = Refused (not_blank line long) 0 (Long long refl) refl; same = refl }
+
+-- no line changes anything, whatever is appended of its reply
+pub unchanged : (chart : Chart) (line : List ℕ) → (reply : List ℕ) × CeilingTold chart line reply
+unchanged chart [] = ([], Blank refl refl)
+unchanged chart (b ∷ bs) = (no_memory, Wanting (λ e. cc e) refl)

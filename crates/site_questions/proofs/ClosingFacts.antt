@@ -1,5 +1,5 @@
 -- A session of ways, and the way that its lines have left.
-use Rattle.std.proofs.Common.{◌≡◌, ◌≢◌, ◌⊎◌, inl, inr, subst, ap, ℕ, List, [], ◌∷◌, ◌++◌, Option, Some, None, Result, Ok, Err, Bool, false, refl, sym, ◌∙◌, append_assoc, append-nil}
+use Rattle.std.proofs.Common.{◌≡◌, ◌≢◌, ◌⊎◌, inl, inr, subst, ap, ℕ, List, [], ◌∷◌, ◌++◌, Option, Some, None, Result, Ok, Err, false, refl, sym, ◌∙◌, append-nil}
 use Rattle.std.specs.Io.KnownBytes.{Appends}
 use Rattle.std.specs.Result.{OnOk, is_err}
 use Rattle.std.specs.Str.Lines.{lines}
@@ -11,7 +11,7 @@ use Rattle.line_session.specs.declared.session.Ended.TheVariants as endings
 use Rattle.oe_http.specs.Written.{Sent}
 use Rattle.airfields.specs.Sites.{Site}
 use Rattle.site_questions.specs.Ways.{Survey, WayStep, way_end}
-use Rattle.site_questions.specs.WaySessions.{closing, WaysAnswered, WaysBegun, IsWhole, IsClosing, Closes}
+use Rattle.site_questions.specs.WaySessions.{closing, WaysAnswered, WaysBegun, Closes}
 
 -- all lines were replied to, and the way that they left was told
 pub answered_whole : (before end after : Survey) (input x y z : Option (List ℕ)) (last : List ℕ) → Answered WayStep before end input x y

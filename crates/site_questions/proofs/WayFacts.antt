@@ -1,5 +1,5 @@
 -- Replies to the lines of ways, by what was appended.
-use Rattle.std.proofs.Common.{◌≡◌, ◌≢◌, ◌<◌, ◌↔◌, ℕ, List, [], ◌∷◌, ◌++◌, length, arith, refl, ap, sym, subst, ◌∙◌, append-nil, Bool, true, false, IsTrue}
+use Rattle.std.proofs.Common.{◌≡◌, ◌≢◌, ◌<◌, ◌↔◌, ℕ, List, [], ◌++◌, length, arith, refl, ap, sym, subst, ◌∙◌, append-nil, Bool, true, false, IsTrue}
 use Rattle.std.specs.Str.{bytes_eq}
 use Rattle.airfields.specs.Sites.{Site}
 use Rattle.airfields.specs.declared.airfield.Airfield.{Airfield}
@@ -75,3 +75,17 @@ pub another_line : (b : Bool) (line : List ℕ) → b ≡ bytes_eq line way_end 
 another_line b line e f = λ same.
     let met : false ≡ true = sym f ∙ e ∙ ap (λ (l : List ℕ). bytes_eq l way_end) same in
     absurd (cc met)
+
+-- ---- where the text of the reply may not be there whole
+
+-- a way with stations was ended
+pub ended_anyhow : (airfields : List Airfield) (last : ℕ) (way after : List Site) → way ≢ [] → after ≡ []
+    → (reply : List ℕ) × WayStep (survey airfields last way) way_end reply (survey airfields last after)
+ended_anyhow airfields last way after some e = (no_memory, ways.Untold refl some refl (ap (λ (w : List Site). survey airfields last w) e))
+
+pub joined_anyhow : (airfields : List Airfield) (last : ℕ) (way after : List Site) (r : Request) (line : List ℕ) → IsRecord line r → ((reply : List ℕ) × IsJoinReply way r [] reply after)
+    → (reply : List ℕ) × WayStep (survey airfields last way) line reply (survey airfields last after)
+joined_anyhow airfields last way after r line is (text, join) = let a = joined airfields last way after r line [] text is join in (a.reply, a.step)
+
+pub unread_anyhow : (s : Survey) (why : ReadRefusal) (line : List ℕ) → line ≢ [] → line ≢ way_end → IsRefusal line why → (reply : List ℕ) × WayStep s line reply s
+unread_anyhow s why line some other is = let a = unread s why line [] (refusal_text why) some other is refl in (a.reply, a.step)

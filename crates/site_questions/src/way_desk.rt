@@ -122,6 +122,8 @@ fn append_end<L: Ledger>(
 ) -> Result<(), NoMemory>
     ensures ok { OnOk result (WayAnswers (survey sky.now last way.old) WAY_END.now
         (string_bytes text.old) (string_bytes text.new) (survey sky.now last way.new)) }
+    ensures made { OnErr result ((reply : List ℕ) × WayStep (survey sky.now last way.old) WAY_END.now
+        reply (survey sky.now last way.new)) }
     ensures part { OnErr result (Extends (string_bytes text.old) (string_bytes text.new)) }
 {
     if way.is_empty() {
@@ -150,6 +152,8 @@ fn append_joining(text: &mut String, refusal: WayRefusal) -> Result<(), NoMemory
 fn append_station(way: &mut Way, filing: &Filing, text: &mut String) -> Result<(), NoMemory>
     ensures ok { OnOk result (IsStationReply way.old filing.now
         (string_bytes text.old) (string_bytes text.new) way.new) }
+    ensures made { OnErr result ((reply : List ℕ)
+        × IsStationReply way.old filing.now [] reply way.new) }
     ensures part { OnErr result (Extends (string_bytes text.old) (string_bytes text.new)) }
 {
     match way.push(filing) {
@@ -162,6 +166,8 @@ fn append_station(way: &mut Way, filing: &Filing, text: &mut String) -> Result<(
 fn append_told(way: &mut Way, request: &Request, text: &mut String) -> Result<(), NoMemory>
     ensures ok { OnOk result (IsJoinReply way.old request.now
         (string_bytes text.old) (string_bytes text.new) way.new) }
+    ensures made { OnErr result ((reply : List ℕ)
+        × IsJoinReply way.old request.now [] reply way.new) }
     ensures part { OnErr result (Extends (string_bytes text.old) (string_bytes text.new)) }
 {
     let Some(filing) = screen_of(request) else {
@@ -184,6 +190,8 @@ fn append_answer<L: Ledger>(
 ) -> Result<(), NoMemory>
     ensures ok { OnOk result (WayAnswers (survey sky.now last way.old) line.now
         (string_bytes text.old) (string_bytes text.new) (survey sky.now last way.new)) }
+    ensures made { OnErr result ((reply : List ℕ) × WayStep (survey sky.now last way.old) line.now
+        reply (survey sky.now last way.new)) }
     ensures part { OnErr result (Extends (string_bytes text.old) (string_bytes text.new)) }
 {
     if line.is_empty() {

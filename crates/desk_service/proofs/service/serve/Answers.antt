@@ -1,4 +1,3 @@
-use Rattle.std.proofs.Common.{◌≡◌}
 use Rattle.desk_service.proofs.LineFacts.{told, not_begun}
 use Rattle.desk_service.proofs.service.serve.Goals as goal
 

@@ -1,4 +1,4 @@
-use Rattle.std.proofs.Common.{◌≡◌, ◌∙◌, ap, map, Some}
+use Rattle.std.proofs.Common.{◌∙◌, ap, map}
 use Rattle.link_gates.specs.Teams.{together, served_in, served_of}
 use denote.Param.{param}
 use denote.Param.Send.{sendable, IsSend, IsSync}

@@ -1,4 +1,4 @@
-use Rattle.std.proofs.Common.{rules, ◌≡◌, ◌≢◌, ap₂, None, All, map}
+use Rattle.std.proofs.Common.{rules, ◌≢◌, ap₂, None}
 use Rattle.link_gates.specs.Teams.{served_in}
 use Rattle.desk_service.proofs.ShiftFacts.{one_made, one_seat, steady_made}
 use Rattle.desk_service.proofs.shift.shifts.Goals as goal

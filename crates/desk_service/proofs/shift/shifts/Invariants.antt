@@ -1,4 +1,4 @@
-use Rattle.std.proofs.Common.{◌≡◌, ◌≢◌, ◌≤◌, ◌+◌, ◌++◌, None, All, map, length, vec_len, vec_capacity}
+use Rattle.std.proofs.Common.{◌≡◌, ◌≢◌, ◌+◌, ◌++◌, None, All, map, length, vec_len, vec_capacity}
 use Rattle.link_gates.specs.Teams.{served_in}
 use Rattle.desk_service.proofs.shift.shifts.Given as goal
 

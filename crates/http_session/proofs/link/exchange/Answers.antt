@@ -1,4 +1,5 @@
-use Rattle.std.proofs.Common.{refl}
+use Rattle.std.proofs.Common.{inr, refl}
+use Rattle.http_session.proofs.CarryFacts.{takes}
 use Rattle.http_session.proofs.SessionFacts.{goes_on, stops_close, stops_write, stops_memory}
 use Rattle.http_session.proofs.link.exchange.Goals as goal
 
@@ -21,3 +22,14 @@ pub returns-in-Err-NoMemory-clause-ends : goal.returns-in-Err-NoMemory-clause-en
 returns-in-Err-NoMemory-clause-ends g c = λ x y o.
     let memory = (rw c.in-Err-NoMemory.field-0-is at c.in-Err-NoMemory.ensures.memory) refl in
     stops_memory g.A.Replying.step _ c.args.desk.now c.answer_one.new.desk x _ _ _ _ _ memory c.end_without_memory.ensures.ends
+
+pub returns-then-close-clause-further : goal.returns-then-close-clause-further
+returns-then-close-clause-further g c = λ x y o.
+    let ok = c.in-Ok.ensures.ok in
+    takes g.A.Replying.step _ _ x y _ _ o (inr (ok.0, ok.1))
+
+pub returns-in-Err-WriteFault-clause-further : goal.returns-in-Err-WriteFault-clause-further
+returns-in-Err-WriteFault-clause-further g c = λ x y o. takes g.A.Replying.step _ _ x y _ _ o c.in-Err-WriteFault.ensures.made
+
+pub returns-in-Err-NoMemory-clause-further : goal.returns-in-Err-NoMemory-clause-further
+returns-in-Err-NoMemory-clause-further g c = λ x y o. takes g.A.Replying.step _ _ x y _ _ o c.in-Err-NoMemory.ensures.made

@@ -1,4 +1,5 @@
 use Rattle.std.proofs.Common.{arith, refl}
+use Rattle.http_session.proofs.CarryFacts.{runs_goes, runs_out, stays}
 use Rattle.http_session.proofs.UnderwayFacts.{underway_goes, underway_sent, underway_stops}
 use Rattle.line_session.proofs.EndingFacts.{completes, rose_since}
 use Rattle.line_session.proofs.SessionFacts.{fell_more}
@@ -9,6 +10,7 @@ messages-preserved g c =
     let u = underway_sent g.A.Replying.step _ _ _ _ _ _ _ _ _ c.messages.invariant.underway c.in-Ok.ensures.sent in
     record {
       underway = rw c.respond.ensures.left (underway_goes g.A.Replying.step _ _ _ _ _ _ _ _ _ _ _ u (c.in-None.ensures.goes refl _ _ c.in-Ok.ensures.gives));
+      carried = rw c.respond.ensures.left (runs_goes g.A.Replying.step _ _ _ _ _ _ _ _ _ _ c.messages.invariant.carried (c.in-None.ensures.goes refl _ _ c.in-Ok.ensures.gives));
       took = rw c.respond.ensures.left (fell_more _ _ _ _ _ c.messages.invariant.took c.receive.ensures.more c.receive.ensures.took);
       read_later = omega (arith, c.respond.ensures.read_faults, c.receive.ensures.later, c.messages.invariant.read_later);
       write_later = grind (arith, c.respond.ensures.later, c.receive.ensures.cause, c.messages.invariant.write_later);
@@ -21,6 +23,12 @@ returns-in-Some-clause-ends g c =
 
 pub returns-in-Err-clause-ends : goal.returns-in-Err-clause-ends
 returns-in-Err-clause-ends g c = c.messages.invariant.underway.cut c.args.desk.now _ c.in-Err.ensures.err
+
+pub returns-in-Some-clause-carried : goal.returns-in-Some-clause-carried
+returns-in-Some-clause-carried g c = runs_out g.A.Replying.step _ _ _ _ _ c.messages.invariant.carried (c.in-Some.ensures.further _ _ c.in-Ok.ensures.gives)
+
+pub returns-in-Err-clause-carried : goal.returns-in-Err-clause-carried
+returns-in-Err-clause-carried g c = runs_out g.A.Replying.step _ _ _ _ _ c.messages.invariant.carried (stays g.A.Replying.step _ _)
 
 pub returns-in-Some-clause-complete : goal.returns-in-Some-clause-complete
 returns-in-Some-clause-complete g c =

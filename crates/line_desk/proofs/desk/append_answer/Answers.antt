@@ -1,7 +1,8 @@
 use Rattle.std.proofs.Common.{◌<◌, length}
 use Rattle.airfield_findings.proofs.EntryFacts.{where_ok}
 use Rattle.wire_requests.specs.declared.request.Request.TheVariants as requests
-use Rattle.line_desk.proofs.StepFacts.{some_bytes, told, refused}
+use Rattle.line_desk.proofs.QueryFacts.{err_shown, on_err}
+use Rattle.line_desk.proofs.StepFacts.{after_refused, after_told, after_wanting, some_bytes, told, refused}
 use Rattle.line_desk.proofs.desk.append_answer.Goals as goal
 
 pub returns-in-Some-clause-ok : goal.returns-in-Some-clause-ok
@@ -19,3 +20,24 @@ returns-in-Err-Malformed-clause-ok g c =
     let some : 0 < length c.args.line.now = some_bytes c.is_empty.result c.args.line.now c.is_empty.ensures (cc (c.if-is_empty.false)) in
     let is = rw c.in-Err-Malformed.field-0-is at c.in-Err-Malformed.ensures.malformed in
     where_ok c.append_reply.result (λ appended. refused g.K.Keeper.IsSteady g.K.Keeper.faults _ _ _ _ _ some is (rw c.in-Err-Malformed.field-0-is at appended)) c.append_reply.ensures.ok
+
+pub returns-in-Some-clause-made : goal.returns-in-Some-clause-made
+returns-in-Some-clause-made g c =
+    let some : 0 < length c.args.line.now = some_bytes c.is_empty.result c.args.line.now c.is_empty.ensures (cc (c.if-is_empty.false)) in
+    err_shown c.ask.result (after_told g.K.Keeper.IsSteady g.K.Keeper.faults _ _ (requests.Query c.in-Some.query) _ some c.in-Some.ensures) c.ask.ensures.made
+
+pub returns-in-Ok-clause-made : goal.returns-in-Ok-clause-made
+returns-in-Ok-clause-made g c =
+    let some : 0 < length c.args.line.now = some_bytes c.is_empty.result c.args.line.now c.is_empty.ensures (cc (c.if-is_empty.false)) in
+    err_shown c.fulfil.result (after_told g.K.Keeper.IsSteady g.K.Keeper.faults _ _ c.in-Ok.request _ some c.in-Ok.ensures.found) c.fulfil.ensures.made
+
+pub returns-in-Err-Malformed-clause-made : goal.returns-in-Err-Malformed-clause-made
+returns-in-Err-Malformed-clause-made g c =
+    let some : 0 < length c.args.line.now = some_bytes c.is_empty.result c.args.line.now c.is_empty.ensures (cc (c.if-is_empty.false)) in
+    let is = rw c.in-Err-Malformed.field-0-is at c.in-Err-Malformed.ensures.malformed in
+    on_err c.append_reply.result (after_refused g.K.Keeper.IsSteady g.K.Keeper.faults _ _ _ some is)
+
+pub returns-in-Err-NoMemory-clause-made : goal.returns-in-Err-NoMemory-clause-made
+returns-in-Err-NoMemory-clause-made g c =
+    let some : 0 < length c.args.line.now = some_bytes c.is_empty.result c.args.line.now c.is_empty.ensures (cc (c.if-is_empty.false)) in
+    on_err c.append_reply-in-Err-NoMemory.result (after_wanting g.K.Keeper.IsSteady g.K.Keeper.faults _ _ some)

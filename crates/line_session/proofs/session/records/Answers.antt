@@ -1,7 +1,7 @@
-use Rattle.std.proofs.Common.{arith, rules, ◌≡◌, ◌∙◌, sym}
+use Rattle.std.proofs.Common.{arith, rules, ◌≡◌, ◌∙◌, refl, sym}
 use Rattle.grid_exact.proofs.Extending.{Extends-same}
 use Rattle.line_session.proofs.SessionFacts.{underway_on, underway_end, fell_more}
-use Rattle.line_session.proofs.WaitingFacts.{underway_moved, grown_moved, begun_moved, underway_sent, sent_whole}
+use Rattle.line_session.proofs.WaitingFacts.{underway_moved, grown_moved, begun_moved, carried_moved, goes_on, underway_sent, sent_whole}
 use Rattle.line_session.proofs.EndingFacts.{completes, failed_read, no_write, not_read, rose_since, written_err, written_end}
 use Rattle.oe_http.specs.declared.lines.ReadError.TheVariants as errors
 use Rattle.line_session.proofs.session.records.Goals as goal
@@ -9,6 +9,10 @@ use Rattle.line_session.proofs.session.records.Goals as goal
 pub returns-in-Err-clause-begun : goal.returns-in-Err-clause-begun
 returns-in-Err-clause-begun g c =
     begun_moved g.A.Answering.step _ _ _ _ _ _ _ _ _ c.lines.invariant.underway c.lines.invariant.grown c.in-Err.ensures.err.1
+
+pub returns-in-Err-clause-carried : goal.returns-in-Err-clause-carried
+returns-in-Err-clause-carried g c =
+    carried_moved g.A.Answering.step _ _ _ _ _ _ _ _ _ _ c.lines.invariant.underway c.lines.invariant.grown c.in-Err.ensures.err.1 (goes_on g.A.Answering.step _ _ _ refl)
 
 pub lines-preserved : goal.lines-preserved
 lines-preserved g c =
@@ -41,6 +45,20 @@ returns-in-Ok-false-clause-begun g c =
     let replies = rw c.in-Ok-false.field-0-test at c.in-Ok-false.ensures.replies in
     begun_moved g.A.Answering.step _ _ _ _ _ _ _ _ _ u (grown_moved _ _ _ _ _ c.lines.invariant.grown c.in-Ok.ensures.ok)
     (sent_whole _ _ _ _ _ _ _ (Extends-same _ _ replies.1) c.as_bytes.ensures.value (search rules) c.end.ensures.sent.1)
+
+pub returns-in-Ok-false-clause-carried : goal.returns-in-Ok-false-clause-carried
+returns-in-Ok-false-clause-carried g c =
+    let u = underway_moved g.A.Answering.step _ _ _ _ _ _ _ _ _ c.lines.invariant.underway c.in-Ok.ensures.ok in
+    let replies = rw c.in-Ok-false.field-0-test at c.in-Ok-false.ensures.replies in
+    carried_moved g.A.Answering.step _ _ _ _ _ _ _ _ _ _ u (grown_moved _ _ _ _ _ c.lines.invariant.grown c.in-Ok.ensures.ok)
+    (sent_whole _ _ _ _ _ _ _ (Extends-same _ _ replies.1) c.as_bytes.ensures.value (search rules) c.end.ensures.sent.1) (goes_on g.A.Answering.step _ _ _ replies.2)
+
+pub returns-in-Err-next_reply-clause-carried : goal.returns-in-Err-next_reply-clause-carried
+returns-in-Err-next_reply-clause-carried g c =
+    let u = underway_moved g.A.Answering.step _ _ _ _ _ _ _ _ _ c.lines.invariant.underway c.in-Ok.ensures.ok in
+    carried_moved g.A.Answering.step _ _ _ _ _ _ _ _ _ _ u (grown_moved _ _ _ _ _ c.lines.invariant.grown c.in-Ok.ensures.ok)
+    (sent_whole _ _ _ _ _ _ _ c.in-Err-next_reply.ensures.replies.0 c.as_bytes-in-Err-next_reply.ensures.value (search rules) c.end-in-Err-next_reply.ensures.sent.1)
+    c.in-Err-next_reply.ensures.replies.2
 
 pub returns-in-Err-next_reply-clause-begun : goal.returns-in-Err-next_reply-clause-begun
 returns-in-Err-next_reply-clause-begun g c =

@@ -1,7 +1,7 @@
 use Rattle.std.proofs.Common.{◌∙◌, List, Some, ap, sym}
 use Rattle.airfield_findings.proofs.EntryFacts.{where_ok}
 use Rattle.finding_lists.specs.declared.finding.Finding.{Finding}
-use Rattle.oe_asof.specs.Histories.{IsListed, NotKept}
+use Rattle.oe_asof.specs.Histories.{IsListed}
 use Rattle.oe_asof.proofs.ListFacts.{listed}
 use Rattle.oe_asof.proofs.listing.append_list_of.Goals as goal
 

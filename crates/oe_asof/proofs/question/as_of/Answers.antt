@@ -1,4 +1,4 @@
-use Rattle.std.proofs.Common.{◌+◌, refl, arith}
+use Rattle.std.proofs.Common.{◌+◌, arith}
 use Rattle.oe_asof.specs.Lines.{NoSite}
 use Rattle.oe_asof.proofs.LineFacts.{numbered}
 use Rattle.oe_asof.proofs.question.as_of.Goals as goal

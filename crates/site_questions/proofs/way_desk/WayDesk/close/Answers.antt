@@ -1,4 +1,4 @@
-use Rattle.std.proofs.Common.{◌≡◌, ◌≢◌, ◌++◌, [], List, ℕ, ap, ◌∙◌, sym}
+use Rattle.std.proofs.Common.{◌≢◌, ◌++◌, [], List, ℕ, ap, ◌∙◌, sym}
 use Rattle.site_questions.specs.Ways.{Survey}
 use Rattle.site_questions.proofs.WayFacts.{has_stations}
 use Rattle.site_questions.proofs.ClosingFacts.{closes_none, closes_whole, closes_cut, from_ok}
