@@ -9,7 +9,7 @@ use crate::fulfil::{ask, fulfil};
 use crate::place::Place;
 use desk_machine::Entry;
 use grid_exact::{LINE_LIMIT, NoMemory, Steps};
-use line_session::Answering;
+use oe_http::Answering;
 use oe_findings::{Findings, Sky};
 use oe_wire::{ReadRefusal, RecordReader, Refusal, Reply, append_reply, question};
 use publishing_clerk::{Front, Opening};

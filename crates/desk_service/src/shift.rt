@@ -15,7 +15,7 @@ use desk_machine::Entry;
 use grid_exact::NoMemory;
 use http_routes::Routes;
 use http_session::Routed;
-use line_session::Answering;
+use oe_http::Answering;
 use link_gates::{Port, Shift, TURN_LIMIT, Worked, worker};
 use oe_findings::Sky;
 use oe_keeper::Keeper;

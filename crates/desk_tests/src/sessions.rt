@@ -1,8 +1,7 @@
 //! What sessions are told.
 
 use grid_exact::Bytes;
-use line_session::{Answering, Ended, records};
-use oe_http::{FakeSink, FakeSource};
+use oe_http::{Answering, Ended, FakeSink, FakeSource, records};
 use std::alloc::Global;
 use std::process::Abort;
 use std::test::Fail;

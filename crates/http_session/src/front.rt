@@ -8,7 +8,7 @@ use crate::{Replying, Response};
 use grid_exact::{LINE_LIMIT, NoMemory};
 use http::Method;
 use http_routes::{Routed as Found, Routes};
-use line_session::Answering;
+use oe_http::Answering;
 use std::alloc::Global;
 use wire_replies::{Refusal, Reply, append_reply};
 

@@ -3,8 +3,7 @@
 use grid_exact::{Bytes, NoMemory};
 use http_routes::Routes;
 use http_session::Routed;
-use line_session::Answering;
-use oe_http::{FakeLink, FakeSink, FakeSource};
+use oe_http::{Answering, FakeLink, FakeSink, FakeSource};
 use std::alloc::Global;
 use std::test::Fail;
 

@@ -3,11 +3,10 @@
 ghost use Rattle.std.specs.Prelude.{◌≡◌, ◌<◌, ◌≤◌, ◌+◌, ◌-◌, ◌^◌, ◌++◌, [], Some, codes, length, min};
 ghost use Rattle.grid_exact.specs.Texts.{Extends};
 ghost use Rattle.oe_http.specs.Fakes.{bytes_held, bytes_left};
-ghost use Rattle.line_session.specs.Session.{Answered, Begun};
+ghost use Rattle.oe_http.specs.Session.{Answered, Begun};
 
 use grid_exact::{Bytes, LINE_LIMIT, NoMemory};
-use line_session::{Answering, Ended, records};
-use oe_http::{FakeSink, FakeSource};
+use oe_http::{Answering, Ended, FakeSink, FakeSource, records};
 use std::alloc::Global;
 use std::marker::Model;
 use std::test::Fail;

@@ -1,7 +1,7 @@
 //! A worker over links in memory.
 
 use crate::echo::{REQUEST, RESPONSE, desk, link};
-use line_session::Ended;
+use oe_http::Ended;
 use link_gates::{FakeGate, Gate, Worked, worker};
 use std::test::Fail;
 

@@ -8,7 +8,7 @@ ghost use Rattle.line_desk.specs.Desk.{Answers, Serving, Step, serving};
 use crate::fulfil::{ask, fulfil};
 use filing_desk::Clerk;
 use grid_exact::{LINE_LIMIT, NoMemory, Steps};
-use line_session::Answering;
+use oe_http::Answering;
 use oe_findings::Findings;
 use oe_keeper::{Keeper, NoKeeper};
 use oe_wire::{ReadRefusal, RecordReader, Refusal, Reply, append_reply, question};

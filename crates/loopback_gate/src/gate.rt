@@ -2,15 +2,14 @@
 
 ghost use Rattle.std.specs.Prelude.{◌≡◌, true, List, [], ◌∷◌, Option, None, IfOk, IfSome, IfNone, IsSome, OnOk, OnErr};
 ghost use Rattle.oe_http.specs.Causes.{HasCause};
-ghost use Rattle.line_session.specs.declared.session.Ended.{Ended};
+ghost use Rattle.oe_http.specs.declared.session.Ended.{Ended};
 ghost use Rattle.link_gates.specs.Ports.{ahead};
 ghost use Rattle.loopback_gate.specs.declared.link.TcpLink.{TcpLink};
 
 use crate::TcpLink;
 use crate::address::loopback_address;
-use line_session::Ended;
+use oe_http::{Ended, Failed};
 use link_gates::{Gate, GateErr, Port};
-use oe_http::Failed;
 use std::alloc::Global;
 use std::net::{Net, SocketAddr, TcpListener, TcpStream};
 use std::time::{Clock, Duration};

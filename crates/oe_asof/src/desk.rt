@@ -16,7 +16,7 @@ use csv::ByteRecord;
 use filing_desk::Clerk;
 use grid_exact::{LINE_LIMIT, NoMemory, Steps};
 use line_desk::append_answer;
-use line_session::Answering;
+use oe_http::Answering;
 use oe_findings::Findings;
 use oe_keeper::Keeper;
 use std::alloc::Global;

@@ -2,7 +2,7 @@
 
 ghost use Rattle.std.specs.Prelude.{◌≡◌, ◌<◌};
 ghost use Rattle.line_desk.specs.Desk.{serving};
-ghost use Rattle.line_session.specs.Session.{HasCauses, IsOfLines};
+ghost use Rattle.oe_http.specs.Session.{HasCauses, IsOfLines};
 ghost use Rattle.desk_machine.specs.States.{last_number};
 ghost use Rattle.oe_asof.specs.Histories.{IsCurrent};
 ghost use Rattle.oe_asof.specs.Sessions.{DatedSession};
@@ -10,8 +10,7 @@ ghost use Rattle.oe_asof.specs.Sessions.{DatedSession};
 use crate::desk::{DatedDesk, history_from};
 use crate::history::History;
 use filing_desk::Clerk;
-use line_session::{Ended, records};
-use oe_http::{Sink, Source};
+use oe_http::{Ended, Sink, Source, records};
 use oe_keeper::Keeper;
 use std::alloc::Global;
 use std::marker::Brand;

@@ -3,7 +3,7 @@
 ghost use Rattle.std.specs.Prelude.{◌≡◌, ◌<◌, ◌≤◌, ◌++◌, List, ℕ, Option, length, OnOk, OnErr, codes, string_bytes};
 ghost use Rattle.grid_exact.specs.Texts.{Extends};
 ghost use Rattle.oe_ceiling.specs.Ceilings.{IsCeilingOf};
-ghost use Rattle.line_session.specs.Session.{Answered, Begun, HasCauses, IsOfLines, WritesWhole};
+ghost use Rattle.oe_http.specs.Session.{Answered, Begun, HasCauses, IsOfLines, WritesWhole};
 ghost use Rattle.site_questions.specs.Ceilings.{CeilingAnswers, CeilingStep, IsCeilingReply, IsRecordReply, ceiling_text, height_text};
 ghost use Rattle.site_questions.specs.Charts.{Chart, chart};
 
@@ -11,10 +11,9 @@ use crate::screens::{FORM_FIELD, append_refused, screen_of};
 use airfields::Filing;
 use finding_lists::Finding;
 use grid_exact::{LINE_LIMIT, NoMemory, Steps};
-use line_session::{Answering, Ended, records};
+use oe_http::{Answering, Ended, Sink, Source, records};
 use oe_ceiling::{ceiling, findings_above};
 use oe_findings::Sky;
-use oe_http::{Sink, Source};
 use std::alloc::Global;
 use std::marker::{Brand, Model};
 use std::sync::ledger::{Blank, Ledger};

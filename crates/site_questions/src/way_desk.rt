@@ -3,7 +3,7 @@
 ghost use Rattle.std.specs.Prelude.{◌≡◌, ◌≢◌, ◌<◌, ◌≤◌, ◌++◌, [], List, ℕ, length, OnOk, OnErr, codes, string_bytes};
 ghost use Rattle.std.specs.List.{flat_map};
 ghost use Rattle.grid_exact.specs.Texts.{Extends};
-ghost use Rattle.line_session.specs.Session.{HasCauses, IsOfLines, WritesWhole};
+ghost use Rattle.oe_http.specs.Session.{HasCauses, IsOfLines, WritesWhole};
 ghost use Rattle.oe_http.specs.Causes.{Rose};
 ghost use Rattle.site_questions.specs.Charts.{chart};
 ghost use Rattle.site_questions.specs.Ways.{Survey, WayAnswers, WayStep, IsJoinReply, IsStationReply, IsWayReply, counts_text, joining_text, station_text, survey, way_text};
@@ -12,9 +12,8 @@ ghost use Rattle.site_questions.specs.WaySessions.{WaysAnswered, WaysBegun, Clos
 use crate::screens::{FORM_FIELD, append_refused, screen_of};
 use airfields::Filing;
 use grid_exact::{LINE_LIMIT, NoMemory, Steps};
-use line_session::{Answering, Ended, records};
+use oe_http::{Answering, Ended, Sink, Source, records, write_whole};
 use oe_findings::Sky;
-use oe_http::{Sink, Source, write_whole};
 use oe_stations::{Way, WayFinding, WayRefusal, way_findings};
 use std::alloc::Global;
 use std::marker::{Brand, Model};

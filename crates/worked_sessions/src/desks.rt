@@ -25,7 +25,7 @@ fn answer_lines<K: Keeper + Drop, L: Ledger, O: Sink>(
     requires some { 0 < L.parts }
 {
     let mut desk = LineDesk::<K, L>::over(alloc, clerk, blank);
-    let ended = line_session::records(alloc, &mut desk, &mut ReadSource::new(lines), output);
+    let ended = oe_http::records(alloc, &mut desk, &mut ReadSource::new(lines), output);
     closed(ended)?;
     Ok(desk.into_clerk())
 }

@@ -1,5 +1,5 @@
 use Rattle.std.proofs.Common.{subst}
-use Rattle.line_session.specs.Session.{Answered, WritesWhole}
+use Rattle.oe_http.specs.Session.{Answered, WritesWhole}
 use Rattle.site_questions.specs.Charts.{Chart}
 use Rattle.site_questions.specs.Ceilings.{CeilingStep}
 use Rattle.site_questions.proofs.ceiling_desk.counted_ceilings.Goals as goal

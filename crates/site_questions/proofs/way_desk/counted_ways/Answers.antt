@@ -1,5 +1,5 @@
 use Rattle.std.proofs.Common.{[], subst}
-use Rattle.line_session.specs.Session.{Answered}
+use Rattle.oe_http.specs.Session.{Answered}
 use Rattle.site_questions.specs.Ways.{Survey, WayStep, survey}
 use Rattle.site_questions.proofs.ClosingFacts.{answered_whole, begun_closing, front_closing, no_fault}
 use Rattle.site_questions.proofs.way_desk.counted_ways.Goals as goal

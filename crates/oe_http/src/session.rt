@@ -5,15 +5,14 @@ ghost use Rattle.oe_http.specs.Lines.{HasFeed};
 ghost use Rattle.oe_http.specs.Causes.{Rose, HasCause};
 ghost use Rattle.oe_http.specs.Written.{Sent};
 ghost use Rattle.oe_http.specs.Pending.{unread_bytes, most_left, Reads};
-ghost use Rattle.line_session.specs.Session.{Answered, Begun, CarriesOut, Completes, HasCauses, IsOfLines, WritesWhole};
-ghost use Rattle.line_session.specs.Replies.{ending_of, Replies};
+ghost use Rattle.oe_http.specs.Session.{Answered, Begun, CarriesOut, Completes, HasCauses, IsOfLines, WritesWhole};
+ghost use Rattle.oe_http.specs.Replies.{ending_of, Replies};
 
-use crate::Answering;
-use oe_http::{Failed, LineReader, Next, ReadError, Sink, Source, write_whole};
+use crate::{Answering, Failed, LineReader, Next, ReadError, Sink, Source, write_whole};
 use std::alloc::Global;
 
-/// The size at which gathered replies are written: 64 KiB.
-const MOST_WAITING: usize = 65_536;
+/// The size in bytes at which gathered replies are written, in a session over lines or over HTTP: 64 KiB.
+pub const MOST_WAITING: usize = 65_536;
 
 /// How a session ended, over lines or over HTTP.
 #[derive(Clone, Copy, Debug, PartialEq, Eq)]
@@ -81,7 +80,7 @@ fn next_reply<A: Answering, S: Source>(
 }
 
 /// Writes the waiting replies where they are many, or where no whole line is pending: so each reply is written before a read.
-#[tactic(auto, using(oe_http::proofs::SentFacts::sent_start))]
+#[tactic(auto, using(crate::proofs::SentFacts::sent_start))]
 fn send_due<O: Sink>(
     reader: &LineReader,
     waiting: &mut String,

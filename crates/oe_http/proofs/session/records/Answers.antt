@@ -1,10 +1,10 @@
 use Rattle.std.proofs.Common.{arith, rules, ◌≡◌, ◌∙◌, refl, sym}
 use Rattle.grid_exact.proofs.Extending.{Extends-same}
-use Rattle.line_session.proofs.SessionFacts.{underway_on, underway_end, fell_more}
-use Rattle.line_session.proofs.WaitingFacts.{underway_moved, grown_moved, begun_moved, carried_moved, goes_on, underway_sent, sent_whole}
-use Rattle.line_session.proofs.EndingFacts.{completes, failed_read, no_write, not_read, rose_since, written_err, written_end}
+use Rattle.oe_http.proofs.SessionFacts.{underway_on, underway_end, fell_more}
+use Rattle.oe_http.proofs.WaitingFacts.{underway_moved, grown_moved, begun_moved, carried_moved, goes_on, underway_sent, sent_whole}
+use Rattle.oe_http.proofs.EndingFacts.{completes, failed_read, no_write, not_read, rose_since, written_err, written_end}
 use Rattle.oe_http.specs.declared.lines.ReadError.TheVariants as errors
-use Rattle.line_session.proofs.session.records.Goals as goal
+use Rattle.oe_http.proofs.session.records.Goals as goal
 
 pub returns-in-Err-clause-begun : goal.returns-in-Err-clause-begun
 returns-in-Err-clause-begun g c =

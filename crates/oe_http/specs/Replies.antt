@@ -6,9 +6,9 @@ use Rattle.grid_exact.specs.Texts.{Extends}
 use Rattle.oe_http.specs.Lines.{TakesPart}
 use Rattle.oe_http.specs.declared.lines.ReadError.{ReadError}
 use Rattle.oe_http.specs.declared.lines.ReadError.TheVariants as errors
-use Rattle.line_session.specs.Machine.{Step}
-use Rattle.line_session.specs.declared.session.Ended.{Ended}
-use Rattle.line_session.specs.declared.session.Ended.TheVariants as endings
+use Rattle.oe_http.specs.Machine.{Step}
+use Rattle.oe_http.specs.declared.session.Ended.{Ended}
+use Rattle.oe_http.specs.declared.session.Ended.TheVariants as endings
 
 -- the ending of a session after an error of reading
 abbrev pub ending_of : ReadError → Ended

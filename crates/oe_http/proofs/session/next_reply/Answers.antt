@@ -1,7 +1,7 @@
 use Rattle.std.proofs.Common.{arith}
 use Rattle.std.proofs.lemmas.Grind.{common_steps}
-use Rattle.line_session.proofs.WaitingFacts.{goes_long}
-use Rattle.line_session.proofs.session.next_reply.Goals as goal
+use Rattle.oe_http.proofs.WaitingFacts.{goes_long}
+use Rattle.oe_http.proofs.session.next_reply.Goals as goal
 
 pub returns-in_err-answer_long-in-TooLong-clause-replies : goal.returns-in_err-answer_long-in-TooLong-clause-replies
 returns-in_err-answer_long-in-TooLong-clause-replies g c =

@@ -4,9 +4,9 @@ use Rattle.std.specs.Str.Lines.{lines}
 use Rattle.oe_http.specs.Pending.{Pending, unread_bytes, FellBy}
 use Rattle.oe_http.specs.Lines.{TakesPart}
 use Rattle.oe_http.proofs.SentFacts.{appends_none, appends_on}
-use Rattle.line_session.specs.Machine.{Step, Runs, Starts}
-use Rattle.line_session.specs.Session.{Replied, Answered, AnsweredFront, AnsweredRead, Begun, TookAtLeast, ReadToEnd}
-use Rattle.line_session.specs.Replies.{RepliesOne, EndsRead}
+use Rattle.oe_http.specs.Machine.{Step, Runs, Starts}
+use Rattle.oe_http.specs.Session.{Replied, Answered, AnsweredFront, AnsweredRead, Begun, TookAtLeast, ReadToEnd}
+use Rattle.oe_http.specs.Replies.{RepliesOne, EndsRead}
 
 -- runs, one after another
 pub runs_on : {St : Type 0} (step : Step St) (a b c : St) (done more : List (List ℕ)) (t u : List ℕ)

@@ -5,12 +5,12 @@ use Rattle.oe_http.specs.Lines.{TakesPart}
 use Rattle.oe_http.specs.Pending.{Pending, unread_bytes}
 use Rattle.oe_http.specs.declared.lines.ReadError.{ReadError}
 use Rattle.oe_http.specs.declared.lines.ReadError.TheVariants as errors
-use Rattle.line_session.specs.Machine.{Step}
-use Rattle.line_session.specs.Session.{Completes, WritesWhole}
-use Rattle.line_session.specs.Replies.{EndsRead, ending_of}
-use Rattle.line_session.specs.declared.session.Ended.{Ended}
-use Rattle.line_session.specs.declared.session.Ended.TheVariants as endings
-use Rattle.line_session.proofs.SessionFacts.{Underway, underway_front, underway_read, read_to_end}
+use Rattle.oe_http.specs.Machine.{Step}
+use Rattle.oe_http.specs.Session.{Completes, WritesWhole}
+use Rattle.oe_http.specs.Replies.{EndsRead, ending_of}
+use Rattle.oe_http.specs.declared.session.Ended.{Ended}
+use Rattle.oe_http.specs.declared.session.Ended.TheVariants as endings
+use Rattle.oe_http.proofs.SessionFacts.{Underway, underway_front, underway_read, read_to_end}
 
 not_closed : (e : ReadError) (ended : Ended) → (ended ≡ ending_of e) ⊎ (ended ≡ endings.WriteFault) → ended ≡ endings.Closed → ⊥
 not_closed errors.Failed ended (inl p) c = cc

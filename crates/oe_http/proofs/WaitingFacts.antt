@@ -10,10 +10,10 @@ use Rattle.oe_http.specs.Written.{Sent}
 use Rattle.oe_http.specs.Lines.{GivesLine}
 use Rattle.oe_http.specs.declared.lines.Next.TheVariants as next
 use Rattle.oe_http.proofs.SentFacts.{appends_none, appends_on}
-use Rattle.line_session.specs.Machine.{Step, Runs, Starts}
-use Rattle.line_session.specs.Session.{Begun, CarriedOut, CarriesOut}
-use Rattle.line_session.specs.Replies.{GoesOn, RepliesNext}
-use Rattle.line_session.proofs.SessionFacts.{Underway, runs_on, runs_one, underway_start, underway_stop, fell_none, fell_more, took_more}
+use Rattle.oe_http.specs.Machine.{Step, Runs, Starts}
+use Rattle.oe_http.specs.Session.{Begun, CarriedOut, CarriesOut}
+use Rattle.oe_http.specs.Replies.{GoesOn, RepliesNext}
+use Rattle.oe_http.proofs.SessionFacts.{Underway, runs_on, runs_one, underway_start, underway_stop, fell_none, fell_more, took_more}
 
 front_nil : (a b : List ℕ) → a ++ b ≡ [] → a ≡ []
 front_nil [] b e = refl

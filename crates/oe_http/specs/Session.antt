@@ -5,9 +5,9 @@ use Rattle.std.specs.Str.Lines.{lines}
 use Rattle.oe_http.specs.Causes.{Rose}
 use Rattle.oe_http.specs.Lines.{IsPlain}
 use Rattle.oe_http.specs.declared.lines.TheConstants.{INPUT_LIMIT}
-use Rattle.line_session.specs.Machine.{Step, Runs, Starts}
-use Rattle.line_session.specs.declared.session.Ended.{Ended}
-use Rattle.line_session.specs.declared.session.Ended.TheVariants as endings
+use Rattle.oe_http.specs.Machine.{Step, Runs, Starts}
+use Rattle.oe_http.specs.declared.session.Ended.{Ended}
+use Rattle.oe_http.specs.declared.session.Ended.TheVariants as endings
 
 -- the replies to some lines were written, in order, and took one state to another
 pub record Replied {St : Type 0} (step : Step St) (before after : St) (lines : List (List ℕ)) (held_old held_new : Option (List ℕ)) : Type 0 where

@@ -1,9 +1,9 @@
 use Rattle.std.proofs.Common.{◌≤◌, string_bytes}
 use Rattle.std.specs.Io.KnownBytes.{append_known}
 use Rattle.oe_http.specs.Pending.{unread_bytes, most_left, FellBy}
-use Rattle.line_session.proofs.SessionFacts.{Underway}
-use Rattle.line_session.proofs.WaitingFacts.{Grown}
-use Rattle.line_session.proofs.session.records.Given as goal
+use Rattle.oe_http.proofs.SessionFacts.{Underway}
+use Rattle.oe_http.proofs.WaitingFacts.{Grown}
+use Rattle.oe_http.proofs.session.records.Given as goal
 
 abbrev pub invariant-lines : goal.invariant-lines
 invariant-lines g l =
