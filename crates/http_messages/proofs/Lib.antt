@@ -1,5 +1,11 @@
+pub mod CrowdFacts
 pub mod FrameFacts
+pub mod HeadFacts
 pub mod HeldFacts
 pub mod LawFacts
+pub mod LineFacts
 pub mod MessageFacts
+pub mod OutcomeFacts
 pub mod SaidFacts
+pub mod SpanFacts
+pub mod TargetFacts

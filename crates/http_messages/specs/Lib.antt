@@ -1,7 +1,9 @@
 pub mod Counts
+pub mod Feeds
 pub mod Frames
 pub mod Given
 pub mod Heading
+pub mod Heads
 pub mod Messages
 pub mod Responses
 pub mod Said
