@@ -1,8 +1,7 @@
 //! Two ports of one gate, on loopback.
 
 use crate::echo::{REQUEST, RESPONSE, desk};
-use link_gates::{Gate, open_ports, worker};
-use loopback_gate::TcpGate;
+use link_gates::{Gate, TcpGate, open_ports, worker};
 use std::io;
 use std::io::Write;
 use std::net::{Net, Shutdown, SocketAddr, TcpStream};

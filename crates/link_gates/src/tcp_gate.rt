@@ -4,12 +4,11 @@ ghost use Rattle.std.specs.Prelude.{◌≡◌, true, List, [], ◌∷◌, Option
 ghost use Rattle.oe_http.specs.Causes.{HasCause};
 ghost use Rattle.oe_http.specs.declared.session.Ended.{Ended};
 ghost use Rattle.link_gates.specs.Ports.{ahead};
-ghost use Rattle.loopback_gate.specs.declared.link.TcpLink.{TcpLink};
+ghost use Rattle.link_gates.specs.declared.tcp_link.TcpLink.{TcpLink};
 
-use crate::TcpLink;
 use crate::address::loopback_address;
+use crate::{Gate, GateErr, Port, TcpLink};
 use oe_http::{Ended, Failed};
-use link_gates::{Gate, GateErr, Port};
 use std::alloc::Global;
 use std::net::{Net, SocketAddr, TcpListener, TcpStream};
 use std::time::{Clock, Duration};
@@ -131,7 +130,7 @@ impl<'a, R: Net<Listener = TcpListener, Stream = TcpStream> + Clock + Sync> Gate
     for TcpGate<'a, R> {
     type Port = TcpPort<'a, R>;
 
-    ghost use Rattle.loopback_gate.specs.Loopback.{IsLoopbackText};
+    ghost use Rattle.link_gates.specs.Loopback.{IsLoopbackText};
 
     ghost lists = { λ g. None };
 

@@ -1,7 +1,7 @@
 //! Addresses on loopback.
 
 ghost use Rattle.std.specs.Prelude.{IfSome, IfNone};
-ghost use Rattle.loopback_gate.specs.Loopback.{IsLoopbackText, Spells};
+ghost use Rattle.link_gates.specs.Loopback.{IsLoopbackText, Spells};
 
 use std::net::SocketAddr;
 
