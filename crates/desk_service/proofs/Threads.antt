@@ -7,7 +7,7 @@ use Rattle.std.proofs.Crossing.{crosses}
 use Rattle.airport_register.specs.contracts.register.Register as Register
 use Rattle.oe_findings.specs.contracts.sky.Sky as Sky
 use Rattle.oe_findings.specs.contracts.surroundings.Surroundings as Surroundings
-use Rattle.http_routes.specs.contracts.routes.Routes as Routes
+use Rattle.http_messages.specs.contracts.routes.Routes as Routes
 use Rattle.oe_keeper.specs.declared.keeper.Keeper as Keeper
 use Rattle.filing_desk.specs.contracts.desk.Desk as Desk
 use Rattle.filing_desk.specs.contracts.desk.Desk.TheInside as desk

@@ -1,4 +1,5 @@
 pub mod CrowdFacts
+pub mod EndFacts
 pub mod FrameFacts
 pub mod HeadFacts
 pub mod HeldFacts
@@ -6,6 +7,8 @@ pub mod LawFacts
 pub mod LineFacts
 pub mod MessageFacts
 pub mod OutcomeFacts
+pub mod RouteFacts
 pub mod SaidFacts
+pub mod SeekFacts
 pub mod SpanFacts
 pub mod TargetFacts

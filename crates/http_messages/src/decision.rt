@@ -4,9 +4,7 @@ ghost use Rattle.std.specs.Prelude.{◌≡◌, ◌≤◌, ◌<◌, ℕ, List, tr
 ghost use Rattle.http_messages.specs.Heads.{Decides, Refuses, IsCrowded, IsHead};
 ghost use Rattle.httparse.specs.Grammar.{RequestHead, ReadsRequest, print_request};
 
-use crate::full::is_full_head;
-use crate::lines::behind_fields;
-use crate::target::ends_in_target;
+use crate::lines::{behind_fields, ends_in_target};
 use httparse::spans::{EMPTY_HEADER_SPAN, HeaderSpan, RequestSpans, parse_request};
 use httparse::{Error, Status};
 
@@ -27,6 +25,20 @@ pub enum Decision {
     TooLarge,
     /// The bytes can no longer become a head: refused with 400.
     Malformed,
+}
+
+/// Whether the bytes are a whole head with [`MOST_FIELDS`] fields.
+fn is_full_head(bytes: &[u8]) -> bool
+    ensures yes { result ≡ true → (h : RequestHead) × IsHead bytes.now h × (length h.fields
+        ≡ MOST_FIELDS) }
+    ensures no { result ≡ false → (h : RequestHead) → IsHead bytes.now h
+        → length h.fields ≡ MOST_FIELDS → ⊥ }
+{
+    let mut headers = [EMPTY_HEADER_SPAN; MOST_FIELDS];
+    match parse_request(bytes, &mut headers) {
+        Ok(Status::Complete(head)) => head.len == bytes.len() && head.headers == MOST_FIELDS,
+        _ => false,
+    }
 }
 
 /// Whether the bytes up to `at` are a head if the byte there is replaced by a line feed. The byte is restored.

@@ -1,12 +1,13 @@
-//! Finds the ends of a head's lines.
+//! Finds the ends of a head's lines, and tests whether a request's bytes end inside its target.
 
-ghost use Rattle.std.specs.Prelude.{◌≡◌, ◌≢◌, ◌<◌, ◌-◌, ℕ, List, Some, IfSome, IfNone, true, ◌∷◌, ◌++◌, length, slice_index};
-ghost use Rattle.httparse.specs.Grammar.{RequestHead, IsRequestHead};
+ghost use Rattle.std.specs.Prelude.{◌≡◌, ◌≢◌, ◌<◌, ◌+◌, ◌-◌, ℕ, List, Some, IfSome, IfNone, true, false, ◌∷◌, ◌++◌, length, slice_index};
+ghost use Rattle.httparse.specs.Grammar.{RequestHead, IsRequestHead, EndsInTarget, IsToken, AllPass, is_uri_byte, is_token_byte};
 ghost use Rattle.httparse.specs.Pieces.{is_newline};
-ghost use Rattle.http_messages.specs.Feeds.{IsFirstVisible, IsBehind, feeds_before};
+ghost use Rattle.http_messages.specs.Feeds.{IsFirstVisible, IsFirstOther, IsBehind, HasWholeEnds, IsOpenTarget, feeds_before};
 ghost use Rattle.http_messages.specs.Heads.{open_head};
 
 use crate::decision::MOST_FIELDS;
+use httparse::{is_method_token, is_uri_token};
 
 /// The number of line ends up to the end of the last field of a head with [`MOST_FIELDS`] fields.
 const LINES: usize = MOST_FIELDS + 1;
@@ -19,7 +20,7 @@ fn is_newline(byte: u8) -> bool
 }
 
 /// The index of the first byte after any empty lines.
-pub(crate) fn first_visible(bytes: &[u8]) -> Option<usize>
+fn first_visible(bytes: &[u8]) -> Option<usize>
     ensures first { IfSome result (λ at. IsFirstVisible bytes.now at) }
     ensures none { IfNone result ((k : ℕ) → k < length bytes.now
         → is_newline (slice_index bytes.now k) ≡ true) }
@@ -68,5 +69,86 @@ pub(crate) fn behind_fields(bytes: &[u8]) -> Option<usize>
             }
         }
         None => None,
+    }
+}
+
+/// The index of the first byte that cannot stand in a method.
+fn first_other(text: &[u8]) -> Option<usize>
+    ensures first { IfSome result (λ at. IsFirstOther is_token_byte text.now at) }
+    ensures none { IfNone result ((k : ℕ) → k < length text.now
+        → is_token_byte (slice_index text.now k) ≡ true) }
+{
+    for at in 0..text.len() {
+        if !is_method_token(text[at]) {
+            return Some(at);
+        }
+    }
+    None
+}
+
+/// Whether each byte may stand in a target.
+fn is_all_uri(text: &[u8]) -> bool
+    ensures yes { result ≡ true → (k : ℕ) → k < length text.now
+        → is_uri_byte (slice_index text.now k) ≡ true }
+    ensures no { result ≡ false → AllPass is_uri_byte text.now → ⊥ }
+{
+    for byte in text {
+        if !is_uri_token(*byte) {
+            return false;
+        }
+    }
+    true
+}
+
+/// Whether the text is a method, a space and the beginning of a target.
+fn is_open_target(text: &[u8]) -> bool
+    ensures yes { result ≡ true → IsOpenTarget text.now }
+    ensures no { result ≡ false → IsOpenTarget text.now → ⊥ }
+{
+    match first_other(text) {
+        Some(at) => {
+            if at == 0 {
+                return false;
+            }
+            if text[at] != b' ' {
+                return false;
+            }
+            let (_, target) = text.split_at(at + 1);
+            is_all_uri(target)
+        }
+        None => false,
+    }
+}
+
+/// Whether each carriage return before an index is followed by a line feed.
+fn has_whole_ends(bytes: &[u8], start: usize) -> bool
+    requires { start < length bytes.now }
+    ensures yes { result ≡ true → HasWholeEnds bytes.now start }
+    ensures no { result ≡ false → HasWholeEnds bytes.now start → ⊥ }
+{
+    for at in 0..start {
+        if bytes[at] == b'\r' {
+            if bytes[at + 1] != b'\n' {
+                return false;
+            }
+        }
+    }
+    true
+}
+
+/// Whether the bytes end inside the target.
+pub(crate) fn ends_in_target(bytes: &[u8]) -> bool
+    ensures yes { result ≡ true → EndsInTarget bytes.now }
+    ensures no { result ≡ false → EndsInTarget bytes.now → ⊥ }
+{
+    match first_visible(bytes) {
+        Some(start) => {
+            if !has_whole_ends(bytes, start) {
+                return false;
+            }
+            let (_, text) = bytes.split_at(start);
+            is_open_target(text)
+        }
+        None => false,
     }
 }

@@ -1,7 +1,7 @@
 //! What answers in these tests, and links to it in memory.
 
 use grid_exact::{Bytes, NoMemory};
-use http_routes::Routes;
+use http_messages::Routes;
 use http_session::Routed;
 use oe_http::{Answering, FakeLink, FakeSink, FakeSource};
 use std::alloc::Global;

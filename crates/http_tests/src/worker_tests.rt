@@ -1,8 +1,8 @@
 //! A worker over links in memory.
 
 use crate::echo::{REQUEST, RESPONSE, desk, link};
-use oe_http::Ended;
 use link_gates::{FakeGate, Gate, Worked, worker};
+use oe_http::Ended;
 use std::test::Fail;
 
 #[test]

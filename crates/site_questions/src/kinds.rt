@@ -5,8 +5,8 @@ ghost use Rattle.site_questions.specs.Questions.{QuestionSession};
 
 use crate::ceiling_desk::ceilings;
 use crate::way_desk::ways;
-use oe_http::{Ended, Sink, Source};
 use oe_findings::Sky;
+use oe_http::{Ended, Sink, Source};
 use std::alloc::Global;
 
 /// What the lines of a session ask.

@@ -12,8 +12,8 @@ ghost use Rattle.site_questions.specs.WaySessions.{WaysAnswered, WaysBegun, Clos
 use crate::screens::{FORM_FIELD, append_refused, screen_of};
 use airfields::Filing;
 use grid_exact::{LINE_LIMIT, NoMemory, Steps};
-use oe_http::{Answering, Ended, Sink, Source, records, write_whole};
 use oe_findings::Sky;
+use oe_http::{Answering, Ended, Sink, Source, records, write_whole};
 use oe_stations::{Way, WayFinding, WayRefusal, way_findings};
 use std::alloc::Global;
 use std::marker::{Brand, Model};

@@ -11,7 +11,7 @@ use crate::stops::{Stopping, answer_stops};
 use crate::title::Wanted;
 use crash_disks::MemoryDisk;
 use filing_desk::Clerk;
-use http_routes::Routes;
+use http_messages::Routes;
 use http_session::Routed;
 use line_desk::LineDesk;
 use oe_http::{Sink, write_whole};
