@@ -13,6 +13,12 @@ from unittest import mock
 TOOLS = Path(__file__).resolve().parent.parent
 STORED_DESK = TOOLS / "tests" / "stored_desk.py"
 PROGRAM = os.environ.get("OE_TESTED")
+NO_INPUT, NO_OUTPUT, NO_ERROR = STREAMS = "<&-", ">&-", "2>&-"
+
+
+def program(*words: str, closed: str = "") -> list[str]:
+    """The program with these words, and with a standard stream that is closed before it begins."""
+    return ["sh", "-c", f'exec "$0" "$@" {closed}', str(PROGRAM), *words]
 
 
 @dataclass(frozen=True)
