@@ -10,16 +10,14 @@ use crate::lookup::dated;
 use crate::question::{AsOf, read_as_of};
 use crate::told::{append_as_of, append_not_kept, append_refused};
 use csv::ByteRecord;
-use grid_exact::{LINE_LIMIT, NoMemory, Steps};
+use grid_exact::{LINE_LIMIT, NoMemory};
 use std::alloc::Global;
-use std::sync::ledger::Ledger;
 use wire_requests::ReadRefusal;
 
 /// Appends the list that a line asks for, or why there is none.
-fn append_list_of<L: Ledger>(
+fn append_list_of(
     alloc: Global,
     history: &History,
-    steps: &mut Steps<L>,
     question: &AsOf,
     text: &mut String,
 ) -> Result<(), NoMemory>
@@ -28,7 +26,7 @@ fn append_list_of<L: Ledger>(
         question.now.filing (string_bytes text.old) (string_bytes text.new)) }
     ensures part { OnErr result (Extends (string_bytes text.old) (string_bytes text.new)) }
 {
-    match dated(alloc, history, question.number, &question.filing, steps) {
+    match dated(alloc, history, question.number, &question.filing) {
         Dated::Found(list) => append_as_of(text, question.number, list.as_slice()),
         Dated::NotKept { first, last } => append_not_kept(text, first, last),
         Dated::NoMemory => append_refused(text, ReadRefusal::NoMemory),
@@ -36,11 +34,10 @@ fn append_list_of<L: Ledger>(
 }
 
 /// Appends the reply to a line that asks for a list, well or not.
-pub(crate) fn append_told<L: Ledger>(
+pub(crate) fn append_told(
     alloc: Global,
     history: &History,
     row: &mut ByteRecord,
-    steps: &mut Steps<L>,
     line: &[u8],
     text: &mut String,
 ) -> Result<(), NoMemory>
@@ -51,7 +48,7 @@ pub(crate) fn append_told<L: Ledger>(
     ensures part { OnErr result (Extends (string_bytes text.old) (string_bytes text.new)) }
 {
     match read_as_of(alloc, line, row) {
-        Ok(question) => append_list_of(alloc, history, steps, &question, text),
+        Ok(question) => append_list_of(alloc, history, &question, text),
         Err(refusal) => append_refused(text, refusal),
     }
 }
