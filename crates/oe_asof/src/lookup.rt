@@ -7,19 +7,25 @@ ghost use Rattle.oe_asof.specs.declared.answer.Dated.TheVariants as answers;
 use crate::answer::Dated;
 use crate::history::History;
 use airfields::Filing;
-use grid_exact::NoMemory;
-use review_marks::findings;
+use grid_exact::{NoMemory, Steps};
 use std::alloc::Global;
+use std::sync::ledger::Ledger;
 
 /// The list of findings of a structure over the airfields that are kept under a number. `NotKept` exactly where none are.
-pub fn dated(alloc: Global, history: &History, number: u64, filing: &Filing) -> Dated
+pub fn dated<L: Ledger>(
+    alloc: Global,
+    history: &History,
+    number: u64,
+    filing: &Filing,
+    steps: &mut Steps<L>,
+) -> Dated
     requires some { 0 < length history.now.versions }
     ensures { IsDated history.now.versions number filing.now result }
 {
     let Some(sky) = history.at(number) else {
         return not_kept(history);
     };
-    match findings(alloc, sky, filing) {
+    match sky.findings(alloc, filing, steps) {
         Ok(list) => Dated::Found(list),
         Err(NoMemory) => Dated::NoMemory,
     }
