@@ -6,7 +6,6 @@ use crate::sessions::{AIRPORT, CASE, check_reply};
 use desk_machine::Entry;
 use desk_service::SeatDesk;
 use filing_desk::Clerk;
-use grid_exact::Steps;
 use oe_findings::Sky;
 use oe_keeper::NoKeeper;
 use oe_wire::{Request, append_reply, read_record};
@@ -14,7 +13,6 @@ use publishing_clerk::{Evaluation, Front, Locked, Opening, PublishingClerk};
 use std::alloc::Global;
 use std::marker::Brand;
 use std::process::Abort;
-use std::sync::ledger::{Blank, Ledger};
 use std::sync::{Mutex, Wait};
 use std::test::Fail;
 use tree_versions::{Seat, Seats, Unnamed};
@@ -29,24 +27,19 @@ struct Between {
 }
 
 /// The list of the first case over what a seat shows once it was told of all that is published.
-fn evaluate<J: Opening, L: Ledger, R: Wait>(
+fn evaluate<J: Opening, R: Wait>(
     rt: &R,
     alloc: Global,
     clerk: &Shared<J>,
     mut seat: Seat<Entry, Sky, J>,
-    blank: Blank,
-) -> Result<Evaluation<J>, Fail>
-    requires name { blank.name ≡ L.name }
-    requires parts { blank.parts ≡ L.parts }
-    requires some { 0 < L.parts }
-{
+) -> Result<Evaluation<J>, Fail> {
     let mut front = Locked::new(clerk);
     seat.learn(front.note(rt));
     let Some(filing) = front.filing(rt, 1).filing() else {
         return Err(Fail::from("no case"));
     };
     let shown = seat.current()?;
-    Ok(Evaluation::of(alloc, &shown, &filing, &mut Steps::<L>::new(blank))?)
+    Ok(Evaluation::over(alloc, &shown, &filing)?)
 }
 
 /// A determination of the first case on this list. It names the version of the list, after four changes, and not the newest.
@@ -70,36 +63,24 @@ fn determine<J: Opening, R: Wait + Abort>(
 }
 
 /// A list is evaluated, then the runway is changed, and then the determination is made.
-fn overtake<J: Opening, L: Ledger, M: Ledger, R: Wait + Abort>(
+fn overtake<J: Opening, R: Wait + Abort>(
     rt: &R,
     alloc: Global,
     clerk: &Shared<J>,
     mut seats: Seats<Entry, Sky, J>,
     between: &Between,
-    one: Blank,
-    two: Blank,
-) -> Result<(), Fail>
-    requires names { (one.name ≡ L.name) × (two.name ≡ M.name) }
-    requires parts { (one.parts ≡ L.parts) × (two.parts ≡ M.parts) }
-    requires some { (0 < L.parts) × (0 < M.parts) }
-{
+) -> Result<(), Fail> {
     let (Some(first), Some(second)) = (seats.pop(), seats.pop()) else {
         return Err(Fail::from("no two seats"));
     };
-    let mut desk = SeatDesk::<Locked<NoKeeper, J>, J, R, L>::over(
-        rt,
-        alloc,
-        first,
-        Locked::new(clerk),
-        one,
-    );
+    let mut desk = SeatDesk::over(rt, alloc, first, Locked::new(clerk));
     for (_, line, reply) in AIRPORT {
         check_reply(rt, alloc, &mut desk, line, reply)?;
     }
     for (_, line, reply) in CASE {
         check_reply(rt, alloc, &mut desk, line, reply)?;
     }
-    let evaluation = evaluate::<J, M, R>(rt, alloc, clerk, second, two)?;
+    let evaluation = evaluate(rt, alloc, clerk, second)?;
     check_reply(
         rt,
         alloc,
@@ -131,15 +112,7 @@ fn overtake_once<J: Opening, R: Wait + Abort>(
         2,
     )?;
     let clerk = Mutex::new(clerk);
-    let result = overtake::<J, Brand, Brand, R>(
-        rt,
-        alloc,
-        &clerk,
-        seats,
-        between,
-        Blank::new(1),
-        Blank::new(1),
-    );
+    let result = overtake(rt, alloc, &clerk, seats, between);
     clerk.into_inner().into_keeper(rt);
     result
 }

@@ -13,7 +13,6 @@ use publishing_clerk::{Locked, Opening, PublishingClerk};
 use std::alloc::Global;
 use std::marker::Brand;
 use std::process::Abort;
-use std::sync::ledger::{Blank, Ledger};
 use std::sync::{Mutex, Wait};
 use std::test::Fail;
 use tree_versions::{Seat, Seats, Unnamed};
@@ -87,34 +86,16 @@ fn pair<J: Opening>(
 }
 
 /// Two sessions, of which one looks at what the other changes. Each list of turns follows the one before.
-fn look_on<J: Opening, L: Ledger, M: Ledger, R: Wait + Abort>(
+fn look_on<J: Opening, R: Wait + Abort>(
     rt: &R,
     alloc: Global,
     clerk: &Shared<J>,
     mut seats: Seats<Entry, Sky, J>,
     said: &[&[Turn<'_>]],
-    one: Blank,
-    two: Blank,
-) -> Result<(), Fail>
-    requires names { (one.name ≡ L.name) × (two.name ≡ M.name) }
-    requires parts { (one.parts ≡ L.parts) × (two.parts ≡ M.parts) }
-    requires some { (0 < L.parts) × (0 < M.parts) }
-{
+) -> Result<(), Fail> {
     let (first, second) = pair(&mut seats)?;
-    let mut first = SeatDesk::<Locked<NoKeeper, J>, J, R, L>::over(
-        rt,
-        alloc,
-        first,
-        Locked::new(clerk),
-        one,
-    );
-    let mut second = SeatDesk::<Locked<NoKeeper, J>, J, R, M>::over(
-        rt,
-        alloc,
-        second,
-        Locked::new(clerk),
-        two,
-    );
+    let mut first = SeatDesk::over(rt, alloc, first, Locked::new(clerk));
+    let mut second = SeatDesk::over(rt, alloc, second, Locked::new(clerk));
     for turns in said {
         check_replies(rt, alloc, &mut first, &mut second, turns)?;
     }
@@ -141,15 +122,7 @@ fn look_on_one_clerk<J: Opening, R: Wait + Abort>(
         2,
     )?;
     let clerk = Mutex::new(clerk);
-    let result = look_on::<J, Brand, Brand, R>(
-        rt,
-        alloc,
-        &clerk,
-        seats,
-        said,
-        Blank::new(1),
-        Blank::new(1),
-    );
+    let result = look_on(rt, alloc, &clerk, seats, said);
     clerk.into_inner().into_keeper(rt);
     result
 }

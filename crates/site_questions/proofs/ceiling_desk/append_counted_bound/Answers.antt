@@ -1,6 +1,6 @@
 use Rattle.site_questions.specs.Charts.{chart}
 use Rattle.site_questions.proofs.AnswerFacts.{found, on_ok}
-use Rattle.site_questions.proofs.ceiling_desk.append_bound.Goals as goal
+use Rattle.site_questions.proofs.ceiling_desk.append_counted_bound.Goals as goal
 
 pub returns-in-Ok-clause-ok : goal.returns-in-Ok-clause-ok
 returns-in-Ok-clause-ok g c =

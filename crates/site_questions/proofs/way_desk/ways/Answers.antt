@@ -2,7 +2,7 @@ use Rattle.std.proofs.Common.{[], subst}
 use Rattle.oe_http.specs.Session.{Answered}
 use Rattle.site_questions.specs.Ways.{Survey, WayStep, survey}
 use Rattle.site_questions.proofs.ClosingFacts.{answered_whole, begun_closing, front_closing, no_fault}
-use Rattle.site_questions.proofs.way_desk.counted_ways.Goals as goal
+use Rattle.site_questions.proofs.way_desk.ways.Goals as goal
 
 pub returns-in-Closed-clause-closed : goal.returns-in-Closed-clause-closed
 returns-in-Closed-clause-closed g c = λ e.

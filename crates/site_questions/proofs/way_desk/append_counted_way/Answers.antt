@@ -1,7 +1,7 @@
 use Rattle.site_questions.specs.Charts.{chart}
 use Rattle.site_questions.proofs.AnswerFacts.{on_ok}
 use Rattle.site_questions.proofs.WayFacts.{way_found}
-use Rattle.site_questions.proofs.way_desk.append_way.Goals as goal
+use Rattle.site_questions.proofs.way_desk.append_counted_way.Goals as goal
 
 pub returns-in-Ok-clause-ok : goal.returns-in-Ok-clause-ok
 returns-in-Ok-clause-ok g c =

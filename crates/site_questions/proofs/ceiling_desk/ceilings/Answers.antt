@@ -2,7 +2,7 @@ use Rattle.std.proofs.Common.{subst}
 use Rattle.oe_http.specs.Session.{Answered, WritesWhole}
 use Rattle.site_questions.specs.Charts.{Chart}
 use Rattle.site_questions.specs.Ceilings.{CeilingStep}
-use Rattle.site_questions.proofs.ceiling_desk.counted_ceilings.Goals as goal
+use Rattle.site_questions.proofs.ceiling_desk.ceilings.Goals as goal
 
 pub returns-clause-closed : goal.returns-clause-closed
 returns-clause-closed g c = λ e. (
