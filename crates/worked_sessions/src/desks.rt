@@ -6,7 +6,7 @@ use crate::broken::{Broken, closed};
 use crate::rows::write_unopened;
 use filing_desk::Clerk;
 use line_desk::LineDesk;
-use oe_http::{ReadSource, Sink};
+use oe_http::{ReadSource, Sink, records};
 use oe_keeper::Keeper;
 use std::alloc::Global;
 use std::marker::Brand;
@@ -25,7 +25,7 @@ fn answer_lines<K: Keeper + Drop, L: Ledger, O: Sink>(
     requires some { 0 < L.parts }
 {
     let mut desk = LineDesk::<K, L>::over(alloc, clerk, blank);
-    let ended = oe_http::records(alloc, &mut desk, &mut ReadSource::new(lines), output);
+    let ended = records(alloc, &mut desk, &mut ReadSource::new(lines), output);
     closed(ended)?;
     Ok(desk.into_clerk())
 }
