@@ -87,6 +87,18 @@ class Served(Trial):
         out, err = served.communicate(timeout=SECONDS)
         self.assertEqual((served.returncode, out, err), (0, b"served %d\n" % count, b""))
 
+    def test_addresses_at_which_nobody_listens(self) -> None:
+        """A network's, a name, one without a port, and one that another listens at."""
+        with socket.socket() as other:
+            other.bind(("127.0.0.1", 0))
+            other.listen()
+            taken = f"127.0.0.1:{other.getsockname()[1]}"
+            for address in ("0.0.0.0:0", "[::ffff:127.0.0.1]:0", "localhost:0", "127.0.0.1", taken):
+                with self.subTest(address):
+                    ended = subprocess.run([str(PROGRAM), "serve", "--listen", address, "--workers", "1", "--turns", "1"], cwd=self.folder, stdin=subprocess.DEVNULL,
+                                           capture_output=True, check=False, timeout=SECONDS)
+                    self.assertEqual((ended.returncode, ended.stdout, ended.stderr), (9, b"served 0\n", b"oe: gate fault\n"))
+
     def test_a_link_is_refused_over_what_another_put(self) -> None:
         served, port = self.serve(2)
         with self.link(served, port) as first, self.link(served, port) as second:

@@ -1,4 +1,4 @@
-"""Files that a desk is given: rows that SQLite wrote and that cannot stand, a folder, a file that another desk has, and files of a desk whose standard stream is closed."""
+"""Files that a desk is given: rows that SQLite wrote and that cannot stand, a journal with bytes behind its frames, a folder, a file that another desk has, and files of a desk whose standard stream is closed."""
 import itertools
 import shutil
 import sqlite3
@@ -6,6 +6,7 @@ import subprocess
 import unittest
 from contextlib import closing
 
+from office import journals
 from tests.trial import NO_ERROR, NO_INPUT, NO_OUTPUT, PROGRAM, Trial, program
 
 DAY = "day,u,1,2026-01-15\n"
@@ -40,6 +41,17 @@ class Stores(Trial):
         for number, row in enumerate(CANNOT_STAND):
             with self.subTest(row):
                 self.assertEqual(self.desk(self.store(f"{number}.db", [*ROWS, row]), DAY), FAULT)
+
+    def test_bytes_behind_the_frames_of_a_journal(self) -> None:
+        """They are cut off, whatever they are, and the frames stay as they were."""
+        self.assertEqual(self.desk("office.oej", DAY), (0, ACCEPTED, ""))
+        whole = (self.folder / "office.oej").read_bytes()
+        self.assertEqual(journals.rows_of(whole), {(table, key): row for table, key, row in ROWS})
+        for gate in (b"\0", b"\1", b"\2"):
+            with self.subTest(gate):
+                (self.folder / "office.oej").write_bytes(whole[:-1] + gate + bytes(range(255)))
+                self.assertEqual(self.desk("office.oej", DAY), (0, ACCEPTED, ""))
+                self.assertEqual((self.folder / "office.oej").read_bytes(), whole)
 
     def test_places_that_are_no_file(self) -> None:
         for place in (".", ":memory:", "no/office.db", "no/office.oej", "./.oej/"):

@@ -4,7 +4,7 @@ use crate::broken::{Broken, closed};
 use crate::rows::write_unopened;
 use filing_desk::Clerk;
 use line_desk::LineDesk;
-use oe_http::{ReadSource, Sink};
+use oe_http::{ReadSource, Sink, records};
 use oe_keeper::Keeper;
 use std::alloc::Global;
 
@@ -16,7 +16,7 @@ pub(crate) fn answer_lines<K: Keeper + Drop, O: Sink>(
     output: &mut O,
 ) -> Result<Clerk<K>, Broken> {
     let mut desk = LineDesk::over(alloc, clerk);
-    let ended = oe_http::records(alloc, &mut desk, &mut ReadSource::new(lines), output);
+    let ended = records(alloc, &mut desk, &mut ReadSource::new(lines), output);
     closed(ended)?;
     Ok(desk.into_clerk())
 }
