@@ -15,7 +15,7 @@ use Rattle.filing_desk.specs.contracts.office.Office as Office
 use Rattle.filing_desk.specs.contracts.office.Office.TheInside as office
 use Rattle.filing_desk.specs.contracts.clerk.Clerk as Clerk
 use Rattle.filing_desk.specs.contracts.clerk.Clerk.TheInside as clerk
-use Rattle.filing_desk.proofs.receipts.Receipts.TheSendSync as receipts
+use Rattle.desk_receipts.proofs.receipts.Receipts.TheSendSync as receipts
 use Rattle.review_marks.proofs.book.MarkBook.TheSendSync as marks
 use Rattle.case_records.proofs.case.KeptCase.TheSendSync as kept
 use Rattle.determination_dates.proofs.closed.ClosedDays.TheSendSync as closed

@@ -6,8 +6,8 @@ use Rattle.oe_http.specs.declared.session.Ended.{Ended}
 use Rattle.oe_http.specs.declared.session.Ended.TheVariants as endings
 use Rattle.desk_service.specs.declared.service.ServiceEnd.{ServiceEnd}
 use Rattle.desk_service.specs.declared.service.ServiceEnd.TheVariants as ends
-use Rattle.filing_desk.specs.declared.opening.OpenRefusal.{OpenRefusal}
-use Rattle.filing_desk.specs.declared.opening.OpenRefusal.TheVariants as refusals
+use Rattle.desk_receipts.specs.declared.renewal.OpenRefusal.{OpenRefusal}
+use Rattle.desk_receipts.specs.declared.renewal.OpenRefusal.TheVariants as refusals
 use Rattle.oe_commands.specs.declared.status.Status.{Status}
 use Rattle.oe_commands.specs.declared.status.Status.TheVariants as statuses
 

@@ -5,7 +5,7 @@ ghost use Rattle.oe_keeper.specs.Kept.{Kept, place};
 ghost use Rattle.oe_keeper.specs.declared.change.Table.{Table};
 ghost use Rattle.desk_tables.specs.Opening.{IsFirstBad};
 ghost use Rattle.oe_http.specs.Session.{Answered, Begun, HasCauses, IsOfLines, Unfailed, WritesWhole};
-ghost use Rattle.filing_desk.specs.Handed.{Told};
+ghost use Rattle.desk_receipts.specs.Handed.{Told};
 ghost use Rattle.line_desk.specs.Desk.{Serving, StepOver, serving};
 ghost use Rattle.desk_machine.specs.States.{last_number};
 ghost use Rattle.site_questions.specs.Questions.{QuestionSession};

@@ -3,7 +3,7 @@
 ghost use Rattle.std.specs.Prelude.{◌≡◌, ◌≤◌, Some, option_copied};
 ghost use mathlib.Core.List.{IsPrefix};
 ghost use Rattle.publishing_clerk.specs.Evaluations.{given_in};
-ghost use Rattle.filing_desk.specs.Handed.{Told};
+ghost use Rattle.desk_receipts.specs.Handed.{Told};
 ghost use Rattle.publishing_clerk.specs.Publishing.{GoesOn};
 ghost use Rattle.publishing_clerk.specs.Rulings.{IsRuled};
 ghost use Rattle.publishing_clerk.specs.Fronts.{HasRuled, IsCounted, IsFilingOf, IsReplied, WasAsked};

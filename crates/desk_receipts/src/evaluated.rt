@@ -1,7 +1,8 @@
 //! Lists of findings that were evaluated before the decision that uses them.
 
-ghost use Rattle.std.specs.Prelude.{◌≡◌, ◌&&◌, nat_le, Some, IfOk, option_copied};
-ghost use Rattle.desk_machine.specs.Evaluations.{same_site};
+ghost use Rattle.std.specs.Prelude.{◌≡◌, ◌&&◌, nat_le, true, Some, None, IfOk, option_copied, option_map};
+ghost use Rattle.desk_machine.specs.Evaluations.{evaluation_of, same_site};
+ghost use Rattle.desk_machine.specs.States.{State};
 ghost use Rattle.desk_tables.specs.Reachable.{IsTold};
 
 use airfields::Filing;
@@ -47,14 +48,14 @@ impl Evaluated {
     }
 
     /// Whether an act that evaluates this structure is made on it where `p` is the number of the last published entry.
-    pub(crate) fn fits(&self, filing: &Filing, p: u64) -> bool
+    pub fn fits(&self, filing: &Filing, p: u64) -> bool
         ensures { result ≡ (same_site self.now.filing filing.now && nat_le self.now.last p) }
     {
         self.filing == *filing && self.number <= p
     }
 
     /// A copy of the list, with its number.
-    pub(crate) fn kept(&self, alloc: Global) -> Result<KeptList, NoMemory>
+    pub fn kept(&self, alloc: Global) -> Result<KeptList, NoMemory>
         ensures { IfOk result (λ kept. kept ≡ record { last = self.now.last; list = self.now.list }) }
     {
         Ok(KeptList {
@@ -71,8 +72,24 @@ impl Evaluated {
     }
 }
 
+/// Whether an act that evaluates this structure, if it evaluates one, is surely not made on the given list.
+#[tactic(auto, using(crate::proofs::Giving::not_given))]
+pub fn is_own(structure: Option<Filing>, p: u64, given: Option<&Evaluated>) -> bool
+    ensures { result ≡ true → (s : State)
+        → option_map (evaluation_of s p (option_copied given.entry)) structure
+        ≡ option_map (evaluation_of s p None) structure }
+{
+    let Some(evaluated) = given else {
+        return true;
+    };
+    match structure {
+        Some(filing) => !evaluated.fits(&filing, p),
+        None => true,
+    }
+}
+
 /// Shows to a proof that a given list, if there is one, fits in a row.
-pub(crate) fn given_told(given: Option<&Evaluated>)
+pub fn given_told(given: Option<&Evaluated>)
     ensures { IsTold (option_copied given.entry) }
 {
     match given {

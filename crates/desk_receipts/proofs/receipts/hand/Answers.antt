@@ -1,8 +1,8 @@
 use Rattle.std.proofs.Common.{subst, Err}
 use Rattle.oe_keeper.specs.Keeping.{IfFailed, Rose}
 use Rattle.oe_keeper.specs.declared.keeper.KeepErr.{KeepErr}
-use Rattle.filing_desk.proofs.Unasked.{told_on, told_still}
-use Rattle.filing_desk.proofs.handing.hand.Goals as goal
+use Rattle.desk_receipts.proofs.Unasked.{told_on, told_still}
+use Rattle.desk_receipts.proofs.receipts.hand.Goals as goal
 
 pub returns-in-Ok-clause-handed : goal.returns-in-Ok-clause-handed
 returns-in-Ok-clause-handed g c =

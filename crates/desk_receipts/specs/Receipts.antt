@@ -4,8 +4,8 @@ use Rattle.std.specs.BTreeMap.{BTreeMap, get}
 use Rattle.determination_dates.specs.Computed.{with_some}
 use Rattle.desk_machine.specs.declared.entry.Entry.{Entry}
 use Rattle.desk_machine.specs.States.{entry_of}
-use Rattle.filing_desk.specs.declared.receipt_key.ReceiptKey.{ReceiptKey}
-use Rattle.filing_desk.specs.contracts.receipt_key.ReceiptKeyOrd.TheImpl as keys
+use Rattle.desk_receipts.specs.declared.receipt_key.ReceiptKey.{ReceiptKey}
+use Rattle.desk_receipts.specs.contracts.receipt_key.ReceiptKeyOrd.TheImpl as keys
 
 -- the map holds the index of the entry of each caller and key
 pub record IsIndex (places : BTreeMap ReceiptKey ℕ) (entries : List Entry) : Type 0 where

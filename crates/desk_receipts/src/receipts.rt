@@ -1,26 +1,51 @@
-//! The accepted requests.
+//! The accepted requests, each passed to the keeper before its entry is appended.
 
 ghost use Rattle.std.specs.Prelude.{◌≡◌, ◌<◌, ◌+◌, ◌∷◌, ◌++◌, [], Some, None, IfOk, IfErr, OnOk, OnErr, option_copied, length, slice_get, take};
 ghost use Rattle.std.specs.BTreeMap.{Updates, IsUnchanged};
 ghost use Rattle.determination_dates.specs.Days.{IsLimited};
 ghost use Rattle.determination_dates.specs.Closed.{with_day};
 ghost use Rattle.desk_machine.specs.States.{entry_of};
-ghost use Rattle.filing_desk.specs.Handed.{IsNew, Keeps};
-ghost use Rattle.filing_desk.specs.Receipts.{IsIndex};
-ghost use Rattle.filing_desk.specs.contracts.receipt_key.ReceiptKeyOrd.TheImpl as keys;
+ghost use Rattle.desk_receipts.specs.Handed.{Handed, IsNew, IsUnkept, Keeps};
+ghost use Rattle.desk_receipts.specs.Receipts.{IsIndex};
+ghost use Rattle.desk_receipts.specs.contracts.receipt_key.ReceiptKeyOrd.TheImpl as keys;
 
-use crate::handing::{Accepted, hand};
 use crate::receipt_key::ReceiptKey;
 use case_records::Refusal;
 use desk_machine::Entry;
+use desk_tables::ChangeList;
 use determination_dates::ClosedDays;
 use grid_exact::NoMemory;
 use jiff::civil::Date;
-use oe_keeper::Keeper;
+use oe_keeper::{KeepErr, Keeper, RowChange};
 use std::alloc::Global;
 use std::collections::BTreeMap;
 use std::marker::Model;
 use wire_values::Word;
+
+/// An accepted request, and the row changes that store it.
+#[derive(Drop)]
+pub struct Accepted {
+    pub entry: Entry,
+    pub changes: ChangeList,
+}
+
+/// Applies the row changes through the keeper.
+///
+/// # Errors
+///
+/// `NoMemory` where memory ran out, `KeeperFault` where the keeper failed; none of the changes is then made.
+fn hand<K: Keeper>(alloc: Global, keeper: &mut K, changes: &[RowChange]) -> Result<(), Refusal>
+    requires loaded { ∥ K.IsLoaded keeper.old ∥₁ }
+    ensures refused { IfErr result IsUnkept }
+    ensures handed { Handed K.Tells K.IsLoaded K.IsSteady K.faults keeper.old keeper.new
+        changes.now result }
+{
+    match keeper.apply(alloc, changes) {
+        Ok(()) => Ok(()),
+        Err(KeepErr::Failed) => Err(Refusal::KeeperFault),
+        Err(KeepErr::NoMemory) => Err(Refusal::NoMemory),
+    }
+}
 
 /// The accepted requests in order of number, with an index by caller and key.
 #[derive(Drop)]
@@ -32,7 +57,7 @@ pub struct Receipts {
 impl Model for Receipts {
     ghost use Rattle.std.specs.Prelude.{List};
     ghost use Rattle.desk_machine.specs.declared.entry.Entry.{Entry as Seen};
-    ghost use Rattle.filing_desk.specs.Receipts.{IsIndex};
+    ghost use Rattle.desk_receipts.specs.Receipts.{IsIndex};
 
     ghost Value = { List Seen };
 

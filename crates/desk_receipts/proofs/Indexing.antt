@@ -10,10 +10,10 @@ use Rattle.std.specs.Map.{lookup}
 use Rattle.determination_dates.specs.Computed.{with_some}
 use Rattle.desk_machine.specs.declared.entry.Entry.{Entry}
 use Rattle.desk_machine.specs.States.{entry_of}
-use Rattle.filing_desk.specs.Receipts.{IsIndex}
-use Rattle.filing_desk.specs.declared.receipt_key.ReceiptKey.{ReceiptKey}
-use Rattle.filing_desk.specs.contracts.receipt_key.ReceiptKeyOrd.TheImpl as keys
-use Rattle.filing_desk.specs.contracts.receipt_key.ReceiptKeyOrd.TheImpl.Laws as laws
+use Rattle.desk_receipts.specs.Receipts.{IsIndex}
+use Rattle.desk_receipts.specs.declared.receipt_key.ReceiptKey.{ReceiptKey}
+use Rattle.desk_receipts.specs.contracts.receipt_key.ReceiptKeyOrd.TheImpl as keys
+use Rattle.desk_receipts.specs.contracts.receipt_key.ReceiptKeyOrd.TheImpl.Laws as laws
 
 abbrev is_of : Entry → ReceiptKey → Bool
 is_of e q = pointwise nat_eq e.change.caller q.caller && pointwise nat_eq e.change.key q.key

@@ -2,10 +2,10 @@ use Rattle.std.proofs.Common.{◌≡◌, refl, sym, ap, ◌∙◌, Some, subst, 
 use Rattle.std.proofs.lemmas.Option.{slice_get_read}
 use Rattle.std.proofs.lemmas.Result.{on_ok_weaker}
 use Rattle.std.specs.BTreeMap.{Updates, get}
-use Rattle.filing_desk.specs.declared.receipt_key.ReceiptKey.{ReceiptKey}
-use Rattle.filing_desk.specs.contracts.receipt_key.ReceiptKeyOrd.TheImpl as keys
-use Rattle.filing_desk.proofs.Indexing.{indexed_next, indexed_again}
-use Rattle.filing_desk.proofs.receipts.remember_first.Goals as goal
+use Rattle.desk_receipts.specs.declared.receipt_key.ReceiptKey.{ReceiptKey}
+use Rattle.desk_receipts.specs.contracts.receipt_key.ReceiptKeyOrd.TheImpl as keys
+use Rattle.desk_receipts.proofs.Indexing.{indexed_next, indexed_again}
+use Rattle.desk_receipts.proofs.receipts.remember_first.Goals as goal
 
 pub returns-in-Some : goal.returns-in-Some
 returns-in-Some c =

@@ -1,6 +1,6 @@
 use Rattle.std.proofs.Common.{sym, ◌∙◌}
-use Rattle.filing_desk.proofs.Opened.{left_alone, renewed_when}
-use Rattle.filing_desk.proofs.opening.renew.Goals as goal
+use Rattle.desk_receipts.proofs.Renewing.{left_alone, renewed_when}
+use Rattle.desk_receipts.proofs.renewal.renew.Goals as goal
 
 pub returns-then-is_empty-clause-renewed : goal.returns-then-is_empty-clause-renewed
 returns-then-is_empty-clause-renewed g c = left_alone g.K.Keeper.Tells c.args.changes.now c.args.keeper.now (sym c.is_empty.ensures ∙ c.if-is_empty.true)

@@ -2,7 +2,7 @@ use Rattle.std.proofs.Common.{List, subst, Err}
 use Rattle.oe_keeper.specs.Keeping.{HasAll, IfFailed, Rose}
 use Rattle.oe_keeper.specs.declared.change.RowChange.{RowChange}
 use Rattle.oe_keeper.specs.declared.keeper.KeepErr.{KeepErr}
-use Rattle.filing_desk.proofs.opening.put_all.Goals as goal
+use Rattle.desk_receipts.proofs.renewal.put_all.Goals as goal
 
 pub returns-in-Ok-clause-made : goal.returns-in-Ok-clause-made
 returns-in-Ok-clause-made g c = subst (λ (l : List RowChange). HasAll g.K.Keeper.Tells c.args.keeper.now c.apply.new.self l) c.as_slice.ensures c.in-Ok.ensures.all
