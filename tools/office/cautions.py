@@ -77,7 +77,7 @@ def is_exempt(pair: Pair) -> bool:
 def of_structure(pair: Pair) -> list[str]:
     values, out = pair.record.values, []
     ground, height = int(values["GROUND"]), int(values["HEIGHT"])
-    is_way = values["KIND"] not in ("object", "antenna")
+    is_way = values["KIND"] in forms.TRAVERSE_WAYS
     if height == 0 and not is_way:
         out.append("its height is 0: are ground and height exchanged?")
     if height > TALLER_THAN_GROUND and 0 < ground * TENTHS < height:
@@ -105,7 +105,7 @@ def of_file(pairs: list[Pair]) -> list[str]:
     """A caution about a whole file: it has no record, or its heights are small."""
     if not pairs:
         return ["there is no record in this file: is it another one, or was it not saved?"]
-    heights = [int(pair.record.values["HEIGHT"]) for pair in pairs if has_structure(pair) and pair.record.values["KIND"] in ("object", "antenna")]
+    heights = [int(pair.record.values["HEIGHT"]) for pair in pairs if has_structure(pair) and pair.record.values["KIND"] not in forms.TRAVERSE_WAYS]
     if heights and max(heights) in FEET_FOR_TENTHS:
         return [f"no structure of this file is taller than {show(max(heights) / TENTHS)} ft: were feet written for tenths of a foot, or metres for feet?"]
     return []

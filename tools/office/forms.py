@@ -11,6 +11,7 @@ WORDS_OF_POINTS = ("what", "end", "pad", "structure")  # of a table for oe-from-
 SEPARATORS = ",;\t"  # a spreadsheet saves semicolons where a comma begins the decimals
 FLAG_LETTERS = "SDRIGT"
 AS_OF = "asof"  # the form that `oe asof` alone answers
+TRAVERSE_WAYS = ("interstate", "road", "private", "rail", "water")
 TRAVERSE_WITH_MOBILE = ("private", "water")
 Earlier = Mapping[str, str]
 
@@ -77,7 +78,7 @@ ELEVATION = whole("tenths of a foot above mean sea level, a whole number")
 GROUND = whole("the ground in tenths of a foot above mean sea level, -20000 to 200000", -20_000, 200_000)
 HEIGHT = whole("the height above the ground in tenths of a foot, 0 to 100000", 0, 100_000)
 WIDTH = whole("the width in tenths of a foot, a whole number")
-STRUCTURE = words("object", "antenna", "interstate", "road", "private", "rail", "water")
+STRUCTURE = words("object", "antenna", *TRAVERSE_WAYS)
 MOBILE = Value("0; for private and water the tallest mobile object in tenths of a foot, up to 1000", fits_mobile)
 FLAGS = Value("-, or letters of SDRIGT in this order, each once", lambda text, _: is_flags(text))
 CALLER = spelling(r"[A-Za-z0-9._]{1,16}", "1 to 16 letters, digits, . and _")
@@ -146,9 +147,9 @@ FORMS: dict[str, tuple[Field, ...]] = {
 
 
 def cut(line: str) -> list[str] | None:
-    """The fields of a line, or nothing where it is not one record."""
+    """The fields of a line, or nothing if it is not one record. Carriage returns before it end records of no field, which do not count."""
     try:
-        rows = [row for row in csv.reader([line.removeprefix("\ufeff")]) if row]
+        rows = [row for row in csv.reader([line.removeprefix("\ufeff").lstrip("\r")]) if row]
     except csv.Error:
         return None
     return rows[0] if len(rows) == 1 else None

@@ -72,7 +72,7 @@ def about_form(cell: str) -> str:
     if others and first.strip().lower() in forms.FORMS:
         return f"{forms.quoted(cell)}: its cells are not parted as those of the first record"
     why = forms.about_form(cell) if cell else "the first cell is empty"
-    return f"{forms.quoted(cell)}: {why}" if why else f'{forms.quoted(cell)} is no form ({", ".join(forms.FORMS)}); begin a row of headings or remarks with {REMARK}'
+    return f"{forms.quoted(cell)}: {why}" if why else f'no record begins with {forms.quoted(cell)}; the words are {", ".join(forms.FORMS)}; begin a row of headings or remarks with {REMARK}'
 
 
 def about_runway(cells: list[str]) -> str | None:

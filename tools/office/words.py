@@ -4,10 +4,13 @@ from collections.abc import Iterable
 from office import forms
 from office.desk import Pair
 from office.records import TENTHS, Record, feet, show
+from office.register import end_name
 from office.replies import (NONE, Accepted, AirfieldRow, AsOf, CaseState, Ceiling, Entry, Found, Refusal, Report, Review, Sync, Verdict, read_entries)
 from office.structures import ENTRIES_OF_DETERMINATION
 
-MALFORMED = 13
+MALFORMED, NOT_STANDING = 13, 17
+KEYS_OF_ENDS = ("19d", "19e", "23a", "23t")  # rules whose key names an end, or 0 for what lies between the ends
+STATUSES = {"awaiting": "awaiting its determination", "inforce": "in force", "hazard": "a HAZARD in effect"}  # and others, as they are
 REFUSALS = {  # {0} and {1} are the values of the refusal
     2: "a utility runway cannot have a precision approach, nor be planned for one",
     3: "no airfield of this ID is registered: register it first, or look for a misspelt ID",
@@ -53,19 +56,33 @@ def feet_of(tenths: int) -> str:
     return f"{show(tenths / TENTHS)} ft"
 
 
+def parts_of(entry: Entry) -> tuple[str, int]:
+    """The runway of a finding, nothing at a heliport, and the number of the end or 0: its key is `09/27.1`, or `1`."""
+    runway, _, number = entry.key.rpartition(".")
+    return runway, int(number)
+
+
 def key_of(entry: Entry) -> str:
-    """The key of a finding: which runway, which of its ends, which side."""
-    runway, _, part = entry.key.rpartition(".") if "." in entry.key else ("", "", entry.key)
-    match entry.rule.name:
-        case "19d":
-            names = runway.split("/")
-            return f"{runway}, end {part}" + (f" ({names[int(part) - 1]})" if len(names) == 2 else "")
-        case "23a":
-            return f"end {part}"
-        case "19e" | "23t":
-            side = "beside the primary surface" if part == "0" else f"beside the approach of end {part}"
-            return f"{runway}, {side}" if runway else side
-    return entry.key
+    """The key of a finding in words: the runway, or the runway end by its own designator, and beside what a transitional surface lies."""
+    name = entry.rule.name
+    if name not in KEYS_OF_ENDS:
+        return entry.key
+    runway, number = parts_of(entry)
+    if name == "19e":
+        return f"{end_name(runway, number)}, beside its approach surface" if number else f"{runway}, beside its primary surface"
+    if name == "23t":
+        return f"beside the approach surface of end {number}" if number else "beside the primary surface"
+    return end_name(runway, number) if runway else f"end {number}"
+
+
+def short_key(entry: Entry) -> str:
+    """The key of a finding in a picture, which has the same numbers at the approaches of a heliport."""
+    if entry.rule.name not in KEYS_OF_ENDS:
+        return "" if entry.key == NONE else entry.key
+    runway, number = parts_of(entry)
+    if runway:
+        return end_name(runway, number) if number else runway
+    return (f"beside approach {number}" if entry.rule.name == "23t" else str(number)) if number else ""
 
 
 def excess_of(entry: Entry) -> str:
@@ -96,17 +113,22 @@ def say_ceiling(height: int | None, entries: Iterable[Entry]) -> list[str]:
     return [head, *say_entries(entries)]
 
 
-def say_day(day: str) -> str:
-    return "none" if day == NONE else day
-
-
 def say_lateness(text: str) -> str:
     days = text.removeprefix("late ")
     return "in time" if days == text else f"late by {days} {'day' if days == '1' else 'days'}"
 
 
+def say_effect(effective: str, expiry: str) -> str:
+    return f"{'no effective day' if effective == NONE else f'effective {effective}'}; {'no expiry' if expiry == NONE else f'expires {expiry}'}"
+
+
 def say_dates(deadline: str, effective: str, expiry: str) -> str:
-    return f"petitions until {say_day(deadline)}; effective {say_day(effective)}; expires {say_day(expiry)}"
+    petitions = "no petition may come" if deadline == NONE else f"petitions until {deadline}"
+    return f"{petitions}; {say_effect(effective, expiry)}"
+
+
+def say_status(status: str) -> str:
+    return STATUSES.get(status, status)
 
 
 def say_decision(decision: str) -> str:
@@ -141,9 +163,10 @@ def say_act(form: str, values: tuple[str, ...]) -> list[str]:
             return [f"case {case}: a petition is pending"]
         case "abandon", (case,):
             return [f"case {case}: given up"]
-        case "dispose", (case, disposition, effective, expiry):
-            ending = "affirmed" if disposition == "affirm" else "reversed"
-            return [f"case {case}: {ending}; effective {say_day(effective)}; expires {say_day(expiry)}"]
+        case "dispose", (case, "reverse", _, _):
+            return [f"case {case}: reversed"]
+        case "dispose", (case, _, effective, expiry):
+            return [f"case {case}: affirmed; {say_effect(effective, expiry)}"]
         case "extend", (case, expiry, last):
             return [f"case {case}: expires {expiry} now; the last day to ask for another extension is {last}"]
         case "fcc", (case, expiry):
@@ -182,7 +205,7 @@ def say_malformed(record: Record, number: int) -> list[str]:
         return [f"{head} at field 1: {say_foreign(record.form)}"]
     if record.form not in forms.FORMS:
         why = forms.about_form(record.form)
-        return [f"{head} at field 1: there is no form {forms.quoted(record.form)}" + (f" ({why})" if why else "")]
+        return [f"{head} at field 1: no record begins with {forms.quoted(record.form)}" + (f" ({why})" if why else "")]
     form = forms.FORMS[record.form]
     if number > len(form) + 1:
         return [f"{head} at field {number}: {forms.size(record.form)} (a spreadsheet pads lines with commas; oe-clean takes them off)"]
@@ -197,15 +220,20 @@ def say_malformed(record: Record, number: int) -> list[str]:
 def say_refusal(record: Record, reply: Refusal) -> list[str]:
     if reply.number == MALFORMED:
         return say_malformed(record, int(reply.values[0]))
-    return [f"REFUSED ({reply.number}): " + REFUSALS.get(reply.number, reply.name).format(*reply.values)]
+    values = map(say_status, reply.values) if reply.number == NOT_STANDING else reply.values
+    return [f"REFUSED ({reply.number}): " + REFUSALS.get(reply.number, reply.name).format(*values)]
 
 
 def say_case(state: CaseState) -> list[str]:
-    out = f"case {state.case} is {state.status.replace('inforce', 'in force')}"
+    out = [f"case {state.case} is {say_status(state.status)}"]
     if state.decision != NONE:
-        out += f": {say_decision(state.decision)}, issued {state.issued}; {say_dates(state.deadline, state.effective, state.expiry)}"
-        out += f"; the last day to ask for an extension is {say_day(state.last_day)}"
-    return [out + ("; MARKED FOR REVIEW, its findings would now be others" if state.mark == "marked" else "")]
+        decision = "" if state.status == "hazard" else f": {say_decision(state.decision)}"
+        out = [f"{out[0]}{decision}, issued {state.issued}", say_dates(state.deadline, state.effective, state.expiry)]
+    if state.last_day != NONE:
+        out.append(f"the last day to ask for an extension is {state.last_day}")
+    if state.mark == "marked":
+        out.append("MARKED FOR REVIEW, its findings would now be others")
+    return ["; ".join(out)]
 
 
 def say_row(values: tuple[str, ...]) -> list[str]:

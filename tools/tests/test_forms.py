@@ -48,7 +48,11 @@ class Forms(unittest.TestCase):
     def test_a_line_is_cut_as_the_desk_cuts_it(self) -> None:
         self.assertEqual(lines(b"a\r\n\n\r\nb\r\r\nc\r"), ["a", "", "", "b\r", "c\r"])
         self.assertEqual(forms.cut('\ufeff"screen","0"'), ["screen", "0"])
+        for text in ("\rreview", "\r\rreview", "\ufeff\rreview", "review\r", '\r"review"\r\r'):
+            self.assertEqual(forms.cut(text), ["review"], text)
+        self.assertEqual(forms.cut("\r\ufeffreview"), ["\ufeffreview"])
         self.assertIsNone(forms.cut("a\rb"))
+        self.assertIsNone(forms.cut("\r\r"))
         self.assertIsNone(forms.cut("\ufeff"))
 
     def test_planned_approaches(self) -> None:
@@ -100,7 +104,7 @@ class Replies(unittest.TestCase):
             for pair in session.pairs():
                 if isinstance(pair.reply, Refusal) and pair.reply.number != words.MALFORMED:
                     said = words.say(pair)[0]
-                    self.assertTrue(all(value in said for value in pair.reply.values), said)
+                    self.assertTrue(all(words.say_status(value) in said for value in pair.reply.values), said)
 
     def test_forms_of_changes_have_caller_and_key(self) -> None:
         for name, form in forms.FORMS.items():

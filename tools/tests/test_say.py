@@ -32,8 +32,9 @@ class Say(Trial):
                 "      77.17(a)(2)     the height near AAA                   by less than 0.1 ft\n",
                 "    REFUSED (5): a runway is 100 to 20,000 ft long: are the coordinates tenths of a foot?\n",
                 '    REFUSED (13) at field 2, X: "20000001"; wanted is tenths of a foot on the grid, -20000000 to 20000000\n',
-                "      77.23(b)        approach surface of heliport HHH, end 2                             by 0.1 ft\n",
-                "      77.23(c)        transitional surface of heliport HHH, beside the approach of end 2  by 0.1 ft\n",
+                "      77.23(b)        approach surface of heliport HHH, end 2                                     by 0.1 ft\n",
+                "      77.23(c)        transitional surface of heliport HHH, beside the approach surface of end 2  by 0.1 ft\n",
+                "      77.19(e)        transitional surface of AAA runway 09/27, beside its primary surface  by 13.1 ft\n",
                 "      77.9(c), (b)(1) 100 to 1 slope from AAA runway 09/27, raised by its traffic  by 17.4 ft\n",
                 "line 15: verdict: 20.0 ft on ground of 100.0 ft, top 120.0 ft\n    notice required: no; obstruction: yes; findings: 1 (`screen` lists them)\n",
                 "screened: obstructions 8, notice only 1, without a finding 0; records refused 3; with a caution 0\n"):
@@ -75,8 +76,8 @@ class Say(Trial):
     def test_a_first_field_that_is_no_form(self) -> None:
         records = "screen;0;0;0;1;object;0;-;-\nday\ta\t1\t2026-01-15\n,,,,\nScreen,0\nbuilding,0\n"
         out = self.said(records, "no,13,Malformed,1\n" * 5)
-        for words in ('no form "screen;0;0;0;1;object;0;-;-" (the columns are parted by semicolons or tabs: oe-clean', 'no form "" (an empty row of a spreadsheet: oe-clean',
-                      'no form "Screen" (write screen)\n', 'no form "building"\n'):
+        for words in ('no record begins with "screen;0;0;0;1;object;0;-;-" (the columns are parted by semicolons or tabs: oe-clean', 'no record begins with "" (an empty row of a spreadsheet: oe-clean',
+                      'no record begins with "Screen" (write screen)\n', 'no record begins with "building"\n'):
             self.assertIn(words, out)
         self.assertEqual(out.count("by semicolons or tabs"), 2)
         self.assertIn("UTF-16", self.said("s\0c\0\n", "no,13,Malformed,1\n"))
@@ -104,10 +105,10 @@ class Say(Trial):
                       "    NOTICE to the FAA is required (Form 7460-1), it meets:\n"
                       "      77.9(a)         200 ft above the ground  by 0.1 ft\n",
                       "line 4: asof 2: 200.1 ft on ground of 100.0 ft, top 300.1 ft\n    over the airfields after entry 2:\n    OBSTRUCTION, it exceeds:\n"
-                      "      77.17(a)(2)     the height near AAA                               by 0.1 ft\n"
-                      "      77.19(a)        horizontal surface of AAA                         by 50.1 ft\n"
-                      "      77.19(d)        approach surface of AAA runway 09/27, end 1 (09)  by 0.1 ft\n",
-                      "      77.9(b)(1)      100 to 1 slope from AAA runway 09/27              by 98.1 ft\n",
+                      "      77.17(a)(2)     the height near AAA                   by 0.1 ft\n"
+                      "      77.19(a)        horizontal surface of AAA             by 50.1 ft\n"
+                      "      77.19(d)        approach surface of AAA runway 09     by 0.1 ft\n",
+                      "      77.9(b)(1)      100 to 1 slope from AAA runway 09/27  by 98.1 ft\n",
                       "line 5: asof,3,-152000,0,1000,2001,object,0,-,-\n    REFUSED (39): this run can tell lists as of entries 0 to 2 alone: ",
                       "screened: obstructions 0, notice only 0, without a finding 0; records refused 1; with a caution 0\n"):
             self.assertIn(words, out)
