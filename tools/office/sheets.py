@@ -9,7 +9,6 @@ from office.faults import Fault
 from office.records import read_bytes
 
 REMARK = "#"
-END_OF_WAY = ["-"]  # which `oe stations` reads behind the points of a way
 OTHER_ENCODINGS = (b"\xff\xfe", b"\xfe\xff")  # the marks of UTF-16
 TEMPLATE_REMARKS = (
     f"{REMARK} A row that begins with {REMARK} is a remark and is left out. Type records below the heading of their form.",
@@ -83,7 +82,7 @@ def about_runway(cells: list[str]) -> str | None:
 
 def fault_of(row: Row) -> str | None:
     """What is wrong with a row's cells, or nothing."""
-    if row.cells == END_OF_WAY:
+    if row.cells == [forms.END_OF_WAY]:
         return None
     number = forms.first_bad_field(row.cells)
     if number is None:
