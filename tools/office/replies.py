@@ -78,6 +78,15 @@ class AsOf:
 
 
 @dataclass(frozen=True)
+class Stations:
+    """The findings of a way of `count` stations, and of each the first station that has its excess (`oe stations`)."""
+    changes: int
+    count: int
+    entries: tuple[Entry, ...]
+    firsts: tuple[str, ...]
+
+
+@dataclass(frozen=True)
 class Verdict:
     changes: int
     notice: bool
@@ -135,7 +144,7 @@ class Report:
     lines: tuple[str, ...]
 
 
-Reply = Found | Ceiling | AsOf | Verdict | Accepted | Refusal | CaseState | AirfieldRow | Review | Sync | Report
+Reply = Found | Ceiling | AsOf | Stations | Verdict | Accepted | Refusal | CaseState | AirfieldRow | Review | Sync | Report
 
 
 def read_entries(texts: list[str]) -> tuple[Entry, ...]:
@@ -150,6 +159,9 @@ def parse(first: str, rest: Iterator[str]) -> Reply:
             return Ceiling(int(changes), None if height == NONE else int(height), read_entries(entries))
         case ["asof", number, _, *entries]:
             return AsOf(int(number), read_entries(entries))
+        case ["stations", changes, count, _, *entries]:
+            parts = [entry.rpartition(" ") for entry in entries]
+            return Stations(int(changes), int(count), read_entries([entry for entry, _, _ in parts]), tuple(station for _, _, station in parts))
         case ["verdict", changes, required, obstruction, count]:
             return Verdict(int(changes), required == "yes", obstruction == "yes", int(count))
         case ["ok", number, _, form, *values]:
@@ -188,6 +200,6 @@ def answers(form: str, reply: Reply) -> bool:
         case Accepted():
             return reply.form == {"file": "case"}.get(form, form)
         case _:
-            kinds = {"screen": (Found, Ceiling), "asof": AsOf, "verdict": Verdict, "case": CaseState, "airfield": AirfieldRow, "review": Review, "sync": Sync,
+            kinds = {"screen": (Found, Ceiling, Stations), "asof": AsOf, "verdict": Verdict, "case": CaseState, "airfield": AirfieldRow, "review": Review, "sync": Sync,
                      "report": Report}
             return isinstance(reply, kinds.get(form, ()))

@@ -5,6 +5,7 @@ from collections.abc import Iterator
 from dataclasses import dataclass
 
 from office import forms
+from office.cautions import Days
 from office.faults import Fault
 from office.records import read_bytes
 
@@ -117,6 +118,14 @@ def clean(path: str) -> tuple[list[str], list[str]]:
     wrong += reused_keys([row for row in some if row.is_record])
     return ([",".join(row.cells) if row.is_record else "" for row in some],
             [f"{path} line {line}: {why}" for line, why in sorted(wrong)])
+
+
+def far_days(path: str, some: list[str]) -> Iterator[str]:
+    """A caution for each `day` that is far from the one before it in a sheet's records, the first from the machine's."""
+    days = Days.of_office()
+    for line, text in enumerate(some, 1):
+        if text.startswith("day,"):
+            yield from (f"{path} line {line}: CAUTION: {caution}" for caution in days.cautions(forms.by_name(text.split(","))["DATE"]))
 
 
 def template() -> list[list[str]]:

@@ -1,11 +1,12 @@
 """Replies in words: heights in feet, the paragraph of 14 CFR Part 77, what was refused and what is wanted."""
 from collections.abc import Iterable
+from itertools import zip_longest
 
 from office import forms
 from office.desk import Pair
 from office.records import TENTHS, Record, feet, show
 from office.register import end_name
-from office.replies import (NONE, Accepted, AirfieldRow, AsOf, CaseState, Ceiling, Entry, Found, Refusal, Report, Review, Sync, Verdict, read_entries)
+from office.replies import (NONE, Accepted, AirfieldRow, AsOf, CaseState, Ceiling, Entry, Found, Refusal, Report, Review, Stations, Sync, Verdict, read_entries)
 from office.structures import ENTRIES_OF_DETERMINATION
 
 MALFORMED, NOT_STANDING = 13, 17
@@ -95,14 +96,14 @@ def say_entry(entry: Entry) -> tuple[str, str, str]:
     return entry.rule.paragraph, entry.rule.words.format(airfield=entry.airfield, key=key_of(entry)), excess_of(entry)
 
 
-def say_entries(entries: Iterable[Entry]) -> list[str]:
-    """Standards first, then what requires a notice, with the excesses in a column."""
-    rows = [(entry.rule.is_standard, *say_entry(entry)) for entry in entries]
+def say_entries(entries: Iterable[Entry], notes: Iterable[str] = ()) -> list[str]:
+    """Standards first, then what requires a notice, with the excesses in a column and a note behind each."""
+    rows = [(entry.rule.is_standard, *say_entry(entry), note) for entry, note in zip_longest(entries, notes, fillvalue="")]
     wide, out = max((len(row[2]) for row in rows), default=0), []
     for is_standard, head in ((True, "OBSTRUCTION, it exceeds:"), (False, "NOTICE to the FAA is required (Form 7460-1), it meets:")):
         some = [row for row in rows if row[0] == is_standard]
         out += [head] if some else []
-        out += [f"  {paragraph:<15} {text:<{wide}}  {excess}".rstrip() for _, paragraph, text, excess in some]
+        out += [f"  {paragraph:<15} {text:<{wide}}  {excess}{note}".rstrip() for _, paragraph, text, excess, note in some]
     if rows and all(row[0] for row in rows):
         out.append("no notice rule that the desk knows is met")
     return out or ["no rule that the desk knows is met"]
@@ -266,6 +267,8 @@ def say(pair: Pair) -> list[str]:
             return say_ceiling(height, entries)
         case AsOf(number, entries):
             return [f"over the airfields after entry {number}:", *say_entries(entries)]
+        case Stations(_, _, entries, firsts):
+            return say_entries(entries, [f" at station {first}" for first in firsts])
         case Verdict(_, notice, obstruction, count):
             return [f"notice required: {yes_or_no(notice)}; obstruction: {yes_or_no(obstruction)}; findings: {count} (`screen` lists them)"]
         case CaseState() as state:

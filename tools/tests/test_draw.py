@@ -207,6 +207,9 @@ class Tool(Trial, Whole):
         self.fault("name RECORDS", "oe-draw")
         self.fault("--cases wants --over", "oe-draw", *self.files, "--cases")
         self.fault("nothing to draw", "oe-draw", self.write("none", "review\n"), self.write("none.out", "review,0\n"))
+        self.fault("there is no record in it", "oe-draw", self.write("none", "\n"), self.write("none.out", ""))
+        self.fault("the desk refuses each of its records; oe-say says why", "oe-draw", self.write("none", "screen,0\nbuilding,1\n"), self.write("none.out", "no,13,Malformed,3\nno,13,Malformed,1\n"))
+        self.fault("a table of points: oe-from-points makes records of it", "oe-draw", self.write("none", "what,id\n"))
         pad = self.write("pad", "heliport,a,1,HHH,public,0,0,1000,0,500,0\n"), self.write("pad.out", "ok,1,published,heliport\n")
         self.fault("HHH is a heliport and has no runway", "oe-draw", *pad, "--profile", "HHH:1")
         self.fault("there is no sheet 2: the picture has 1 sheet", "oe-draw", *pad, "--sheet", "2")
@@ -247,6 +250,20 @@ abandon,a,7,2
         self.assertIn("1 case 1", words)
         self.assertFalse(any("case 2" in word for word in words))
         self.assertEqual(self.bytes_of_office(), before)
+
+    def test_what_is_no_file_of_records(self) -> None:
+        """The points in place of their records, and the office's file in place of both, would be a picture without structures."""
+        points = self.write("towers.csv", "what,id,name,lat,lon,elev_ft\nstructure,,Tower,1,2,3\n")
+        self.fault("a table of points: oe-from-points makes records of it", "oe-draw", points, "--over", self.office, desk=PROGRAM)
+        self.fault("is a database and no file of records: name an office's file with --over", "oe-draw", self.office, desk=PROGRAM)
+        self.fault("there is no record in it", "oe-draw", self.write("none", ""), "--over", self.office, desk=PROGRAM)
+
+    def test_the_day_of_an_office(self) -> None:
+        """Its day is 2026-01-15, as is the machine's in tests."""
+        out = self.good("oe-say", "-", "--over", self.office, given=b"day,a,8,2026-02-16\n", desk=PROGRAM).out
+        for words in ("this day is 32 days after 2026-01-15, this machine's day", "this day is 32 days after 2026-01-15, the office's day"):
+            self.assertIn(words, out)
+        self.assertNotIn("is it mistyped", self.good("oe-say", "-", "--over", self.office, given=b"day,a,8,2026-02-15\n", desk=PROGRAM).out)
 
     def test_an_office_that_is_open(self) -> None:
         with subprocess.Popen([PROGRAM, "desk", "--db", self.office], stdin=subprocess.PIPE, stdout=subprocess.PIPE) as open_desk:

@@ -112,8 +112,8 @@ class Replies(unittest.TestCase):
                 self.assertTrue(all(words.say(pair)), pair)
                 kinds.add(type(pair.reply))
                 rules |= {entry.rule.name for entry in pair.reply.entries} if isinstance(pair.reply, Found) else set()
-        # the stored sessions are those of `oe desk`, which has no ceilings and no earlier lists; test_say has them, and the last entry
-        self.assertEqual(kinds | {replies.AsOf, replies.Ceiling, replies.Sync}, set(replies.Reply.__args__))
+        # the stored sessions are those of `oe desk`, which has no ceilings, no ways and no earlier lists; test_say and test_every_reply have them, and the last entry
+        self.assertEqual(kinds | {replies.AsOf, replies.Ceiling, replies.Stations, replies.Sync}, set(replies.Reply.__args__))
         self.assertEqual(rules, set(replies.RULES))
 
     def test_each_rule_is_said_by_its_paragraph(self) -> None:

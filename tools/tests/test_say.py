@@ -119,7 +119,7 @@ class Say(Trial):
         out = self.said(f"asof,01,{site},object,0,-,-\nasof,1,{site},tower,0,-,-\nasof,1,{site},object,0,-,-\n",
                         "no,13,Malformed,2\nno,13,Malformed,7\nno,13,Malformed,1\n")
         for words in ('REFUSED (13) at field 2, N: "01" (a sign or zeros before the number); wanted is the number of an entry',
-                      'REFUSED (13) at field 7, KIND: "tower"; wanted is object', "REFUSED (13) at field 1: `oe asof` alone answers it"):
+                      'REFUSED (13) at field 7, KIND: "tower" (write antenna for an antenna structure, else object); wanted is object', "REFUSED (13) at field 1: `oe asof` alone answers it"):
             self.assertIn(words, out)
         self.fault("another sort", "oe-say", self.write("in", f"asof,1,{site},object,0,-,-\n"), self.write("out", "found,1,1,9a - - 1\n"))
 
@@ -162,6 +162,14 @@ class Say(Trial):
         self.fault("2 columns", "oe-say", self.write("in", ""), self.write("out", ""), "--names", self.write("names", "1,2\n"))
         self.fault("no such file", "oe-say", self.write("in", TWO), "--over", "office.db")
         self.fault("is it a file of", "oe-say", self.write("in", TWO), "--over", self.write("office.db", "no database" * 100))
+
+    def test_files_that_are_no_records(self) -> None:
+        """They are said to be none before a desk is asked, since it would run what looks like a record in them."""
+        for content, words in ((b"SQLite format 3\0" + b"screen,0,0,0,1,object,0,-,-\n", "a database and no file of records"),
+                               (TWO.encode() + b"review\0\n", "line 3 has a NUL in it"), (TWO.encode("utf-16"), "line 1 has a NUL in it (a sheet in UTF-16?"),
+                               (b"what,id,lat,lon\nstructure,,1,2\n", 'line 1 begins with "what": a table of points'), (b"\nScreen,0\n", 'line 2 begins with "Screen": write screen'),
+                               (b"screen;0;0\n", "by semicolons or tabs"), (b"<html>\n<p>\n", 'line 1 begins with "<html>"')):
+            self.fault(words, "oe-say", self.write("in", content))
 
 
 class Cautions(Trial):
@@ -215,7 +223,37 @@ class Cautions(Trial):
         self.assertIn("it is on AAA, which is private", out)
 
     def test_a_file_without_a_record(self) -> None:
-        self.assertIn("CAUTION: there is no record in this file", self.said("\n\n", ""))
+        out = self.said("\n\n", "")
+        self.assertIn("CAUTION: there is no record in this file", out)
+        self.assertIn("with a caution 0, and 1 of the whole file\n", out)
+
+    def test_a_day_that_is_far(self) -> None:
+        """From the machine's, which is 2026-01-15 in tests, and then from the one before it in the file."""
+        def day(number: int, text: str) -> str:
+            return f"day,o,{number},{text}\n"
+        for days, words in ((("2026-02-15",), ()), (("2025-12-15",), ()), (("2026-02-16",), ("this day is 32 days after 2026-01-15, this machine's day",)),
+                            (("2062-01-15",), ("this day is 13,149 days after 2026-01-15, this machine's day",)),
+                            (("2025-12-14",), ("this day is 32 days before 2026-01-15, this machine's day",)),
+                            (("2026-01-14", "2026-01-15", "2062-01-16"), ("this day is 13,150 days after 2026-01-15, the day before it here",)),
+                            (("2024-01-14", "2024-01-15"), ("this day is 732 days before 2026-01-15, this machine's day",))):
+            records = "".join(day(number, text) for number, text in enumerate(days))
+            out = self.good("oe-say", self.write("in", records), self.write("out", "".join(f"ok,{number},published,day\n" for number in range(1, len(days) + 1))), "--short").out
+            self.assertEqual(out.count("CAUTION"), len(words), days)
+            for text in words:
+                self.assertIn(text + ": is it mistyped? The desk's day never goes back", out)
+        self.assertNotIn("CAUTION", self.said(day(1, "2062-01-15"), "no,28,KeyReused,1\n"))
+
+    def test_an_airfield_under_two_ids(self) -> None:
+        here, there = "airport,a,1,SJC,public,0,0,620\n", "airport,a,2,KSJC,public,10000,0,620\n"
+        two = "ok,1,published,airport\nok,2,published,airport\n"
+        self.assertIn("line 2: airport,a,2,KSJC,public,10000,0,620\n    entry 2: airport KSJC is registered\n"
+                      "    CAUTION: KSJC stands where SJC does: is it one airport under two IDs? `drop` takes one out\n", self.said(here + there, two))
+        self.assertNotIn("CAUTION", self.said(here + there.replace("10000", "10001"), two))
+        self.assertNotIn("CAUTION", self.said(here + there.replace("KSJC", "SJC"), two))
+        pads = "heliport,a,1,HHH,public,0,0,500,0,500,50\nheliport,a,2,PAD,public,0,500,500,500,500,50\n"
+        self.assertIn("PAD stands where HHH does", self.said(pads, two.replace("airport", "heliport")))
+        self.assertNotIn("CAUTION", self.said(pads.replace("500,500,500", "501,500,501"), two.replace("airport", "heliport")))
+        self.assertNotIn("CAUTION", self.said(here + pads.splitlines()[1] + "\n", "ok,1,published,airport\nok,2,published,heliport\n"))
 
     def test_numbers_in_the_wrong_place(self) -> None:
         answered = "ok,1,published,airport\nok,2,published,runway\nfound,2,0\n"
