@@ -111,7 +111,7 @@ def draw_row(svg: Svg, at: Pixel, width: float, row: Numbered, listing: Listing)
     draw_title(svg, at, width, row)
     place, rest = summary(one, listing.airfields)
     rest += ("" if number in listing.shown else OFF_MAP) + (" *" if listing.is_old(one) else "")
-    place = picture.cut(place, 11.5, width - 44 - picture.width_of(rest, 11.5))
+    place = picture.cut(place, 11.5, width - 40 + GAP / 2 - picture.width_of(rest, 11.5))
     svg.words((x + 40, y + 2.5), place + rest, Style(11.5, MARKS[one.finding].text))
 
 
