@@ -12,7 +12,6 @@ from office.replies import NONE, Accepted, AsOf, Ceiling, Found, Stations, Verdi
 FAR_AWAY = 200_000  # feet; no surface of an airport reaches as far
 FEET_FOR_TENTHS = range(100, 1000)  # tallest structures of a file that may have been written in feet
 TALLER_THAN_GROUND = 5000  # tenths of a foot; a taller structure on low ground is looked at twice
-EXEMPT = "SDR"
 SAME_PLACE = {"airport": (Airport, 1_000), "heliport": (Heliport, 50)}  # feet between two IDs of one airfield
 FAR_DAYS = 31
 BEFORE_IT = "the day before it here"
@@ -99,7 +98,7 @@ def is_exempt(pair: Pair) -> bool:
     """Whether a notice rule may be taken away by 77.9(e)."""
     values = pair.record.values
     is_small = values["KIND"] == "antenna" and int(values["HEIGHT"]) <= 200
-    return is_small or any(letter in values["FLAGS"] for letter in EXEMPT)
+    return is_small or any(letter in values["FLAGS"] for letter in forms.EXEMPT)
 
 
 def of_structure(pair: Pair) -> list[str]:
@@ -115,7 +114,7 @@ def of_structure(pair: Pair) -> list[str]:
 
 
 def of_flags(pair: Pair) -> list[str]:
-    is_taken = any(letter in pair.record.values["FLAGS"] for letter in EXEMPT)
+    is_taken = any(letter in pair.record.values["FLAGS"] for letter in forms.EXEMPT)
     return ["flag S, D or R takes every notice rule away (77.9(e)): does it hold?"] if is_taken else []
 
 
@@ -134,7 +133,7 @@ def cautions(pair: Pair, register: Register, days: Days) -> list[str]:
     out = of_register(pair, register) + of_earlier(pair) + of_airfield(pair, register)
     if has_structure(pair):
         out += of_structure(pair)
-    if has_structure(pair) or isinstance(pair.reply, Ceiling | Stations):
+    if has_structure(pair) or isinstance(pair.reply, Stations):
         out += of_flags(pair)
     if pair.is_accepted and pair.record.form == "day":
         out += days.cautions(pair.record.values["DATE"])

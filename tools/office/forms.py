@@ -11,6 +11,7 @@ LONGEST_QUOTED = 60  # letters of a field that was refused
 WORDS_OF_POINTS = ("what", "end", "pad", "structure")  # of a table for oe-from-points
 SEPARATORS = ",;\t"  # a spreadsheet saves semicolons where a comma begins the decimals
 FLAG_LETTERS = "SDRIGT"
+EXEMPT = "SDR"  # flags that take every notice rule away, 77.9(e)
 CURLY_QUOTES, DASHES = "\u201c\u201d\u201e\u2018\u2019\u201a\u00ab\u00bb", "\u2010\u2011\u2012\u2013\u2014\u2212"  # of programs that set text
 MOST_DEGREES, DECIMALS_OF_FEET = 180, 3  # with the point
 ALIKE = .75  # how near a word is to one that is wanted, of 1

@@ -12,6 +12,8 @@ from office.structures import ENTRIES_OF_DETERMINATION
 MALFORMED, NOT_STANDING = 13, 17
 KEYS_OF_ENDS = ("19d", "19e", "23a", "23t")  # rules whose key names an end, or 0 for what lies between the ends
 STATUSES = {"awaiting": "awaiting its determination", "inforce": "in force", "hazard": "a HAZARD in effect"}  # and others, as they are
+NO_NOTICE = "no notice rule that the desk knows is met"
+NOT_ASKED = "notice rules were not asked: flag S, D or R takes them away (77.9(e))"
 REFUSALS = {  # {0} and {1} are the values of the refusal
     2: "a utility runway cannot have a precision approach, nor be planned for one",
     3: "no airfield of this ID is registered: register it first, or look for a misspelt ID",
@@ -105,13 +107,16 @@ def say_entries(entries: Iterable[Entry], notes: Iterable[str] = ()) -> list[str
         out += [head] if some else []
         out += [f"  {paragraph:<15} {text:<{wide}}  {excess}{note}".rstrip() for _, paragraph, text, excess, note in some]
     if rows and all(row[0] for row in rows):
-        out.append("no notice rule that the desk knows is met")
+        out.append(NO_NOTICE)
     return out or ["no rule that the desk knows is met"]
 
 
-def say_ceiling(height: int | None, entries: Iterable[Entry]) -> list[str]:
-    head = "at every height it has a finding:" if height is None else f"without a finding up to {feet_of(height)} above the ground; 0.1 ft higher:"
-    return [head, *say_entries(entries)]
+def say_ceiling(height: int | None, entries: Iterable[Entry], flags: str) -> list[str]:
+    """With a flag that takes the notice rules away the height is that of the standards alone."""
+    is_exempt = any(letter in flags for letter in forms.EXEMPT)
+    none, some = ("no standard is exceeded", "a standard is exceeded") if is_exempt else ("without a finding", "it has a finding")
+    head = f"at every height {some}:" if height is None else f"{none} up to {feet_of(height)} above the ground; 0.1 ft higher:"
+    return [head, *(NOT_ASKED if is_exempt and line == NO_NOTICE else line for line in say_entries(entries))]
 
 
 def say_lateness(text: str) -> str:
@@ -264,7 +269,7 @@ def say(pair: Pair) -> list[str]:
         case Found(_, entries):
             return say_entries(entries)
         case Ceiling(_, height, entries):
-            return say_ceiling(height, entries)
+            return say_ceiling(height, entries, pair.record.values["FLAGS"])
         case AsOf(number, entries):
             return [f"over the airfields after entry {number}:", *say_entries(entries)]
         case Stations(_, _, entries, firsts):

@@ -183,13 +183,17 @@ class Cautions(Trial):
         self.assertIn(EMPTY, self.said("airport,a,1,AAA,public,0,0,999999\nscreen,0,0,0,2500,object,0,-,-\n", "no,9,ElevationRange\nfound,0,0\n"))
 
     def test_places_of_ceilings(self) -> None:
-        """The height 0 of a place is no mistake; an empty desk, a misspelt airfield and a flag are."""
+        """The height 0 of a place is no mistake, and a flag asks for the standards alone; an empty desk and a misspelt airfield are mistakes."""
         site = "screen,0,0,1000,0,object,0,"
         self.assertIn(EMPTY, self.said(f"{site}-,-\n", "ceiling,0,2000,1,9a - - 1\n"))
         self.assertNotIn("CAUTION", self.said(f"{site}-,-\n", "ceiling,2,1020,1,9b1 AAA 09/27 1\n"))
         self.assertNotIn("CAUTION", self.said(f"{site}-,AAA\n", "ceiling,2,-,1,9d AAA - 0\n"))
         self.assertIn("is AAB registered", self.said(f"{site}-,AAB\n", "ceiling,2,1020,1,9b1 AAA 09/27 1\n"))
-        self.assertIn("flag S, D or R", self.said(f"{site}S,-\n", "ceiling,2,1500,1,19a AAA - 1\n"))
+        out = self.said(f"{site}S,-\n{site}R,-\n", "ceiling,2,1500,1,19a AAA - 1\nceiling,2,-,1,19c AAA 09/27 1\n")
+        self.assertIn("    no standard is exceeded up to 150.0 ft above the ground; 0.1 ft higher:\n    OBSTRUCTION, it exceeds:\n"
+                      "      77.19(a)        horizontal surface of AAA  by 0.1 ft\n    notice rules were not asked: flag S, D or R takes them away (77.9(e))\n", out)
+        self.assertIn("    at every height a standard is exceeded:\n", out)
+        self.assertNotIn("CAUTION", out)
 
     def test_as_of_an_earlier_entry(self) -> None:
         """Entry 0 has no airfield; an airfield may not have been there yet; a flag, and numbers in the wrong place, are as now."""
