@@ -96,7 +96,8 @@ def stored_airfields(db: str) -> list[Record]:
 
 def stored_day(db: str) -> str | None:
     """The desk's day in an office's file."""
-    return dict(table(db, DAY_TABLE)).get("now")
+    day = dict(table(db, DAY_TABLE)).get("now", "")
+    return day if forms.is_day(day) else None
 
 
 def stored_cases(db: str) -> list[tuple[str, Record]]:
@@ -113,7 +114,8 @@ def pair_up(some: list[Record], told: list[str], path: str) -> list[Pair]:
         reply = replies.read(rest)
         if reply is None:
             raise Fault(f"the replies end before line {one.line} of {path}: the desk stopped there, or they are not its replies")
-        if not replies.answers(one.form, reply):
+        is_good = bool(one.fields) and forms.first_bad_field(one.fields) is None
+        if not replies.answers(one.form, reply) or not is_good and not isinstance(reply, Refusal):
             raise Fault(f'line {one.line} of {path} is "{one.form}", and its reply is of another sort: these are not its replies')
         pairs.append(Pair(one, reply))
     if next(rest, None) is not None:

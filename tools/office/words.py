@@ -6,11 +6,9 @@ from office import forms
 from office.desk import Pair
 from office.records import TENTHS, Record, feet, show
 from office.register import end_name
-from office.replies import (NONE, Accepted, AirfieldRow, AsOf, CaseState, Ceiling, Entry, Found, Refusal, Report, Review, Stations, Sync, Verdict, read_entries)
-from office.structures import ENTRIES_OF_DETERMINATION
+from office.replies import (ENDS, ENTRIES_OF_DETERMINATION, MALFORMED, NONE, NOT_STANDING, Accepted, AirfieldRow, AsOf, CaseState, Ceiling, Entry,
+                            Found, Refusal, Report, Review, Stations, Sync, Verdict, read_entries)
 
-MALFORMED, NOT_STANDING = 13, 17
-KEYS_OF_ENDS = ("19d", "19e", "23a", "23t")  # rules whose key names an end, or 0 for what lies between the ends
 STATUSES = {"awaiting": "awaiting its determination", "inforce": "in force", "hazard": "a HAZARD in effect"}  # and others, as they are
 NO_NOTICE = "no notice rule that the desk knows is met"
 NOT_ASKED = "notice rules were not asked: flag S, D or R takes them away (77.9(e))"
@@ -68,7 +66,7 @@ def parts_of(entry: Entry) -> tuple[str, int]:
 def key_of(entry: Entry) -> str:
     """The key of a finding in words: the runway, or the runway end by its own designator, and beside what a transitional surface lies."""
     name = entry.rule.name
-    if name not in KEYS_OF_ENDS:
+    if name not in ENDS:
         return entry.key
     runway, number = parts_of(entry)
     if name == "19e":
@@ -80,7 +78,7 @@ def key_of(entry: Entry) -> str:
 
 def short_key(entry: Entry) -> str:
     """The key of a finding in a picture, which has the same numbers at the approaches of a heliport."""
-    if entry.rule.name not in KEYS_OF_ENDS:
+    if entry.rule.name not in ENDS:
         return "" if entry.key == NONE else entry.key
     runway, number = parts_of(entry)
     if runway:

@@ -154,6 +154,11 @@ class Say(Trial):
                                ("ok,1,published,airport\nok,2,published,runway\nfound,2,0\n", "more replies than records"),
                                ("ok,1,published,airport\nfound,x,0\n", "no whole reply"), ("report,expiry,3\n", "no whole reply")):
             self.fault(words, "oe-say", records, self.write("out", replies))
+        for record, reply, words in (("file,a,1", "ok,1,published,case,1,timely,-,-", "another sort"), ("screen,0,0,0,x,object,0,-,-", "found,1,0", "another sort"),
+                                     ("day,a,1,2026-01-15", "no,16,DayBack,2026-01-15", "no whole reply"), ("x", "no,13,Malformed,x", "no whole reply"),
+                                     ("determine,a,1,1,-", "ok,1,published,determine,1,nohazard", "no whole reply"), ("airfield,AAA", "airfield,airport,public,x,0,0", "no whole reply"),
+                                     ("screen,0,0,0,1,object,0,-,-", "found,1,1,19d AAA 09/27.3 1", "no whole reply"), ("screen,0,0,0,1,object,0,-,-", "found,1,1,23a AAA - 1", "no whole reply")):
+            self.fault(words, "oe-say", self.write("in", record + "\n"), self.write("out", reply + "\n"))
 
     def test_faults(self) -> None:
         self.fault("No such file", "oe-say", "nothing")
