@@ -132,7 +132,7 @@ class Points(Trial):
                 (ENDS.replace("09/27", "27-Sep"), 'line 3: NAME "27-Sep" (a spreadsheet\'s date: format the column as text); wanted'),
                 (AIRPORT.replace("20.6", "20.65"), "points.csv line 2 (TST), elev_ft: 20.65 ft is finer than a tenth"),
                 (AIRPORT.replace("40.75", "404500N"), "line 2 (TST), lat"), (AIRPORT.replace("40.75", ""), '"airport" wants lat'),
-                (AIRPORT.replace("public", "PU"), 'line 2: CATEGORY "PU"; wanted is public'), (AIRPORT.replace("TST", "tst"), 'ID "tst"'),
+                (AIRPORT.replace("public", "PU"), 'line 2: CATEGORY "PU" (write public); wanted is public'), (AIRPORT.replace("TST", "tst"), 'ID "tst"'),
                 (AIRPORT.replace("airport,", "aiport,"), 'what is "aiport"'), (ENDS.splitlines()[0] + "\n", "line 2: TST 09/27 has one end"),
                 (ENDS.replace("hard,NA", "soft,NA"), 'differ in surface: "hard" and "soft"'),
                 (ENDS.replace("P,,,,", "P,,,,5000").replace("NA,,,,", "NA,,,,5001"), "differ in published_ft: 5000 and 5001"), (ENDS.replace("NA", "PIR"), 'KIND2 "PIR"'),
