@@ -8,7 +8,7 @@ ghost use Rattle.wire_requests.specs.declared.request.Query.TheVariants as queri
 
 use crate::place::Place;
 use airfields::Filing;
-use desk_queries::{screen as find, verdict as verdict_on};
+use desk_queries::{screen, verdict};
 use grid_exact::NoMemory;
 use oe_findings::Findings;
 use oe_wire::{Query, Refusal, Reply, Request, append_found, append_reply};
@@ -17,7 +17,7 @@ use std::alloc::Global;
 use std::sync::Wait;
 
 /// Appends the reply with the findings of a structure. `list` is a buffer that is reused.
-fn screen<F: Front<J>, J: Opening, R: Wait>(
+fn append_findings<F: Front<J>, J: Opening, R: Wait>(
     alloc: Global,
     place: &mut Place<'_, F, J, R>,
     list: &mut Findings,
@@ -34,14 +34,14 @@ fn screen<F: Front<J>, J: Opening, R: Wait>(
     let Ok(shown) = place.look() else {
         return append_reply(text, &Reply::Refused(Refusal::NoMemory));
     };
-    if find(alloc, &shown.value, list, filing).is_err() {
+    if screen(alloc, &shown.value, list, filing).is_err() {
         return append_reply(text, &Reply::Refused(Refusal::NoMemory));
     }
     append_found(text, place.seat.base() + shown.number, list.as_slice())
 }
 
 /// Appends the reply with the verdict on a structure's findings.
-fn verdict<F: Front<J>, J: Opening, R: Wait>(
+fn append_verdict<F: Front<J>, J: Opening, R: Wait>(
     place: &mut Place<'_, F, J, R>,
     filing: &Filing,
     text: &mut String,
@@ -58,7 +58,7 @@ fn verdict<F: Front<J>, J: Opening, R: Wait>(
     };
     let reply = Reply::Verdict {
         last: place.seat.base() + shown.number,
-        verdict: verdict_on(&shown.value, filing),
+        verdict: verdict(&shown.value, filing),
     };
     append_reply(text, &reply)
 }
@@ -99,8 +99,8 @@ pub(crate) fn ask<F: Front<J>, J: Opening, R: Wait>(
     ensures part { OnErr result (Extends (string_bytes text.old) (string_bytes text.new)) }
 {
     match query {
-        Query::Screen(filing) => screen(alloc, place, list, filing, text),
-        Query::Verdict(filing) => verdict(place, filing, text),
+        Query::Screen(filing) => append_findings(alloc, place, list, filing, text),
+        Query::Verdict(filing) => append_verdict(place, filing, text),
         Query::Sync => sync(place, text),
         Query::Case(_) | Query::Airfield(_) | Query::Review | Query::Report(_) => {
             place.ask(alloc, query, text)

@@ -8,7 +8,7 @@ use Rattle.wire_replies.specs.declared.reply.Reply.TheVariants as replies
 use Rattle.desk_service.proofs.Lines.{after, ok_shown, on_err, on_ok}
 use Rattle.desk_service.proofs.Staying.{shown, wanting}
 use Rattle.desk_service.proofs.Numbers.{found_is, number_is, version_here}
-use Rattle.desk_service.proofs.fulfil.screen.Goals as goal
+use Rattle.desk_service.proofs.fulfil.append_findings.Goals as goal
 
 pub returns-in_default-clause-ok : goal.returns-in_default-clause-ok
 returns-in_default-clause-ok g c =
@@ -24,7 +24,7 @@ returns-clause-ok g c =
     let w : List Airfield = arc_value c.in-Ok.shown.value in
     let t = c.look.new.self in
     let last : c.base.result + c.in-Ok.shown.number ≡ g.J.Naming.base + length t.front = number_is _ _ _ _ t.front c.base.ensures c.in-Ok.shown.counted c.in-Ok.ensures.front in
-    let list : c.as_slice.result.now ≡ findings_of w site = c.as_slice.ensures ∙ ok_shown c.find.result c.if-is_err.ensures.value c.find.ensures.found ∙ ap (λ (xs : List Airfield). findings_of xs site) c.deref.ensures in
+    let list : c.as_slice.result.now ≡ findings_of w site = c.as_slice.ensures ∙ ok_shown c.screen.result c.if-is_err.ensures.value c.screen.ensures.found ∙ ap (λ (xs : List Airfield). findings_of xs site) c.deref.ensures in
     on_ok c.append_found.result
     (λ appended. shown g.F.Keeper.Keeper.IsSteady g.F.Keeper.Keeper.faults g.J.Naming.first g.J.Naming.base g.J.Opening.opening (queries.Screen site) (replies.Found (c.base.result + c.in-Ok.shown.number) c.as_slice.result.now) _ _ c.args.place.now t
     (w, version_here g.J.Naming.first c.in-Ok.shown.front t.front w c.in-Ok.ensures.front c.in-Ok.ensures.version, found_is _ _ _ _ last list) c.in-Ok.ensures.looks tt appended) c.append_found.ensures.ok
@@ -46,7 +46,7 @@ returns-clause-made g c =
     let s = c.args.place.now in
     let t = c.look.new.self in
     let last : c.base.result + c.in-Ok.shown.number ≡ g.J.Naming.base + length t.front = number_is _ _ _ _ t.front c.base.ensures c.in-Ok.shown.counted c.in-Ok.ensures.front in
-    let list : c.as_slice.result.now ≡ findings_of w site = c.as_slice.ensures ∙ ok_shown c.find.result c.if-is_err.ensures.value c.find.ensures.found ∙ ap (λ (xs : List Airfield). findings_of xs site) c.deref.ensures in
+    let list : c.as_slice.result.now ≡ findings_of w site = c.as_slice.ensures ∙ ok_shown c.screen.result c.if-is_err.ensures.value c.screen.ensures.found ∙ ap (λ (xs : List Airfield). findings_of xs site) c.deref.ensures in
     on_err c.append_found.result
     (after g.F.Keeper.Keeper.IsSteady g.F.Keeper.Keeper.faults g.J.Naming.first g.J.Naming.base g.J.Opening.opening s t (requests.Query (queries.Screen site)) _
     (shown g.F.Keeper.Keeper.IsSteady g.F.Keeper.Keeper.faults g.J.Naming.first g.J.Naming.base g.J.Opening.opening (queries.Screen site) (replies.Found (c.base.result + c.in-Ok.shown.number) c.as_slice.result.now) [] _ s t

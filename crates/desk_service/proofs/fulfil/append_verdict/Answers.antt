@@ -9,7 +9,7 @@ use Rattle.wire_replies.specs.declared.reply.Reply.TheVariants as replies
 use Rattle.desk_service.proofs.Lines.{after, on_err, on_ok}
 use Rattle.desk_service.proofs.Staying.{shown, wanting}
 use Rattle.desk_service.proofs.Numbers.{number_is, verdict_is, version_here}
-use Rattle.desk_service.proofs.fulfil.verdict.Goals as goal
+use Rattle.desk_service.proofs.fulfil.append_verdict.Goals as goal
 
 pub returns-in_default-clause-ok : goal.returns-in_default-clause-ok
 returns-in_default-clause-ok g c =
@@ -21,7 +21,7 @@ returns-clause-ok g c =
     let w : List Airfield = arc_value c.in-Ok.shown.value in
     let t = c.look.new.self in
     let last : c.base.result + c.in-Ok.shown.number ≡ g.J.Naming.base + length t.front = number_is _ _ _ _ t.front c.base.ensures c.in-Ok.shown.counted c.in-Ok.ensures.front in
-    let found : c.verdict.result ≡ verdict_of (findings_of w site) = c.verdict.ensures.found ∙ ap (λ (xs : List Airfield). verdict_of (findings_of xs site)) c.deref.ensures in
+    let found : c.verdict.result ≡ verdict_of (findings_of w site) = c.verdict.ensures ∙ ap (λ (xs : List Airfield). verdict_of (findings_of xs site)) c.deref.ensures in
     on_ok c.append_reply-2.result
     (λ appended. shown g.F.Keeper.Keeper.IsSteady g.F.Keeper.Keeper.faults g.J.Naming.first g.J.Naming.base g.J.Opening.opening (queries.Verdict site) (replies.Verdict (c.base.result + c.in-Ok.shown.number) c.verdict.result) _ _ c.args.place.now t
     (w, version_here g.J.Naming.first c.in-Ok.shown.front t.front w c.in-Ok.ensures.front c.in-Ok.ensures.version, verdict_is _ _ _ _ last found) c.in-Ok.ensures.looks tt appended) c.append_reply-2.ensures.ok
@@ -38,7 +38,7 @@ returns-clause-made g c =
     let s = c.args.place.now in
     let t = c.look.new.self in
     let last : c.base.result + c.in-Ok.shown.number ≡ g.J.Naming.base + length t.front = number_is _ _ _ _ t.front c.base.ensures c.in-Ok.shown.counted c.in-Ok.ensures.front in
-    let found : c.verdict.result ≡ verdict_of (findings_of w site) = c.verdict.ensures.found ∙ ap (λ (xs : List Airfield). verdict_of (findings_of xs site)) c.deref.ensures in
+    let found : c.verdict.result ≡ verdict_of (findings_of w site) = c.verdict.ensures ∙ ap (λ (xs : List Airfield). verdict_of (findings_of xs site)) c.deref.ensures in
     on_err c.append_reply-2.result
     (after g.F.Keeper.Keeper.IsSteady g.F.Keeper.Keeper.faults g.J.Naming.first g.J.Naming.base g.J.Opening.opening s t (requests.Query (queries.Verdict site)) _
     (shown g.F.Keeper.Keeper.IsSteady g.F.Keeper.Keeper.faults g.J.Naming.first g.J.Naming.base g.J.Opening.opening (queries.Verdict site) (replies.Verdict (c.base.result + c.in-Ok.shown.number) c.verdict.result) [] _ s t
