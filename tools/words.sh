@@ -27,7 +27,7 @@ END
     exit
 }
 
-# Ends where the words ask for help or for the version. The program would refuse such words: no value that it takes begins with a dash.
+# Ends if the words ask for help or for the version. The program would refuse such words: no value that it takes begins with a dash.
 answer_words() {
     case ${1-} in
         --help | -h | help) say_usage ;;
