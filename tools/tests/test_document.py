@@ -1,4 +1,4 @@
-"""The examples of docs/TOOLS.md, typed as they stand there, and that each tool says what it is."""
+"""The examples of docs/TOOLS.md and docs/FIVE-MINUTES.md, typed as they stand there, and that each tool says what it is."""
 import importlib.util
 import os
 import shutil
@@ -54,6 +54,20 @@ class Document(Trial):
                 self.assertEqual(self.type(one), one.shown, one.command)
         for picture in PICTURES if PROGRAM else ():
             self.assertEqual((self.folder / "out" / picture).read_text(), (stored.TOP / "docs" / picture).read_text(), f"look at {picture}, then copy it to docs")
+
+    @unittest.skipUnless(PROGRAM and importlib.util.find_spec("pyproj"), "no program is named, or pyproj is missing")
+    def test_five_minutes(self) -> None:
+        """Its lines are a dozen, run one after another with nothing beside them, and make the picture that the page shows."""
+        page = (stored.TOP / "docs" / "FIVE-MINUTES.md").read_text()
+        lines = [line[2:] for line in page.splitlines() if line.startswith(("$ ", "> "))]
+        room = self.folder / "bin"
+        room.mkdir()
+        (room / "oe").symlink_to(PROGRAM or "")
+        environment = {**os.environ, "PATH": f"{room}:{TOOLS}:{os.environ['PATH']}", "PYTHONDONTWRITEBYTECODE": "1"}
+        subprocess.run(["sh", "-e", "-c", "\n".join(lines)], cwd=self.folder, env=environment, check=True, capture_output=True)
+        self.assertEqual(len(lines), 12)
+        self.assertEqual((self.folder / "five-minutes.svg").read_text(), (stored.TOP / "docs" / "five-minutes.svg").read_text())
+        self.assertIn("](five-minutes.svg)", page)
 
     def test_each_tool_says_what_it_is(self) -> None:
         names = sorted(tool.name for tool in TOOLS.glob("oe-*"))
