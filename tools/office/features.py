@@ -1,14 +1,13 @@
 """What a map shows of airfields and structures: shapes with heights in feet of the grid, and what is known of each."""
 import math
 from collections.abc import Iterable, Sequence
-from dataclasses import dataclass
-from enum import Enum
 
 from office import reaches, words
 from office.faults import Fault
 from office.records import show
 from office.register import Airfield, Airport, Point
 from office.replies import RULES, Entry
+from office.shapes import Feature, Layer, Ring
 from office.structures import Finding, Structure
 from office.surfaces import Area, Look, surfaces_of
 
@@ -22,48 +21,6 @@ except ImportError as error:
 BEYOND_ALL = 1e7  # feet; no surface reaches so far from a line
 LEAST_AREA = 1  # square feet; a smaller piece of a surface is an error of its edges
 CIRCLE = 360  # corners of a circle
-ABOUT = ("Surfaces of 14 CFR 77.19 and 77.23 in floating point, beside the proved desk and not proved themselves. "
-         "What a structure exceeds is the desk's reply. No determination of the FAA.")
-
-Corner = tuple[float, float, float | None]  # east, north and height, which is nothing where it has none
-Ring = list[Corner]  # its last corner is its first
-
-
-class Layer(Enum):
-    SURFACE = "surface"
-    REACH = "reach"
-    RUNWAY = "runway"
-    AIRFIELD = "airfield"
-    STRUCTURE = "structure"
-
-
-class Shape(Enum):
-    POLYGONS = "MultiPolygon"
-    LINE = "LineString"
-    POINT = "Point"
-
-
-SHAPES = {Layer.SURFACE: Shape.POLYGONS, Layer.REACH: Shape.POLYGONS, Layer.RUNWAY: Shape.LINE, Layer.AIRFIELD: Shape.POINT, Layer.STRUCTURE: Shape.POINT}
-
-
-@dataclass(frozen=True)
-class Feature:
-    """A shape, and its properties by name. `parts` are polygons of rings, the outer ring of each first; a line is one ring that may be open, and a
-    point one ring of one corner. All features of a layer have the same properties."""
-    layer: Layer
-    airfield: str
-    name: str
-    properties: dict[str, str | float]
-    parts: list[list[Ring]]
-
-    @property
-    def shape(self) -> Shape:
-        return SHAPES[self.layer]
-
-    @property
-    def look(self) -> str:
-        """How it is painted: a surface by its sort, a structure by its finding."""
-        return str(self.properties.get("surface") or self.properties.get("finding") or self.layer.value)
 
 
 def rings_of(polygon: "geometry.Polygon", area: Area | None) -> list[Ring]:
@@ -168,16 +125,5 @@ def structure_feature(structure: Structure, last_change: int) -> Feature:
 def features(airfields: Sequence[Airfield], structures: Iterable[Structure], last_change: int) -> list[Feature]:
     """All that a map shows, layer by layer."""
     some = [one for airfield in airfields for one in (*surface_features(airfield), *reach_features(airfield), *airfield_features(airfield))]
-    some += [structure_feature(structure, last_change) for structure in structures]
+    some += [structure_feature(structure, last_change) for structure in sorted(structures, key=lambda one: list(Finding).index(one.finding))]
     return [one for layer in Layer for one in some if one.layer is layer]
-
-
-def conical_faces(feature: Feature) -> list[Ring]:
-    """The conical surface of a feature as many small planes, between corners of its two edges in the same direction."""
-    (outer, inner), = feature.parts
-    inner = inner[::-1]
-    return [[outer[i], outer[i + 1], inner[i + 1], inner[i], outer[i]] for i in range(len(outer) - 1)]
-
-
-def is_conical(feature: Feature) -> bool:
-    return feature.properties.get("surface") == Look.CONICAL.value

@@ -4,7 +4,7 @@ import math
 from collections.abc import Callable, Iterable, Sequence
 
 from office.faults import Fault
-from office.features import ABOUT, Corner, Feature, Ring, Shape
+from office.shapes import ABOUT, Corner, Feature, Ring, Shape
 from office.grids import FEET, Grid
 
 METRES = FEET["US survey foot"]  # of a foot of height; an international one differs by 2 in a million

@@ -7,7 +7,7 @@ from contextlib import closing
 
 from office import qml
 from office.faults import Fault
-from office.features import SHAPES, Feature, Layer, Ring, Shape
+from office.shapes import SHAPES, Feature, Layer, Ring, Shape
 from office.geojson import coordinates
 from office.grids import Grid
 from office.picture import CIRCLE_LINE, INK, LOOKS, MARKS, NOTICE_LINE

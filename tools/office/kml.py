@@ -3,7 +3,7 @@ import html
 import xml.etree.ElementTree as Xml
 from collections.abc import Iterable, Sequence
 
-from office.features import ABOUT, Feature, Layer, Ring, Shape, conical_faces, is_conical
+from office.shapes import ABOUT, Feature, Layer, Ring, Shape, conical_faces, is_conical
 from office.geojson import positions
 from office.grids import Grid
 from office.picture import CIRCLE_LINE, LOOKS, MARKS, NOTICE_LINE
@@ -102,7 +102,7 @@ def put_feature(folder: Xml.Element, feature: Feature, grid: Grid) -> None:
     if feature.layer in HIDDEN:
         put(placemark, "visibility", 0)
     if "words" in feature.properties:
-        put(placemark, "description", "<br/>".join(html.escape(text) for text in str(feature.properties["words"]).split("; ")))
+        put(placemark, "description", "<br/>".join(html.escape(text, quote=False) for text in str(feature.properties["words"]).split("; ")))
     put(placemark, "styleUrl", style_of(feature))
     data = put(placemark, "ExtendedData")
     for name, value in feature.properties.items():
@@ -123,7 +123,7 @@ def document(features: Iterable[Feature], grid: Grid, title: str) -> str:
     root = Xml.Element("kml", xmlns=NAMESPACE)
     top = put(root, "Document")
     put(top, "name", title)
-    put(top, "description", html.escape(f"{ABOUT} {grid.about_earth()}."))
+    put(top, "description", html.escape(f"{ABOUT} {grid.about_earth()}.", quote=False))
     put_styles(top)
     for airfield in dict.fromkeys(one.airfield for one in some if one.airfield):
         own = [one for one in some if one.airfield == airfield]

@@ -9,7 +9,7 @@ from pathlib import Path
 from urllib.parse import urlsplit
 
 from office.faults import Fault
-from office.features import ABOUT, Feature
+from office.shapes import ABOUT, Feature
 from office.geojson import member
 from office.grids import Grid
 from office.picture import CIRCLE_LINE, INK, LOOKS, MARKS, NOTICE_LINE
@@ -228,48 +228,49 @@ function runwayPopup(one) {
     : `${one.airfield}: ${one.sort}, ${one.category}, ${feet(one.elevation_ft)}`);
 }
 
-// Groups in the order in which they are drawn, each with its line of the legend.
+// What is shown and hidden together, each with its line of the legend.
 const groups = new Map();
-function group(label, swatch, shown) {
-  if (!groups.has(label)) groups.set(label, { layer: L.layerGroup(), swatch, shown });
+function group(label, swatch) {
+  if (!groups.has(label)) groups.set(label, { layer: L.layerGroup(), swatch });
   return groups.get(label).layer;
 }
+const SHARP = { smoothFactor: .2, interactive: false };
 function box(paint) {
   return `<svg class="swatch" width="22" height="12"><rect x="1" y="1" width="20" height="10" fill="${paint.fill === false ? "none" : paint.fillColor || paint.color}" fill-opacity="${paint.fillOpacity ?? 1}" stroke="${paint.color}" stroke-dasharray="${paint.dashArray || ""}"/></svg>`;
 }
 function putSurface(one) {
   const { properties } = one, paint = paints[properties.surface];
-  L.geoJSON(one, { style: { ...paint, className: "surface" }, interactive: false }).addTo(group(properties.surface, box(paint), true));
+  L.geoJSON(one, { ...SHARP, style: { ...paint, className: "surface" } }).addTo(group(properties.surface, box(paint)));
 }
 function putReach(one) {
   const isCircle = one.properties.rule === "17a2", paint = paints[isCircle ? "circle" : "notice"];
-  L.geoJSON(one, { style: { ...paint, className: "reach" }, interactive: false })
-    .addTo(group(isCircle ? "height near an airport, 77.17(a)(2)" : "notice slope ends, 77.9(b)", box(paint), true));
+  L.geoJSON(one, { ...SHARP, style: { ...paint, className: "reach" } })
+    .addTo(group(isCircle ? "height near an airport, 77.17(a)(2)" : "notice slope ends, 77.9(b)", box(paint)));
 }
 function putField(one) {
   const layer = one.geometry.type === "Point"
     ? L.marker(L.GeoJSON.coordsToLatLng(one.geometry.coordinates), { icon: L.divIcon({ className: "airfield", html: "", iconSize: [8, 8] }), title: one.properties.airfield, alt: one.properties.airfield })
         .bindTooltip(one.properties.airfield, { permanent: true, direction: "right" })
     : L.geoJSON(one, { style: { ...paints.runway, className: "runway" } });
-  layer.bindPopup(() => runwayPopup(one.properties)).addTo(group("runways and airfields", box(paints.runway), true));
+  layer.bindPopup(() => runwayPopup(one.properties)).addTo(group("runways and airfields", box(paints.runway)));
 }
 function putStructure(one) {
   const { properties } = one, mark = marks[properties.finding];
   const layer = L.marker(L.GeoJSON.coordsToLatLng(one.geometry.coordinates), {
     icon: L.divIcon({ className: "structure", html: symbol(mark, 7), iconSize: [21, 21] }), title: properties.name, alt: `${properties.name}: ${mark.words}` });
-  layer.bindPopup(() => structurePopup(properties), { maxWidth: 420 }).addTo(group(mark.words, symbol(mark, 6), true));
+  layer.bindPopup(() => structurePopup(properties), { maxWidth: 420 }).addTo(group(mark.words, symbol(mark, 6)));
   const button = element("button", undefined, document.getElementById("list"));
   button.innerHTML = symbol(mark, 6);
   element("strong", properties.name, button);
-  element("div", properties.words, button).style.color = mark.text;
+  for (const text of properties.words.split("; ")) element("div", text, button).style.color = mark.text;
   button.addEventListener("click", () => { layer.openPopup(); map.panTo(layer.getLatLng()); });
 }
 
 for (const one of features) ({ surface: putSurface, reach: putReach, runway: putField, airfield: putField, structure: putStructure })[one.properties.layer](one);
 const legend = {};
-for (const [label, { layer, swatch, shown }] of groups) {
+for (const [label, { layer, swatch }] of groups) {
   legend[swatch + label] = layer;
-  if (shown) layer.addTo(map);
+  layer.addTo(map);
 }
 L.control.layers(null, legend, { collapsed: false }).addTo(map);
 L.control.scale({ maxWidth: 200 }).addTo(map);

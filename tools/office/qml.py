@@ -4,7 +4,7 @@ import xml.etree.ElementTree as Xml
 from collections.abc import Sequence
 from dataclasses import dataclass
 
-from office.features import Layer, Shape
+from office.shapes import Layer, Shape
 from office.picture import CIRCLE_LINE, INK, LOOKS, MARKS, NOTICE_LINE
 from office.records import write_text
 
