@@ -1,10 +1,11 @@
 """Contours of a raster of heights, by marching squares. Where the height jumps at the edge of a surface, a contour ends: none is drawn across."""
 import math
-from collections.abc import Iterable, Sequence
+from collections.abc import Callable, Iterable, Sequence
 from dataclasses import dataclass
 
 Field = Sequence[Sequence[float | None]]  # rows from south to north, each from west to east; nothing where there is no height
-Edge = tuple[int, int, int]  # column and row of its first point, and 0 eastward or 1 northward
+Corner = tuple[int, int]  # column and row
+Edge = tuple[int, int, int]  # column and row of its first corner, and whether it goes eastward or northward
 EAST, NORTH = 0, 1
 
 
@@ -15,55 +16,48 @@ class Contour:
     points: list[tuple[float, float]]
 
 
-def levels(field: Field, every: float) -> list[float]:
-    """The multiples of a height between the least and the greatest of a field."""
-    some = [value for row in field for value in row if value is not None]
-    return [every * i for i in range(math.ceil(min(some) / every), math.floor(max(some) / every) + 1)] if some else []
-
-
+@dataclass(frozen=True)
 class Squares:
-    """A field, and how much its height may change from one point to the next: across a greater change nothing is drawn."""
-    def __init__(self, field: Field, steepest: Sequence[Sequence[float]]):
-        self.field, self.steepest = field, steepest
+    """A field, and how much its height may change from a corner to the next one, by what is there: across a greater change nothing is drawn."""
+    field: Field
+    steepest: Callable[[Corner], float]
 
-    def value(self, column: int, row: int) -> float | None:
-        return self.field[row][column]
+    def corners(self, edge: Edge) -> tuple[Corner, Corner]:
+        column, row, way = edge
+        return (column, row), (column + 1, row) if way == EAST else (column, row + 1)
 
     def is_jump(self, edge: Edge) -> bool:
-        column, row, way = edge
-        other = (column + 1, row) if way == EAST else (column, row + 1)
-        a, b = self.field[row][column], self.field[other[1]][other[0]]
-        return abs(a - b) > max(self.steepest[row][column], self.steepest[other[1]][other[0]])
+        first, second = self.corners(edge)
+        return abs(self.field[first[1]][first[0]] - self.field[second[1]][second[0]]) > max(self.steepest(first), self.steepest(second))
 
     def point(self, edge: Edge, level: float) -> tuple[float, float]:
         """Where a level crosses an edge of a square."""
-        column, row, way = edge
-        a, b = self.field[row][column], self.field[row + way][column + 1 - way]
-        part = (level - a) / (b - a)
-        return (column + part, row) if way == EAST else (column, row + part)
+        (column, row), second = self.corners(edge)
+        low, high = self.field[row][column], self.field[second[1]][second[0]]
+        part = (level - low) / (high - low)
+        return (column + part, row) if edge[2] == EAST else (column, row + part)
 
     def pairs(self, column: int, row: int, level: float) -> list[tuple[Edge, Edge]]:
         """The edges of a square that a level crosses, two by two."""
-        a, b = self.field[row][column], self.field[row][column + 1]
-        d, c = self.field[row + 1][column], self.field[row + 1][column + 1]
-        corners = [value >= level for value in (a, b, c, d)]
+        south, north = self.field[row], self.field[row + 1]
+        heights = (south[column], south[column + 1], north[column + 1], north[column])
+        is_above = [height >= level for height in heights]
         edges = [(column, row, EAST), (column + 1, row, NORTH), (column, row + 1, EAST), (column, row, NORTH)]
-        crossed = [edge for i, edge in enumerate(edges) if corners[i] != corners[(i + 1) % 4]]
-        if len(crossed) == 4 and (((a + b + c + d) / 4 >= level) == corners[0]):
-            crossed = crossed[1:] + crossed[:1]  # a saddle, which is joined through its middle
-        some = list(zip(crossed[::2], crossed[1::2]))
-        return [pair for pair in some if not any(map(self.is_jump, pair))]
+        crossed = [edge for i, edge in enumerate(edges) if is_above[i] != is_above[(i + 1) % 4]]
+        if len(crossed) == 4 and (sum(heights) / 4 >= level) == is_above[0]:
+            crossed = crossed[1:] + crossed[:1]  # a saddle: what is joined is joined through the middle
+        return [pair for pair in zip(crossed[::2], crossed[1::2]) if not any(map(self.is_jump, pair))]
 
     def by_level(self, every: float) -> dict[float, list[tuple[Edge, Edge]]]:
         """The crossings of all squares, by level."""
         out: dict[float, list[tuple[Edge, Edge]]] = {}
         for row, (south, north) in enumerate(zip(self.field, self.field[1:])):
             for column in range(len(south) - 1):
-                four = (south[column], south[column + 1], north[column], north[column + 1])
-                if None in four:
+                heights = (south[column], south[column + 1], north[column], north[column + 1])
+                if None in heights:
                     continue
-                low, high = min(four), max(four)
-                for i in range(math.floor(low / every) + 1, math.floor(high / every) + 1):
+                low, high = min(heights), max(heights)
+                for i in range(math.floor(low / every) + 1, math.floor(high / every) + 1) if low < high else ():
                     out.setdefault(i * every, []).extend(self.pairs(column, row, i * every))
         return out
 
@@ -86,8 +80,7 @@ def joined(pairs: Iterable[tuple[Edge, Edge]]) -> list[list[Edge]]:
     return out
 
 
-def contours(field: Field, steepest: Sequence[Sequence[float]], every: float) -> list[Contour]:
+def contours(squares: Squares, every: float) -> list[Contour]:
     """All contours at the multiples of a height, from the lowest on."""
-    squares = Squares(field, steepest)
     return [Contour(level, [squares.point(edge, level) for edge in chain])
             for level, pairs in sorted(squares.by_level(every).items()) for chain in joined(pairs)]

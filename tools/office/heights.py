@@ -4,9 +4,11 @@ import subprocess
 import tempfile
 from collections.abc import Iterable, Sequence
 from dataclasses import dataclass
+from functools import cached_property
 
 from office import replies
 from office.faults import Fault
+from office.records import TENTHS
 from office.replies import NONE, Entry
 
 QUICK_FOLDER = "/dev/shm"  # of memory; a desk's file there wants no disk
@@ -30,25 +32,42 @@ class Place:
         return f"screen,{self.x},{self.y},{self.ground},{height},{self.kind},{self.mobile},{flags},{self.on}\n"
 
     @property
+    def feet(self) -> tuple[float, float]:
+        return self.x / TENTHS, self.y / TENTHS
+
+    @property
     def is_exempt(self) -> bool:
-        return any(letter in EXEMPT for letter in self.flags)
+        return self.flags != NONE and any(letter in EXEMPT for letter in self.flags)
 
     @property
     def shielded(self) -> str:
         """Its flags, and S, which stands before all others."""
-        return self.flags if SHIELDED in self.flags else SHIELDED + self.flags.strip(NONE)
+        return SHIELDED if self.flags == NONE else self.flags if SHIELDED in self.flags else SHIELDED + self.flags
+
+
+def noticed(entries: Iterable[Entry]) -> tuple[Entry, ...]:
+    return tuple(entry for entry in entries if not entry.rule.is_standard)
 
 
 @dataclass(frozen=True)
 class Limit:
-    """The greatest height above the ground without a finding of a sort, in tenths of a foot, and those that come a tenth higher. Where there is one at
-    every height, `height` is nothing, and the findings are those at the ground. Where none ever comes, there are no findings."""
+    """The greatest height above the ground without a finding of a sort, in tenths of a foot, and those that come a tenth higher. If there is one at
+    every height, `height` is nothing, and the findings are those at the ground. If none ever comes, there are no findings."""
     height: int | None
     entries: tuple[Entry, ...]
 
     @property
     def is_never(self) -> bool:
         return not self.entries
+
+    @cached_property
+    def feet(self) -> float | None:
+        return None if self.height is None else self.height / TENTHS
+
+    @cached_property
+    def of_notice(self) -> "Limit":
+        """This as a limit of notice: never, if standards alone are found."""
+        return Limit(self.height, noticed(self.entries))
 
 
 @dataclass(frozen=True)
@@ -62,14 +81,10 @@ class Heights:
 NEVER = Limit(None, ())
 
 
-def noticed(entries: Iterable[Entry]) -> tuple[Entry, ...]:
-    return tuple(entry for entry in entries if not entry.rule.is_standard)
-
-
 class Asker:
     """A desk over some airfields, in a file of its own that is gone at the end. `told` has its replies to their records."""
     def __init__(self, program: str, airfields: Iterable[str]):
-        self.program, self.known = program, dict[str, tuple[Entry, ...]]()
+        self.program, self.known = program, dict[str, Limit]()
         self.folder = tempfile.TemporaryDirectory(dir=QUICK_FOLDER if os.access(QUICK_FOLDER, os.W_OK) else None)
         self.file = os.path.join(self.folder.name, "desk.db")
         self.told = self.ask("desk", (text + "\n" for text in airfields))
@@ -87,17 +102,16 @@ class Asker:
             raise Fault(f"{self.program} {command} ended with status {done.returncode}")
         return done.stdout.decode().splitlines()
 
-    def entries(self, text: str) -> tuple[Entry, ...]:
-        """The entries of a reply, of which most are those of a neighbor."""
-        if text not in self.known:
-            self.known[text] = replies.read_entries(text.split(",")) if text else ()
-        return self.known[text]
-
     def limit(self, place: Place, text: str) -> Limit:
-        word, *rest = text.split(",", 4)
-        if word != "ceiling" or len(rest) != 4:
+        """The limit that a reply says; most are those of a neighbor."""
+        word, _, said = text.split(",", 2)
+        if word != "ceiling":
             raise Fault(f'the desk answers "{text}" to {place.asked(0, place.flags).strip()}')
-        return Limit(None if rest[1] == NONE else int(rest[1]), self.entries(rest[3]))
+        known = self.known.get(said)
+        if known is None:
+            height, _, *entries = said.split(",")
+            known = self.known[said] = Limit(None if height == NONE else int(height), replies.read_entries(entries))
+        return known
 
     def limits(self, places: Sequence[Place], flags: Iterable[str]) -> list[Limit]:
         told = self.ask("ceiling", (place.asked(0, flag) for place, flag in zip(places, flags)))
@@ -106,7 +120,7 @@ class Asker:
     def heights(self, places: Sequence[Place]) -> list[Heights]:
         first = self.limits(places, (place.flags for place in places))
         standard = self.limits(places, (place.shielded for place in places))
-        notice = [NEVER if place.is_exempt else Limit(one.height, noticed(one.entries)) for place, one in zip(places, first)]
+        notice = [NEVER if place.is_exempt else one.of_notice for place, one in zip(places, first)]
         later = [i for i, place in enumerate(places) if not place.is_exempt and notice[i].is_never]  # a standard comes first
         for i, limit in zip(later, self.later_notices([places[i] for i in later], [first[i] for i in later])):
             notice[i] = limit
@@ -120,7 +134,7 @@ class Asker:
         while any(entries[i] == () or high[i] - low[i] > 1 for i in range(len(places))):
             told = self.ask("desk", (place.asked(height, place.flags) for place, height in zip(places, tried)))
             for i, text in enumerate(told):
-                found = noticed(self.entries(text.split(",", 3)[3] if text.count(",") > 2 else ""))
+                found = noticed(replies.read_entries(text.split(",")[3:]))
                 if found:
                     high[i], entries[i] = tried[i], found
                 else:

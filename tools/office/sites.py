@@ -19,8 +19,6 @@ if TYPE_CHECKING:
     from office.grids import Grid
 
 MOST_PLACES = 4_000_000  # of a raster; a desk and this tool hold them in memory
-STEEPEST, STEEPEST_OF_HELIPORT = .16, .55  # feet up for a foot across, a little more than 7 to 1 and 2 to 1
-ROUNDED = .2  # feet; two heights that the desk has rounded
 ANY = "any"  # in place of a height, if no notice is ever required
 
 SITE_FORMS = ("screen", "verdict", "file")
@@ -82,7 +80,7 @@ def cautions_of(some: Sequence[Site], register: Register) -> list[str]:
     """Where the heights may look better than they are: no airfield, or all of them far from every place."""
     if not register.airfields:
         return ["no airfield is registered, so this says nothing of airports: was --over forgotten, another file named, or the airfields refused?"]
-    found = [cautions.of_point(in_feet(site.place), register) for site in (some[0], some[len(some) // 2], some[-1])]
+    found = [cautions.of_point(site.place.feet, register) for site in (some[0], some[len(some) // 2], some[-1])]
     return found[0] if all(found) else []
 
 
@@ -133,17 +131,6 @@ def raster(a: GridPoint, b: GridPoint, step: int, ground: int) -> Raster:
     return out
 
 
-def feet_of(limit: Limit) -> float | None:
-    """The height of a limit in feet, if there is one."""
-    return None if limit.height is None else limit.height / TENTHS
-
-
-def steepest_of(limit: Limit, step: int) -> float:
-    """How much a limit may differ from that a step further, in feet, if no surface ends between."""
-    is_steep = any(entry.rule.name.startswith("23") for entry in limit.entries)
-    return (STEEPEST_OF_HELIPORT if is_steep else STEEPEST) * step / TENTHS + ROUNDED
-
-
 def rules_of(limit: Limit) -> str:
     return "; ".join(" ".join(part for part in (entry.rule.name, entry.airfield, entry.key) if part != NONE) for entry in limit.entries) or NONE
 
@@ -171,13 +158,9 @@ def as_number(cell: str) -> str | float | None:
     return float(cell) if re.fullmatch(r"-?[0-9]+\.[0-9]", cell) else cell
 
 
-def in_feet(place: Place) -> tuple[float, float]:
-    return place.x / TENTHS, place.y / TENTHS
-
-
 def table(sites: Sequence[Site], some: Sequence[Heights], grid: "Grid | None") -> str:
     """A table (CSV): names or lengths along a line if there are some, and latitude and longitude if the grid is known."""
-    out, earth = io.StringIO(), grid.on_earth([in_feet(site.place) for site in sites]) if grid else None
+    out, earth = io.StringIO(), grid.on_earth([site.place.feet for site in sites]) if grid else None
     writer = csv.writer(out, lineterminator="\n")
     has_names, has_along = any(site.name for site in sites), any(site.along is not None for site in sites)
     writer.writerow([*(["name"] if has_names else []), *(["along_ft"] if has_along else []), *COLUMNS, *(["lat", "lon"] if earth else [])])
