@@ -162,8 +162,9 @@ class RunwaySurfaces:
 
     @property
     def folds(self) -> tuple[float, ...]:
-        """The ends of the runway, along the primary surface."""
-        return (self.past, self.past + self.line.length) if self.past else ()
+        """The ends of the runway, along the primary surface, if it slopes between them."""
+        first, second = (end.elevation for end in self.runway.ends)
+        return (self.past, self.past + self.line.length) if self.past and first != second else ()
 
 
 class AirportSurfaces:
