@@ -44,8 +44,8 @@ class Squares:
         is_above = [height >= level for height in heights]
         edges = [(column, row, EAST), (column + 1, row, NORTH), (column, row + 1, EAST), (column, row, NORTH)]
         crossed = [edge for i, edge in enumerate(edges) if is_above[i] != is_above[(i + 1) % 4]]
-        if len(crossed) == 4 and (sum(heights) / 4 >= level) == is_above[0]:
-            crossed = crossed[1:] + crossed[:1]  # a saddle: what is joined is joined through the middle
+        if len(crossed) == 4 and (sum(heights) / 4 >= level) != is_above[0]:
+            crossed = crossed[1:] + crossed[:1]  # a saddle: the corners that are like its middle hang together
         return [pair for pair in zip(crossed[::2], crossed[1::2]) if not any(map(self.is_jump, pair))]
 
     def by_level(self, every: float) -> dict[float, list[tuple[Edge, Edge]]]:

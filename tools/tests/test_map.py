@@ -278,7 +278,7 @@ class Asked(Trial):
 
     def test_geojson(self) -> None:
         areas, draw = mapped.areas_of_geojson((self.folder / "map.geojson").read_text()), random.Random(7)
-        self.assertGreater(len(areas), 80)
+        self.assertGreater(len(areas), 70)
         self.check(areas, asked_points(FIELDS, 1) + [within(area, draw) for _, area in areas for _ in range(2)])
 
     def test_kml(self) -> None:
