@@ -6,7 +6,7 @@ from datetime import date
 from office import forms
 from office.desk import Pair
 from office.records import TENTHS, show
-from office.register import AIRFIELD_FORMS, NOT_DESCRIBED, Airfield, Airport, Heliport, Register, heliport, point
+from office.register import AIRFIELD_FORMS, NOT_DESCRIBED, Airfield, Airport, Heliport, Point, Register, heliport, point
 from office.replies import NONE, Accepted, AsOf, Ceiling, Found, Stations, Verdict
 
 FAR_AWAY = 200_000  # feet; no surface of an airport reaches as far
@@ -81,9 +81,13 @@ def of_earlier(pair: Pair) -> list[str]:
 
 
 def of_place(pair: Pair, register: Register) -> list[str]:
-    """Whether all airfields are so far away that the structure may be on another grid."""
+    return of_point(point(pair.record.values), register)
+
+
+def of_point(at: Point, register: Register) -> list[str]:
+    """Whether all airfields are so far away that a point may be on another grid."""
     def distance(airfield: Airfield) -> float:
-        return math.dist(airfield.at, point(pair.record.values))
+        return math.dist(airfield.at, at)
     if any(distance(airfield) <= FAR_AWAY for airfield in register.airfields.values()):
         return []
     nearest = min(register.airfields.values(), key=distance)

@@ -2,7 +2,9 @@
 import math
 import os
 import re
+from collections.abc import Sequence
 from dataclasses import dataclass
+from functools import cached_property
 
 from office.faults import Fault
 from office.records import show
@@ -12,7 +14,7 @@ try:
 except ImportError as error:
     raise Fault("the library pyproj is missing (on Debian: apt-get install python3-pyproj)") from error
 
-NAD83 = "EPSG:4269"
+NAD83, WGS84 = "EPSG:4269", "EPSG:4326"
 FEET = {"US survey foot": 1200 / 3937, "foot": 0.3048}  # metres
 FARTHEST = 20_000_000  # tenths of a foot from the origin
 ROUND_ORIGIN = 100_000
@@ -35,6 +37,12 @@ class Place:
     """A point on the grid, in tenths of a foot."""
     x: int
     y: int
+
+
+def accuracy(transformer: "pyproj.Transformer") -> str:
+    """How exactly PROJ takes one datum for another."""
+    metres = transformer.accuracy
+    return f"to within {metres / FEET['foot']:.0f} ft" if metres and metres > 0 else "with an unknown error"
 
 
 def read_choice(path: str) -> Choice:
@@ -139,7 +147,28 @@ class Grid:
         out = [f"grid: {self.crs.name}, {self.unit}, less E {east} N {north}"]
         own = self.own_datum()
         if self.datum.datum != own.datum:
-            accuracy = self.transformer.accuracy
-            known = f"to within {accuracy * 3.28:.0f} ft" if accuracy and accuracy > 0 else "with an unknown error"
-            out.append(f"CAUTION: the latitudes are of {self.datum.name} and the zone is of {own.name}; PROJ takes one for the other {known}")
+            out.append(f"CAUTION: the latitudes are of {self.datum.name} and the zone is of {own.name}; PROJ takes one for the other {accuracy(self.transformer)}")
         return out
+
+    @cached_property
+    def to_earth(self) -> "pyproj.Transformer":
+        return pyproj.Transformer.from_crs(self.crs, WGS84, always_xy=True)
+
+    def in_zone(self, at: tuple[float, float]) -> tuple[float, float]:
+        """Easting and northing in the zone of a point in feet of the grid."""
+        if self.origin is None:
+            raise Fault("the grid has no origin: it is that of the desk's coordinates, as --origin of oe-from-points")
+        return at[0] + self.origin[0], at[1] + self.origin[1]
+
+    def on_earth(self, some: Sequence[tuple[float, float]]) -> list[tuple[float, float]]:
+        """Longitudes and latitudes of WGS 84 of points in feet of the grid."""
+        easts, norths = zip(*map(self.in_zone, some))
+        out = list(zip(*self.to_earth.transform(easts, norths)))
+        for at, place in zip(some, out):
+            if not all(map(math.isfinite, place)):
+                raise Fault(f"PROJ finds no latitude for E {show(at[0])} N {show(at[1])} of the grid: is it the grid of these records?")
+        return out
+
+    def about_earth(self) -> str:
+        """How the latitudes of a map come from those of the zone."""
+        return f"WGS 84: PROJ takes it from {self.own_datum().name} {accuracy(self.to_earth)}"

@@ -64,20 +64,6 @@ def contains(polygon: Sequence[Point], at: Point) -> bool:
     return inside
 
 
-@dataclass(frozen=True)
-class Area:
-    """The ground that a surface covers, less a hole, and its height over a point. Rule and key are those of findings."""
-    rule: str
-    key: str
-    look: Look
-    outlines: list[Polygon]
-    height: Callable[[Point], float]
-    hole: Polygon = field(default_factory=list)
-
-    def covers(self, at: Point) -> bool:
-        return any(contains(outline, at) for outline in self.outlines) and not (self.hole and contains(self.hole, at))
-
-
 class Line:
     """A line from a to b: along it, and to its left."""
     def __init__(self, a: Point, b: Point):
@@ -106,6 +92,24 @@ class Line:
         return [self.at(start, sign * inner(start)), self.at(end, sign * inner(end)), self.at(end, sign * outer(end)), self.at(start, sign * outer(start))]
 
 
+@dataclass(frozen=True)
+class Area:
+    """The ground that a surface covers, less a hole, and its height over a point. Rule and key are those of findings. It rises one foot over `slope`
+    feet, or is level or follows a centerline where that is 0. Between its folds, lengths along its line, it is one plane, unless it is conical."""
+    rule: str
+    key: str
+    look: Look
+    outlines: list[Polygon]
+    height: Callable[[Point], float]
+    hole: Polygon = field(default_factory=list)
+    slope: float = 0
+    line: Line | None = None
+    folds: tuple[float, ...] = ()
+
+    def covers(self, at: Point) -> bool:
+        return any(contains(outline, at) for outline in self.outlines) and not (self.hole and contains(self.hole, at))
+
+
 class Approach:
     """The approach surface at an end of a runway: along `line` outward from the primary surface."""
     def __init__(self, runway: "RunwaySurfaces", number: int):
@@ -122,6 +126,10 @@ class Approach:
         if self.is_precision:
             return [(0, PRECISION_FIRST_PART, self.size.slope), (PRECISION_FIRST_PART, self.length, SECOND_PRECISION_SLOPE)]
         return [(0, self.length, self.size.slope)]
+
+    @property
+    def folds(self) -> tuple[float, ...]:
+        return (PRECISION_FIRST_PART,) if self.is_precision else ()
 
     def half(self, along: float) -> float:
         return (self.inner + (self.size.outer_width - self.inner) * along / self.length) / 2
@@ -151,6 +159,12 @@ class RunwaySurfaces:
         """The elevation of the centerline, at a length along the primary surface."""
         first, second = (end.elevation for end in self.runway.ends)
         return first + (second - first) * min(max((along - self.past) / self.line.length, 0), 1)
+
+    @property
+    def folds(self) -> tuple[float, ...]:
+        """The ends of the runway, along the primary surface, if it slopes between them."""
+        first, second = (end.elevation for end in self.runway.ends)
+        return (self.past, self.past + self.line.length) if self.past and first != second else ()
 
 
 class AirportSurfaces:
@@ -194,7 +208,7 @@ class AirportSurfaces:
     @cached_property
     def areas(self) -> list[Area]:
         """All areas, those that are painted first to begin with."""
-        out = [Area("19b", "-", Look.CONICAL, [self.cone], self.cone_height, self.horizontal),
+        out = [Area("19b", "-", Look.CONICAL, [self.cone], self.cone_height, self.horizontal, CONE_SLOPE),
                Area("19a", "-", Look.HORIZONTAL, [self.horizontal], lambda _: self.level)]
         precision = [(runway, approach) for runway in self.runways for approach in runway.approaches if approach.is_precision]
         out += [beside_precision(self, runway.runway.name, approach) for runway, approach in precision]
@@ -210,13 +224,13 @@ def level_across(line: Line, low: Length) -> Callable[[Point], float]:
 
 def primary_area(runway: RunwaySurfaces) -> Area:
     outline = runway.axis.strip(0, runway.axis.length, runway.half)
-    return Area("19c", runway.runway.name, Look.PRIMARY, [outline], level_across(runway.axis, runway.height))
+    return Area("19c", runway.runway.name, Look.PRIMARY, [outline], level_across(runway.axis, runway.height), line=runway.axis, folds=runway.folds)
 
 
 def approach_areas(name: str, approach: Approach) -> list[Area]:
     looks = (Look.APPROACH, Look.SECOND_APPROACH)
     return [Area("19d", f"{name}.{approach.number}", look, [approach.line.strip(start, end, approach.half)],
-                 level_across(approach.line, approach.height)) for look, (start, end, _) in zip(looks, approach.parts)]
+                 level_across(approach.line, approach.height), slope=slope) for look, (start, end, slope) in zip(looks, approach.parts)]
 
 
 def rise(line: Line, half: Length, low: Length, slope: float) -> Callable[[Point], float]:
@@ -231,16 +245,17 @@ def beside_precision(airport: AirportSurfaces, name: str, approach: Approach) ->
     """The transitional surfaces beside a precision approach where there is neither horizontal nor conical surface."""
     outlines = [approach.line.side(0, approach.length, approach.half, lambda along: approach.half(along) + BESIDE_PRECISION, sign) for sign in (1, -1)]
     height = rise(approach.line, approach.half, approach.height, TRANSITIONAL_SLOPE)
-    return Area("19e", f"{name}.{approach.number}", Look.BEYOND_CONE, outlines, height, airport.cone)
+    return Area("19e", f"{name}.{approach.number}", Look.BEYOND_CONE, outlines, height, airport.cone, TRANSITIONAL_SLOPE, approach.line, approach.folds)
 
 
 def transitional_areas(airport: AirportSurfaces, runway: RunwaySurfaces) -> list[Area]:
     """The transitional surfaces of a runway where they are below the horizontal or conical surface."""
-    sides: list[tuple[int, Line, float, Length, Length]] = [(0, runway.axis, runway.axis.length, runway.half, runway.height)]
-    sides += [(approach.number, approach.line, approach.length, approach.half, approach.height) for approach in runway.approaches]
+    sides: list[tuple[int, Line, float, Length, Length, tuple[float, ...]]] = [
+        (0, runway.axis, runway.axis.length, runway.half, runway.height, runway.folds),
+        *((approach.number, approach.line, approach.length, approach.half, approach.height, approach.folds) for approach in runway.approaches)]
     return [Area("19e", f"{runway.runway.name}.{number}", Look.TRANSITIONAL,
                  [outline for sign in (1, -1) for outline in Flank(airport, line, length, half, low, sign).outlines()],
-                 rise(line, half, low, TRANSITIONAL_SLOPE)) for number, line, length, half, low in sides]
+                 rise(line, half, low, TRANSITIONAL_SLOPE), [], TRANSITIONAL_SLOPE, line, folds) for number, line, length, half, low, folds in sides]
 
 
 @dataclass(frozen=True)
@@ -338,7 +353,7 @@ class HeliportSurfaces:
 
     def side_area(self, number: int, line: Line, length: float, half: Length, low: Length) -> Area:
         outlines = [line.side(0, length, half, lambda _: HELIPORT_HALF_WIDTH, sign) for sign in (1, -1)]
-        return Area("23t", str(number), Look.TRANSITIONAL, outlines, rise(line, half, low, HELIPORT_SIDE_SLOPE))
+        return Area("23t", str(number), Look.TRANSITIONAL, outlines, rise(line, half, low, HELIPORT_SIDE_SLOPE), slope=HELIPORT_SIDE_SLOPE)
 
     @cached_property
     def areas(self) -> list[Area]:
@@ -346,7 +361,7 @@ class HeliportSurfaces:
         for approach in self.approaches:
             out.append(self.side_area(approach.number, approach.line, HELIPORT_APPROACH, self.approach_half, self.approach_height))
             outline = approach.line.strip(0, HELIPORT_APPROACH, self.approach_half)
-            out.append(Area("23a", str(approach.number), Look.APPROACH, [outline], level_across(approach.line, self.approach_height)))
+            out.append(Area("23a", str(approach.number), Look.APPROACH, [outline], level_across(approach.line, self.approach_height), slope=self.slope))
         outline = self.axis.strip(0, self.axis.length, self.half)
         return out + [Area("23p", "-", Look.PRIMARY, [outline], lambda _: self.heliport.elevation)]
 
