@@ -4,7 +4,7 @@ import os
 import re
 from dataclasses import dataclass
 
-from office.faults import Fault
+from office.faults import Fault, FinalFault
 from office.records import show
 
 try:
@@ -101,7 +101,7 @@ class Grid:
             raise Fault(f"{where}: PROJ does not find latitude {lat:.5f}, longitude {lon:.5f} in {self.crs.name}")
         if self.origin is None:
             near = ",".join(f"{round(value / ROUND_ORIGIN) * ROUND_ORIGIN}" for value in (east, north))
-            raise Fault(f"{where} is at E {show(east)} N {show(north)} of {self.crs.name}; give one --origin for this desk and keep it, as --origin {near}")
+            raise FinalFault(f"{where} is at E {show(east)} N {show(north)} of {self.crs.name}; give one --origin for this desk and keep it, as --origin {near}")
         x, y = (round((value - origin) * 10) for value, origin in zip((east, north), self.origin))
         if max(abs(x), abs(y)) > FARTHEST:
             raise Fault(f"{where} is {show(max(abs(x), abs(y)) / 10, 0)} ft from the origin, and the grid reaches {show(FARTHEST / 10, 0)}; "
@@ -122,16 +122,24 @@ class Grid:
 
     def ellipsoid_feet(self, lat: float, lon: float, to_lat: float, to_lon: float) -> float:
         """The way between two points over the ellipsoid, in feet of the grid."""
+        return self.geodesic(lat, lon, to_lat, to_lon)[2] / FEET[self.unit]
+
+    def bearing(self, lat: float, lon: float, to_lat: float, to_lon: float) -> float:
+        """The true direction in which the shortest way between two points begins, in degrees."""
+        return self.geodesic(lat, lon, to_lat, to_lon)[0] % 360
+
+    def geodesic(self, lat: float, lon: float, to_lat: float, to_lon: float) -> tuple[float, float, float]:
+        """Both directions and the metres of the shortest way."""
         geod = self.own_datum().get_geod()
         if geod is None:
-            raise Fault(f"--crs {self.choice.crs} ({self.crs.name}) has no ellipsoid")
-        return geod.inv(lon, lat, to_lon, to_lat)[2] / FEET[self.unit]
+            raise FinalFault(f"--crs {self.choice.crs} ({self.crs.name}) has no ellipsoid")
+        return geod.inv(lon, lat, to_lon, to_lat)
 
     def own_datum(self) -> "pyproj.CRS":
         """The latitudes and longitudes under the grid."""
         geodetic = self.crs.geodetic_crs
         if geodetic is None:
-            raise Fault(f"--crs {self.choice.crs} ({self.crs.name}) stands over no latitudes")
+            raise FinalFault(f"--crs {self.choice.crs} ({self.crs.name}) stands over no latitudes")
         return geodetic
 
     def words(self) -> list[str]:
