@@ -15,16 +15,16 @@ class FinalFault(Fault):
 
 def gathered(*calls: Callable[[], Any]) -> list[Any]:
     """What each call gives, or one fault that names the faults of all."""
-    out, wrong = [], []
+    out, faults = [], []
     for call in calls:
         try:
             out.append(call())
         except FinalFault:
             raise
         except Fault as fault:
-            wrong.append(str(fault))
-    if wrong:
-        raise Fault("\n".join(wrong))
+            faults.append(fault)
+    if faults:
+        raise faults[0] if len(faults) == 1 else Fault("\n".join(map(str, faults)))
     return out
 
 
@@ -46,7 +46,7 @@ def end_with(main: Callable[[], int | None]) -> NoReturn:
         sys.stdout.flush()
         sys.exit(status)
     except Fault as fault:
-        sys.exit(f"{tool()}: {fault}")
+        sys.exit(say_faults(str(fault).splitlines()))
     except BrokenPipeError:  # the reader has enough, as with `| head`
         os.dup2(os.open(os.devnull, os.O_WRONLY), sys.stdout.fileno())
         sys.exit(0)

@@ -3,7 +3,7 @@ import configparser
 import csv
 import io
 import os
-from collections.abc import Collection
+from collections.abc import Collection, Iterable
 from dataclasses import dataclass, field
 
 from office.faults import Fault
@@ -180,3 +180,9 @@ def read_rows(path: str, map_path: str | None, only: Collection[str] = ()) -> Ta
     if missing:
         raise Fault(f"{path}: no row has the id {', '.join(missing)}")
     return table_of(some)
+
+
+def csv_text(rows: Iterable[Collection[str]]) -> str:
+    text = io.StringIO()
+    csv.writer(text, lineterminator="\n").writerows(rows)
+    return text.getvalue()
