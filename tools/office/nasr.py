@@ -5,7 +5,7 @@ import csv
 import os
 import re
 from collections import defaultdict
-from collections.abc import Callable, Collection, Iterator, Mapping
+from collections.abc import Callable, Iterable, Iterator, Mapping
 from dataclasses import dataclass, field
 from decimal import ROUND_FLOOR, Decimal, InvalidOperation
 
@@ -90,47 +90,56 @@ def path_of(folder: str, name: str) -> str:
     return os.path.join(folder, there[0] if there else name)
 
 
-def opened(path: str, names: Collection[str], useful: Collection[str], others: Cells) -> tuple[Iterator[Cells], list[str], str]:
-    """The rows of a file by our names, the useful columns that are missing, and a fault where wanted ones are. `others` has other names of columns."""
+@dataclass
+class Columns:
+    """Which column of a file is which of ours, what it lacks of the useful ones, and a fault if it lacks a wanted one."""
+    path: str
+    names: dict[str, str | None]
+    lacking: list[str]
+    fault: str
+
+    def rows(self) -> Iterator[Cells]:
+        """The rows by our names, each with its place under `where`."""
+        try:
+            with open(self.path, newline="", encoding="utf-8-sig", errors="replace") as file:
+                reader = csv.DictReader(file)
+                for row in reader:
+                    cells = {ours: (row.get(theirs) or "").strip() if theirs else "" for ours, theirs in self.names.items()}
+                    yield {**cells, "where": f"{os.path.basename(self.path)} line {reader.line_num}"}
+        except csv.Error as error:
+            raise Fault(f"{self.path}: it is no CSV ({error})") from error
+
+
+def columns_of(path: str, wanted: Iterable[str], useful: Iterable[str], others: Cells) -> Columns:
+    """Columns by their names, or by the other names that `others` has."""
     try:
-        file = open(path, newline="", encoding="utf-8-sig", errors="replace")
+        with open(path, newline="", encoding="utf-8-sig", errors="replace") as file:
+            there = {name.strip(): name for name in csv.DictReader(file).fieldnames or []}
     except OSError as error:
         raise Fault(f"{path}: {error.strerror}") from error
-    reader = csv.DictReader(file)
-    there = {name.strip(): name for name in reader.fieldnames or []}
-    columns = {name: there.get(name) or there.get(others.get(name, "")) for name in (*names, *useful)}
-    missing = [name for name in names if columns[name] is None]
+    except csv.Error as error:
+        raise Fault(f"{path}: it is no CSV ({error})") from error
+    names = {name: there.get(name) or there.get(others.get(name, "")) for name in (*wanted, *useful)}
+    missing = [name for name in wanted if names[name] is None]
     fault = f"{path} has no column {', '.join(missing)} (its first line has {', '.join(there) or 'nothing'}); --column NAME=THEIRS says another name" if missing else ""
-
-    def rows() -> Iterator[Cells]:
-        with file:
-            for row in reader:
-                cells = {name: (row.get(column) or "").strip() if column else "" for name, column in columns.items()}
-                yield {**cells, "where": f"{os.path.basename(path)} line {reader.line_num}"}
-    return rows(), [name for name in useful if columns[name] is None], fault
+    return Columns(path, names, [name for name in useful if names[name] is None], fault)
 
 
 def read(folder: str, others: Cells, is_chosen: Callable[[Cells], bool]) -> Files:
     """The rows of the airfields that are chosen by their row of APT_BASE.csv. All columns that are missing are named."""
-    out, tables, faults = Files(), {}, []
-    for name in (BASE, RUNWAYS, ENDS):
-        path = path_of(folder, name)
-        tables[name], lacking, fault = opened(path, WANTED[name], tuple(USEFUL[name]), others)
-        faults += [fault] if fault else []
-        out.notes += [f"{path} has no column {column}: {USEFUL[name][column]}" for column in lacking]
+    files = {name: columns_of(path_of(folder, name), WANTED[name], USEFUL[name], others) for name in (BASE, RUNWAYS, ENDS)}
+    faults = [file.fault for file in files.values() if file.fault]
     if faults:
         raise Fault("\n".join(faults))
-    try:
-        out.base = [row for row in tables[BASE] if is_chosen(row)]
-        ids = {row["ARPT_ID"] for row in out.base}
-        for row in tables[RUNWAYS]:
-            if row["ARPT_ID"] in ids:
-                out.runways[row["ARPT_ID"]].append(row)
-        for row in tables[ENDS]:
-            if row["ARPT_ID"] in ids:
-                out.ends[row["ARPT_ID"], row["RWY_ID"]].append(row)
-    except csv.Error as error:
-        raise Fault(f"{folder}: a file is no CSV ({error})") from error
+    out = Files(notes=[f"{file.path} has no column {column}: {USEFUL[name][column]}" for name, file in files.items() for column in file.lacking])
+    out.base = [row for row in files[BASE].rows() if is_chosen(row)]
+    ids = {row["ARPT_ID"] for row in out.base}
+    for row in files[RUNWAYS].rows():
+        if row["ARPT_ID"] in ids:
+            out.runways[row["ARPT_ID"]].append(row)
+    for row in files[ENDS].rows():
+        if row["ARPT_ID"] in ids:
+            out.ends[row["ARPT_ID"], row["RWY_ID"]].append(row)
     return out
 
 
@@ -243,7 +252,8 @@ def runway_part(airfield: str, runway: Cells, ends: list[Cells]) -> Part:
     for end in in_order:
         kind = PART_77.get(end["FAR_PART_77_CODE"], ("", ""))[1]
         is_open = both["use"] == "other" and end["FAR_PART_77_CODE"] == MINIMUMS_UNKNOWN
-        part.rows.append(Row(end["where"], {**both, "lat": end["LAT_DECIMAL"], "lon": end["LONG_DECIMAL"], "elev_ft": rounded_down(end["RWY_END_ELEV"]), "kind": "" if is_open else kind}))
+        part.rows.append(Row(end["where"], {**both, "lat": end["LAT_DECIMAL"], "lon": end["LONG_DECIMAL"], "elev_ft": rounded_down(end["RWY_END_ELEV"]),
+                                            "kind": "" if is_open else kind}))
     return part
 
 

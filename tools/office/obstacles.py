@@ -6,7 +6,7 @@ from dataclasses import dataclass, field
 
 from office.desk import Pair
 from office.faults import Fault
-from office.nasr import Cells, opened
+from office.nasr import Cells, columns_of
 from office.records import TENTHS
 from office.replies import RULES, Found
 from office.tables import Row
@@ -40,6 +40,10 @@ class Obstacle:
     def name(self) -> str:
         marks = ", ".join(filter(None, (self.accuracy, "unverified" if self.verified == UNVERIFIED else "")))
         return f"{self.number} {self.kind}" + (f" ({marks})" if marks else "")
+
+    def cells(self) -> tuple[str, ...]:
+        """For a list, its heights without the zeros before them."""
+        return self.number, self.kind, f"{float(self.agl):g}", f"{float(self.amsl):g}", self.lat, self.lon, self.accuracy, self.study
 
     def row(self) -> Row:
         """A structure: the file does not say which tower is an antenna structure of 77.9(e)(4), so it is an object."""
@@ -75,13 +79,11 @@ def fixed(path: str, lines: list[str]) -> Obstacles:
 
 def by_names(path: str, others: Cells) -> Obstacles:
     """The rows of the CSV form."""
-    rows, lacking, fault = opened(path, tuple(WANTED), tuple(USEFUL), others)
-    if fault:
-        raise Fault(fault)
-    names = {**WANTED, **USEFUL}
-    out = Obstacles(notes=[f"{path} has no column {name}" for name in lacking])
-    out.some = [Obstacle(where=row["where"], **{ours: row[theirs] for theirs, ours in names.items()}) for row in rows]
-    return out
+    columns, names = columns_of(path, WANTED, USEFUL, others), {**WANTED, **USEFUL}
+    if columns.fault:
+        raise Fault(columns.fault)
+    some = [Obstacle(where=row["where"], **{ours: row[theirs] for theirs, ours in names.items()}) for row in columns.rows()]
+    return Obstacles(some, notes=[f"{path} has no column {name}" for name in columns.lacking])
 
 
 def read(path: str, others: Cells) -> Obstacles:
@@ -100,6 +102,6 @@ def exceeding(pairs: Iterable[tuple[Obstacle, Pair]]) -> list[tuple[str, ...]]:
         for entry in pair.reply.entries if isinstance(pair.reply, Found) else ():
             if entry.rule.is_standard:
                 paragraph, surface, _ = say_entry(entry)
-                cells = paragraph, surface, f"{entry.excess / TENTHS:.1f}", one.number, one.kind, *(str(int(feet)) for feet in (one.agl, one.amsl)), one.lat, one.lon, one.accuracy, one.study
+                cells = paragraph, surface, f"{entry.excess / TENTHS:.1f}", *one.cells()
                 rows.append((entry.airfield, order.index(entry.rule.name), entry.key, -entry.excess, one.number, cells))
     return [row[-1] for row in sorted(rows)]

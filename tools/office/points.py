@@ -3,6 +3,7 @@ import math
 import re
 from collections.abc import Iterable, Mapping
 from dataclasses import dataclass, field
+from functools import partial
 
 from office import forms
 from office.faults import Fault, FinalFault, gathered
@@ -74,7 +75,15 @@ def check_word(row: Row, column: str, value: Value) -> None:
 def check_words(row: Row) -> None:
     what = row.get("what")
     some = {**NEEDED_WORDS[what], **OTHER_WORDS.get(what, {})}
-    gathered(*(lambda column=column, value=value: check_word(row, column, value) for column, value in some.items()))
+    gathered(*(partial(check_word, row, column, value) for column, value in some.items()))
+
+
+def angle_in(row: Row, column: str, axis: Axis) -> float:
+    return degrees(row.need(column), axis, f"{row.label}, {column}")
+
+
+def feet_in(row: Row, column: str) -> tuple[str, int]:
+    return column, tenths(row.need(column), f"{row.label}, {column}")
 
 
 def feet_of(row: Row) -> dict[str, int]:
@@ -82,7 +91,7 @@ def feet_of(row: Row) -> dict[str, int]:
     what = row.get("what")
     columns = [*NEEDED_FEET[what], *(column for column in OTHER_FEET.get(what, ()) if row.get(column))]
     columns += [] if {GROUND, TOP} & set(columns) else [GROUND]
-    out = dict(gathered(*(lambda column=column: (column, tenths(row.need(column), f"{row.label}, {column}")) for column in columns)))
+    out = dict(gathered(*(partial(feet_in, row, column) for column in columns)))
     if TOP in out:
         ground = out[TOP] - out["height_ft"]
         if out.setdefault(GROUND, ground) != ground:
@@ -158,11 +167,11 @@ class Writer:
 
     def locate(self, row: Row) -> Point:
         """A row's place and feet; a fault names all that is wrong with it."""
-        (lat, lon, place), feet, _ = gathered(lambda: self.position(row), lambda: feet_of(row), lambda: check_words(row))
+        (lat, lon, place), feet, _ = gathered(partial(self.position, row), partial(feet_of, row), partial(check_words, row))
         return Point(row, lat, lon, place, feet)
 
     def position(self, row: Row) -> tuple[float, float, Place]:
-        lat, lon = gathered(lambda: degrees(row.need("lat"), Axis.LATITUDE, f"{row.label}, lat"), lambda: degrees(row.need("lon"), Axis.LONGITUDE, f"{row.label}, lon"))
+        lat, lon = gathered(partial(angle_in, row, "lat", Axis.LATITUDE), partial(angle_in, row, "lon", Axis.LONGITUDE))
         return lat, lon, self.grid.place(lat, lon, row.label)
 
     def put_structure(self, point: Point) -> None:

@@ -40,7 +40,8 @@ def chosen(args: argparse.Namespace, columns: Cells, ids: list[str]) -> tuple[na
         known.add(row["ARPT_ID"])
         return row["ARPT_ID"] in ids or bool(args.near) and near.is_near(row["LAT_DECIMAL"], row["LONG_DECIMAL"])
     files = nasr.read(args.folder, columns, is_chosen)
-    missing = [name + (f" (is it {name[1:]}?)" if name[1:] in known else "") for name in args.id if name not in known]
+    alike = {name: next((f" (is it {one}?)" for one in (name.upper(), name[1:].upper()) if one in known), "") for name in args.id}
+    missing = [name + hint for name, hint in alike.items() if name not in known]
     if missing:
         raise Fault(f"{BASE} has no ARPT_ID {', '.join(missing)}")
     if not files.base:

@@ -9,12 +9,13 @@ from office.faults import Fault, FinalFault
 from office.measures import tenths
 from office.nasr import BASE, RUNWAYS, Airfield, Part
 from office.points import Writer
-from office.records import feet, show
+from office.records import TENTHS, feet, show
 from office.register import KINDS, NOT_DESCRIBED, point
 from office.tables import Row
 
 WORDS = {"CATEGORY": "category", "USE": "use", "SURFACE": "surface"}
 END_NUMBERS = ("1", "2")
+ARTICLES = {"airport": "an airport", "heliport": "a heliport"}
 OF_HELIPORT = {"elev_ft": "ELEVATION", "width_ft": "WIDTH"}
 
 Fields = Mapping[str, str]
@@ -72,7 +73,7 @@ def differences(new: Fields, kept: Fields, ends: list[str]) -> list[str]:
 
 def differences_of_pad(row: Row, kept: Fields) -> list[str]:
     """What the files say of a heliport otherwise than the office's row, as far as they say it."""
-    return [f"its {name.lower()} is {show(tenths(row.get(column), f'{row.label}, {column}') / 10)} ft in the files, and {show(feet(kept[name]))} ft here"
+    return [f"its {name.lower()} is {show(tenths(row.get(column), f'{row.label}, {column}') / TENTHS)} ft in the files, and {show(feet(kept[name]))} ft here"
             for column, name in OF_HELIPORT.items() if row.get(column) and tenths(row.get(column), f"{row.label}, {column}") != int(kept[name])]
 
 
@@ -126,7 +127,7 @@ class Maker:
         if kept and airfield.is_closed:
             self.look([f"{own.label} is in {self.path}, and {own.wanting[0]}; to take it out: {self.record_of('drop', airfield.id, airfield.id)}"])
         elif kept and own.rows and kept != airfield.form:
-            self.leave_out(own, [f"it is {airfield.form} in the files, and {kept} in {self.path}"], True)
+            self.leave_out(own, [f"it is {ARTICLES[airfield.form]} in the files, and {ARTICLES[kept]} in {self.path}"], True)
         elif kept == "heliport" and own.rows:
             self.compare_heliport(airfield)
         elif self.put(own, airfield.id) or kept:
@@ -137,7 +138,11 @@ class Maker:
             self.lines[-1] += f"; its runways ({', '.join(airfield.runways)}) go with it"
 
     def compare_heliport(self, airfield: Airfield) -> None:
-        some = differences_of_pad(airfield.own.rows[0], self.office.values(airfield.id))
+        try:
+            some = differences_of_pad(airfield.own.rows[0], self.office.values(airfield.id))
+        except Fault as fault:
+            self.leave_out(airfield.own, [str(fault)], True)
+            return
         self.counts["as before"] += not some
         self.look([f"{airfield.own.label}, in {self.path}: {'; '.join(some)}"] if some else [])
 

@@ -67,8 +67,10 @@ class Airfields(Files):
         self.assertEqual([line.split(",")[:3] for line in ours], [["airport", "nasr", "261126.DEMO"], ["runway", "nasr", "261126.DEMO.09"], ["runway", "nasr", "261126.DEMO.17"]])
         self.assertEqual([line.split(",")[3:5] for line in ended.out.splitlines()],
                          [["AFBX", "dod"], ["AFBX", "14/32"], ["DEMO", "public"], ["DEMO", "09/27"], ["DEMO", "17/35"], ["RNCH", "private"], ["RNCH", "01/19"]])
-        for words in ("left out: DEMO H1: a helipad of an airport", "left out: HOSP (INVENTED HOSPITAL): a heliport at latitude 39.34440000, longitude -115.43310000, 6050.0 ft above mean sea level, "
-                      "H1 60 by 60 ft: latitude and longitude of both ends of the axis", "left out: LAKE (INVENTED LAKE): a seaplane base", "left out: OLD1 (INVENTED OLD FIELD): ARPT_STATUS is CP",
+        for words in ("left out: DEMO H1: a helipad of an airport",
+                      "left out: HOSP (INVENTED HOSPITAL): a heliport at latitude 39.34440000, longitude -115.43310000, 6050.0 ft above mean sea level, "
+                      "H1 60 by 60 ft: latitude and longitude of both ends of the axis", "left out: LAKE (INVENTED LAKE): a seaplane base",
+                      "left out: OLD1 (INVENTED OLD FIELD): ARPT_STATUS is CP",
                       "records: 7 (airports 3, runways 4, left out 4)\n", "DEMO 09/27: 7,073.9 ft on the grid"):
             self.assertIn(words, ended.err)
 
@@ -105,8 +107,10 @@ class Airfields(Files):
         self.assertIn("look at this: DEMO 09/27 is written as other, as FAR_PART_77_CODE is PIR and A(V)", ended.err)
 
     def test_surfaces(self) -> None:
-        for code, wanted, words in (("CONC", "hard", ""), ("PEM", "hard", ""), ("ASPH-CONC", "hard", ""), ("GRVL", "soft", ""), ("TURF-DIRT", "soft", ""), ("ASPH-TURF", "hard", "as its surface ASPH-TURF"),
-                                    ("MATS", "hard", "as its surface MATS"), ("", "", "SURFACE_TYPE_CODE is blank"), ("LAVA", "", '"LAVA", which is unknown'), ("ASPH-LAVA", "", "unknown"),
+        for code, wanted, words in (("CONC", "hard", ""), ("PEM", "hard", ""), ("ASPH-CONC", "hard", ""), ("GRVL", "soft", ""), ("TURF-DIRT", "soft", ""),
+                                    ("ASPH-TURF", "hard", "as its surface ASPH-TURF"),
+                                    ("MATS", "hard", "as its surface MATS"), ("", "", "SURFACE_TYPE_CODE is blank"), ("LAVA", "", '"LAVA", which is unknown'),
+                                    ("ASPH-LAVA", "", "unknown"),
                                     ("WATER", "", "left out: DEMO 09/27: a water lane")):
             self.setUp()
             self.change(RUNWAYS, ('"7074","100","ASPH"', f'"7074","100","{code}"'))
@@ -116,9 +120,12 @@ class Airfields(Files):
             self.assertEqual("look at this: DEMO 09/27" in ended.err, "as its" in words)
 
     def test_categories(self) -> None:
-        for owner, use, wanted, words in (("PU", "PU", "public", "by FACILITY_USE_CODE PU and OWNERSHIP_TYPE_CODE PU\n"), ("PR", "PU", "public", "is written as public"), ("MN", "PU", "public", "is it `dod` or `federal`?"),
-                                          ("PU", "PR", "private", "`procedure` if an instrument procedure is approved"), ("PR", "PR", "private", "has an approach of FAR_PART_77_CODE C, PIR"),
-                                          ("MA", "PR", "dod", "it has no surfaces of 77.19"), ("MR", "PR", "dod", ""), ("CG", "PR", "federal", ""), ("XX", "PU", "", "which make no category"), ("PU", "", "", "which make no category")):
+        for owner, use, wanted, words in (("PU", "PU", "public", "by FACILITY_USE_CODE PU and OWNERSHIP_TYPE_CODE PU\n"), ("PR", "PU", "public", "is written as public"),
+                                          ("MN", "PU", "public", "is it `dod` or `federal`?"),
+                                          ("PU", "PR", "private", "`procedure` if an instrument procedure is approved"),
+                                          ("PR", "PR", "private", "has an approach of FAR_PART_77_CODE C, PIR"),
+                                          ("MA", "PR", "dod", "it has no surfaces of 77.19"), ("MR", "PR", "dod", ""), ("CG", "PR", "federal", ""),
+                                          ("XX", "PU", "", "which make no category"), ("PU", "", "", "which make no category")):
             self.setUp()
             self.change(BASE, ('"INVENTED FIELD","PU","PU"', f'"INVENTED FIELD","{owner}","{use}"'))
             ended = self.made("--id", "DEMO")
@@ -135,13 +142,17 @@ class Airfields(Files):
 
     def test_what_is_left_out(self) -> None:
         for name, old, new, words in (
-                (ENDS, '"39.33388889"', '""', "left out: DEMO 09/27: LAT_DECIMAL is blank at end 27\n"), (ENDS, '"5991.5"', '""', "left out: DEMO 09/27: RWY_END_ELEV is blank at end 27\n"),
+                (ENDS, '"39.33388889"', '""', "left out: DEMO 09/27: LAT_DECIMAL is blank at end 27\n"),
+                (ENDS, '"5991.5"', '""', "left out: DEMO 09/27: RWY_END_ELEV is blank at end 27\n"),
                 (ENDS, '"5991.5"', '"low"', 'left out: DEMO 09/27: APT_RWY_END.csv line 2 (DEMO 09/27), elev_ft: "low" is no number of feet'),
-                (ENDS, '"09/27","27"', '"09/27","28"', "left out: DEMO 09/27: APT_RWY_END.csv has ends 28, 09 of it"), (ENDS, '"17/35","35"', '"17/53","35"', "left out: DEMO 17/35: APT_RWY_END.csv has ends 17 of it"),
-                (ENDS, '"39.33388889","-115.41250000"', '"40.70","-73.90"', "left out: DEMO 09/27: APT_RWY_END.csv line 2 (DEMO 09/27): latitude 40.70000, longitude -73.90000 is outside of"),
+                (ENDS, '"09/27","27"', '"09/27","28"', "left out: DEMO 09/27: APT_RWY_END.csv has ends 28, 09 of it"),
+                (ENDS, '"17/35","35"', '"17/53","35"', "left out: DEMO 17/35: APT_RWY_END.csv has ends 17 of it"),
+                (ENDS, '"39.33388889","-115.41250000"', '"40.70","-73.90"',
+                 "left out: DEMO 09/27: APT_RWY_END.csv line 2 (DEMO 09/27): latitude 40.70000, longitude -73.90000 is outside of"),
                 (BASE, '"6010.0"', '""', "left out: DEMO (INVENTED FIELD): ELEV is blank; its runways (09/27, 17/35, H1) go with it"),
                 (BASE, '"00001.*A","A"', '"00001.*A","X"', 'left out: DEMO (INVENTED FIELD): SITE_TYPE_CODE is "X", which is unknown'),
-                (BASE, '"RNCH"', '"DEMO"', "left out: DEMO: its ID stands in several rows (APT_BASE.csv line 2, APT_BASE.csv line 3)"), (BASE, '"6010.0","O"', '"6010.0","Z"', "ARPT_STATUS is Z\n")):
+                (BASE, '"RNCH"', '"DEMO"', "left out: DEMO: its ID stands in several rows (APT_BASE.csv line 2, APT_BASE.csv line 3)"),
+                (BASE, '"6010.0","O"', '"6010.0","Z"', "ARPT_STATUS is Z\n")):
             self.setUp()
             self.change(name, (old, new))
             self.assertIn(words, self.made("--id", "DEMO").err)
@@ -181,7 +192,8 @@ class Airfields(Files):
         self.change(BASE, ("ARPT_NAME", "N"), ("ARPT_STATUS", "S"))
         self.change(RUNWAYS, ("RWY_LEN", "L"), ("RWY_WIDTH", "W"))
         ended = self.made("--id", "OLD1", "--id", "HOSP", "--id", "DEMO", "--column", "LAT_DECIMAL=LATITUDE", "--column", "ELEV=HEIGHT")
-        for words in ("APT_BASE.csv has no column ARPT_STATUS: a closed airfield is not left out\n", "APT_BASE.csv has no column ARPT_NAME", "APT_RWY.csv has no column RWY_LEN: no length is compared\n", "H1 ? by ? ft"):
+        for words in ("APT_BASE.csv has no column ARPT_STATUS: a closed airfield is not left out\n", "APT_BASE.csv has no column ARPT_NAME",
+                      "APT_RWY.csv has no column RWY_LEN: no length is compared\n", "H1 ? by ? ft"):
             self.assertIn(words, ended.err)
         self.assertIn(",OLD1,public,", ended.out)
         self.assertNotIn("published", ended.err)
@@ -201,32 +213,38 @@ class Airfields(Files):
             self.assertEqual(seen, {name for name, place in rows.items() if miles(place) <= most}, most)
         self.assertEqual(self.made("--near", "39-19-48N,115-25-12W").out, self.made().out)
         self.refused("APT_BASE.csv has no airfield within 0.1 miles of 39.33,-115.42", *NEAR, "--miles", "0.1", *GRID)
-        self.refused("APT_BASE.csv has no ARPT_ID KDEMO (is it DEMO?), X", "--id", "KDEMO", "--id", "X", *GRID)
+        self.refused("APT_BASE.csv has no ARPT_ID KDEMO (is it DEMO?), demo (is it DEMO?), X", "--id", "KDEMO", "--id", "demo", "--id", "X", *GRID)
         self.change(BASE, ('"39.30000000"', '""'))
         self.assertIn("rows of APT_BASE.csv without a place, which --near does not find: 1\n", self.made().err)
 
     def test_a_table_to_fill_in(self) -> None:
         """What is blank is named again by oe-from-points; filled in, it is the records of the files."""
         table = self.good("oe-from-nasr", "faa", "--id", "DEMO", *BARE, "--id", "HOSP", "--id", "LAKE", "--table")
-        for words in ("to fill in: BARE 08/26: FAR_PART_77_CODE of end 26 is blank\n", 'to fill in: BARE 03/21: LAT_DECIMAL is blank at end 21; LONG_DECIMAL is blank at end 21; RWY_END_ELEV is blank at end 21; '
+        for words in ("to fill in: BARE 08/26: FAR_PART_77_CODE of end 26 is blank\n",
+                      'to fill in: BARE 03/21: LAT_DECIMAL is blank at end 21; LONG_DECIMAL is blank at end 21; RWY_END_ELEV is blank at end 21; '
                       'FAR_PART_77_CODE of end 03 is "E"', "left out: LAKE", "to fill in: HOSP"):
             self.assertIn(words, table.err)
         path = self.write("table.csv", table.out)
         ended = self.run_tool("oe-from-points", path, *GRID)
         wanting = [line.partition(": table.csv line ")[2] for line in ended.err.splitlines()]
-        self.assertEqual(wanting, ['3: "end" wants use', '4: "end" wants use', '4: "end" wants kind', '7: "end" wants use', '7: "end" wants kind', '8: "end" wants lat', '8: "end" wants lon', '8: "end" wants elev_ft',
+        self.assertEqual(wanting, ['3: "end" wants use', '4: "end" wants use', '4: "end" wants kind', '7: "end" wants use', '7: "end" wants kind', '8: "end" wants lat',
+                                   '8: "end" wants lon', '8: "end" wants elev_ft',
                                    '8: "end" wants use', '14: "pad" wants lat', '14: "pad" wants lon', '15: "pad" wants lat', '15: "pad" wants lon'])
         demo = "".join(line + "\n" for line in table.out.splitlines() if line.startswith("what") or ",DEMO," in line)
         records = self.good("oe-from-points", self.write("demo.csv", demo), *GRID).out.splitlines()
         self.assertEqual([line.split(",")[3:] for line in records], [line.split(",")[3:] for line in self.made("--id", "DEMO").out.splitlines()])
 
     def test_options_that_do_not_go_together(self) -> None:
-        for words, wanted in (((), "say which airfields"), (("--dof", "x"), "name a FOLDER"), (("--id", "DEMO", "--miles", "3"), "--miles wants --near"), (("--id", "DEMO", "--table", "--over", "x"), "--table is of airfields"),
-                              (("--id", "DEMO", "--names", "x"), "--names wants --dof"), (("--near", "39"), '--near: "" is no longitude'), (("--id", "DEMO", "--key", "261126.a"), "--key 261126.a: wanted is 1 to 7 letters")):
+        for words, wanted in (((), "say which airfields"), (("--dof", "x"), "name a FOLDER"), (("--id", "DEMO", "--miles", "3"), "--miles wants --near"),
+                              (("--id", "DEMO", "--table", "--over", "x"), "--table is of airfields"),
+                              (("--id", "DEMO", "--names", "x"), "--names wants --dof"), (("--near", "39"), '--near: "" is no longitude'),
+                              (("--id", "DEMO", "--key", "261126.a"), "--key 261126.a: wanted is 1 to 7 letters")):
             self.refused(wanted, *words, *GRID)
         self.fault("name a FOLDER", "oe-from-nasr")
         self.fault("--id and --category are of airfields", "oe-from-nasr", "--dof", "x", "--id", "DEMO")
         self.fault("nowhere: No such file", "oe-from-nasr", "nowhere", "--id", "DEMO")
+        (self.folder / "faa" / ENDS).write_text("A" * 200_000)
+        self.refused("faa/APT_RWY_END.csv: it is no CSV (field larger", "--id", "DEMO", *GRID)
         (self.folder / "faa" / ENDS).unlink()
         self.refused("faa/APT_RWY_END.csv: No such file", "--id", "DEMO", *GRID)
 
@@ -250,9 +268,10 @@ class Over(Files):
         self.change(BASE, ('"6010.0","O"', '"6011.4","O"'))
         self.change(ENDS, ('"5991.5","C"', '"5992.25","D"'), ('"39.34300000"', '"39.34301000"'))
         ended = self.over()
-        self.assertEqual([line.split(",")[:5] for line in ended.out.splitlines()], [["airport", "nasr", "261224.DEMO", "DEMO", "public"], ["runway", "nasr", "261224.DEMO.09", "DEMO", "09/27"],
-                                                                                     ["runway", "nasr", "261224.DEMO.17", "DEMO", "17/35"]])
-        for words in ("changed: DEMO (INVENTED FIELD): elevation 6,010.0 to 6,011.4 ft\n", "changed: DEMO 09/27: elevation of end 27 5,991.5 to 5,992.2 ft; approach of end 27 NA to NL\n",
+        wanted = ["airport,nasr,261224.DEMO,DEMO,public", "runway,nasr,261224.DEMO.09,DEMO,09/27", "runway,nasr,261224.DEMO.17,DEMO,17/35"]
+        self.assertEqual([",".join(line.split(",")[:5]) for line in ended.out.splitlines()], wanted)
+        for words in ("changed: DEMO (INVENTED FIELD): elevation 6,010.0 to 6,011.4 ft\n",
+                      "changed: DEMO 09/27: elevation of end 27 5,991.5 to 5,992.2 ft; approach of end 27 NA to NL\n",
                       "records: 3 (changed 3, left out 1)\n"):
             self.assertIn(words, ended.err)
         self.assertRegex(ended.err, r"changed: DEMO 17/35: place of end 17 by 3\.[67] ft\n")  # a hundred thousandth of a degree is 1.11 m
@@ -273,12 +292,14 @@ class Over(Files):
                     (1, "DEMO 17/35", "other,hard,3779,188607,59980,V,10926,144915,60045,V/P"))
         ended = self.over()
         self.assertEqual(ended.out, "")
-        for words in ("look at this: DEMO (INVENTED FIELD) stays federal; by the files it is public\n", "look at this: DEMO 17/35 stays hard; by the files it is soft: is a hard surface planned"):
+        for words in ("look at this: DEMO (INVENTED FIELD) stays federal; by the files it is public\n",
+                      "look at this: DEMO 17/35 stays hard; by the files it is soft: is a hard surface planned"):
             self.assertIn(words, ended.err)
         self.assertEqual([line[4] for line in of("airport", self.over("--category", "DEMO=public"))], ["public"])
         self.change(ENDS, ('"6004.57","A(V)"', '"6004.7","A(V)"'), ('"5991.5","C"', '"5991.5","D"'))
         ended = self.over()
-        self.assertEqual([line[4:] for line in of("runway", ended)], ["09/27,other,hard,-25858,153351,60100,P,44848,155498,59915,NL".split(","), "17/35,other,hard,3779,188607,59980,V,10926,144915,60047,V/P".split(",")])
+        self.assertEqual([line[4:] for line in of("runway", ended)], ["09/27,other,hard,-25858,153351,60100,P,44848,155498,59915,NL".split(","),
+                                                                      "17/35,other,hard,3779,188607,59980,V,10926,144915,60047,V/P".split(",")])
         self.assertIn("changed: DEMO 09/27: approach of end 27 NA/NL to NL\n", ended.err)
 
     def test_ends_that_the_office_has_the_other_way(self) -> None:
@@ -311,7 +332,8 @@ class Over(Files):
         self.change(ENDS, ('"5991.5","C"', '"5991.5",""'), ('"5998.0"', '"5999.0"'))
         ended = self.over()
         self.assertEqual([line[4] for line in of("runway", ended)], ["17/35"])
-        for words in ("left out: DEMO (INVENTED FIELD): ELEV is blank; the row in office.db stays\n", "left out: DEMO 09/27: FAR_PART_77_CODE of end 27 is blank; the row in office.db stays\n", "changed: DEMO 17/35: elevation of end 17"):
+        for words in ("left out: DEMO (INVENTED FIELD): ELEV is blank; the row in office.db stays\n",
+                      "left out: DEMO 09/27: FAR_PART_77_CODE of end 27 is blank; the row in office.db stays\n", "changed: DEMO 17/35: elevation of end 17"):
             self.assertIn(words, ended.err)
 
     def test_heliports(self) -> None:
@@ -319,11 +341,15 @@ class Over(Files):
         self.office((0, "HOSP", "heliport,private,0,0,600,0,600,60500"), (0, "RNCH", "heliport,private,0,0,600,0,600,61020"), (0, "LAKE", "airport,public,0,0,55000"))
         ended = self.over()
         self.assertEqual(ended.out, "")
-        for words in ("left out: RNCH (INVENTED RANCH): it is airport in the files, and heliport in office.db; the row in office.db stays\n", "left out: LAKE (INVENTED LAKE): a seaplane base: it is an airport only if visual markers "
+        for words in ("left out: RNCH (INVENTED RANCH): it is an airport in the files, and a heliport in office.db; the row in office.db stays\n",
+                      "left out: LAKE (INVENTED LAKE): a seaplane base: it is an airport only if visual markers "
                       "outline its sea lanes (77.3); the row in office.db stays\n", "records: 0 (as before 1, left out 2)"):
             self.assertIn(words, ended.err)
         self.office((0, "HOSP", "heliport,private,0,0,600,0,500,60510"))
-        self.assertIn("look at this: HOSP (INVENTED HOSPITAL), in office.db: its elevation is 6,050.0 ft in the files, and 6,051.0 ft here; its width is 60.0 ft in the files, and 50.0 ft here\n", self.over().err)
+        self.assertIn("look at this: HOSP (INVENTED HOSPITAL), in office.db: its elevation is 6,050.0 ft in the files, and 6,051.0 ft here; "
+                      "its width is 60.0 ft in the files, and 50.0 ft here\n", self.over().err)
+        self.change(RUNWAYS, ('"HOSP","NOWHERE","H1","60","60"', '"HOSP","NOWHERE","H1","60","wide"'))
+        self.assertIn('(HOSP), width_ft: "wide" is no number of feet; the row in office.db stays\n', self.over().err)
 
     def test_faults(self) -> None:
         self.refused("none.db: no such file", "--over", "none.db", *GRID)
@@ -353,7 +379,8 @@ class ObstacleFile(Trial):
         """The records of DOF.DAT and of the CSV, which has the places as degrees, are one."""
         fixed, table = (self.made(EXAMPLES / name, "--names", "names.csv") for name in ("DOF.DAT", "DOF.CSV"))
         self.assertEqual(fixed, table)
-        self.assertEqual([line.split(",")[3:] for line in fixed.out.splitlines()], [f"{ground},{height},object,0,-,-".split(",") for ground, height in ((60250, 3050), (59900, 600), (64000, 5100), (59000, 1200))])
+        heights = ["60250,3050", "59900,600", "64000,5100", "59000,1200"]  # of the top less that above the ground, and that
+        self.assertEqual([line.split(",", 3)[3] for line in fixed.out.splitlines()], [f"{both},object,0,-,-" for both in heights])
         self.assertIn("obstacles: 6; dismantled 1; outside of the zone or the grid 1; asked 4\n", fixed.err)
         names = list(csv.reader((self.folder / "names.csv").read_text().splitlines()))
         self.assertEqual([row[4] for row in names], ["32-000101 TOWER (1A)", "32-000102 POLE (4D)", "32-000103 STACK (2C, unverified)", "32-000105 T-L TWR (5E)"])
@@ -376,8 +403,10 @@ class ObstacleFile(Trial):
         lines[first + 1] = lines[first + 1].replace("00060", "00 60")
         ended = self.made(self.write("broken.dat", "\n".join([*lines, "", "THE END"]) + "\n"))
         self.assertEqual(len(ended.out.splitlines()), 2)
-        for words in (f"left out: broken.dat line {first + 1}: it is not in the columns of an obstacle\n", f'left out: broken.dat line {first + 2} (32-000102 POLE (4D)), height_ft: "00 60" is no number of feet',
-                      f"left out: broken.dat line {len(lines) + 2}: it is not in the columns", "obstacles: 7; dismantled 1; outside of the zone or the grid 1; refused 1; not readable 2; asked 2\n"):
+        for words in (f"left out: broken.dat line {first + 1}: it is not in the columns of an obstacle\n",
+                      f'left out: broken.dat line {first + 2} (32-000102 POLE (4D)), height_ft: "00 60" is no number of feet',
+                      f"left out: broken.dat line {len(lines) + 2}: it is not in the columns",
+                      "obstacles: 7; dismantled 1; outside of the zone or the grid 1; refused 1; not readable 2; asked 2\n"):
             self.assertIn(words, ended.err)
         self.fault("no line of it is in the columns of an obstacle", "oe-from-nasr", "--dof", str(EXAMPLES / "ends.ini"), *GRID)
         self.fault("has no column OAS, LATDEC, LONDEC, TYPE, AGL, AMSL", "oe-from-nasr", "--dof", str(EXAMPLES / "ends.csv"), *GRID)
@@ -407,6 +436,8 @@ class ObstacleFile(Trial):
             ["77.19(d)", "approach surface of DEMO runway 09/27, end 1 (09)", "0.0", "32-000105", "T-L TWR", "120", "6020", "39 16 00.00N", "115 31 00.00W", "5E", ""]])
         self.assertEqual((self.folder / "asked").read_text().splitlines()[2:], self.made().out.splitlines())
         self.assertIn("obstacles that exceed a standard: 3\n", ended.err)
+        table = self.write("dof.csv", (EXAMPLES / "DOF.CSV").read_text().replace(",305,", ",305.5,"))
+        self.assertIn(",32-000101,TOWER,305.5,6330,", self.made(table, "--over", "office.db", "--oe", str(program)).out)
 
     @unittest.skipUnless(PROGRAM, "no program is named")
     def test_the_list_of_the_program(self) -> None:

@@ -144,7 +144,8 @@ class Points(Trial):
 
     def test_all_faults_are_named(self) -> None:
         """Every row is looked at, and of a row every cell; an end is not said to be alone where its other one was refused."""
-        rows = (AIRPORT.replace("40.75", "north").replace("20.6", "6 m").replace("public", "PU") + ENDS.replace("20.5", "20.55").replace("18,", "x,") + TOWER.replace("antenna", "tower").replace(",T,", ",TS,") + "end,TST,18/36,40.75,-73.5,20,,other,hard,V,,,,\n" + TOWER)
+        rows = (AIRPORT.replace("40.75", "north").replace("20.6", "6 m").replace("public", "PU") + ENDS.replace("20.5", "20.55").replace("18,", "x,")
+                + TOWER.replace("antenna", "tower").replace(",T,", ",TS,") + "end,TST,18/36,40.75,-73.5,20,,other,hard,V,,,,\n" + TOWER)
         ended = self.run_tool("oe-from-points", self.write("points.csv", HEAD + rows), *AT, "--grid", "office.grid", "--names", "names.csv")
         self.assertEqual((ended.status, ended.out), (1, ""))
         said = ended.err.splitlines()
@@ -159,8 +160,8 @@ class Points(Trial):
         """The runway leads east, 90 degrees: as 09/27 it is right, as 27/09 its rows are exchanged, and as 04/22 magnetic north is too far off."""
         first, second = ENDS.splitlines(keepends=True)
         self.refused("line 3: TST 09/27 leads 270 degrees from its first end to its second: are its two rows exchanged? That of 09 comes first", second + first)
-        for name, words in (("09/27", ""), ("9/27", ""), ("09L/27R", ""), ("05/23", ""), ("12/30", ""), ("04/22", "09/27 leads 90 degrees"), ("14/32", ""), ("27/09", "exchanged"), ("22/04", "exchanged"),
-                            ("20/02", "off its number"), ("36/18", "off its number"), ("E/W", ""), ("99/00", "")):
+        for name, words in (("09/27", ""), ("9/27", ""), ("09L/27R", ""), ("05/23", ""), ("12/30", ""), ("04/22", "09/27 leads 90 degrees"), ("14/32", ""), ("E/W", ""),
+                            ("27/09", "exchanged"), ("22/04", "exchanged"), ("20/02", "off its number"), ("36/18", "off its number"), ("99/00", "")):
             ended = self.run_tool("oe-from-points", self.write("points.csv", HEAD + ENDS.replace("09/27", name)), *AT)
             self.assertEqual(ended.status, int(words == "exchanged"), ended)
             self.assertEqual("CAUTION" in ended.err, name in ("04/22", "14/32", "20/02", "36/18"), ended.err)
@@ -179,7 +180,8 @@ class Points(Trial):
         self.assertEqual((self.folder / "names.csv").read_text(), (",".join(site.split(",")[:4]) + ",Tower\n") * 2)
         for cells, words in (("2026-AWP-OE,2026-03-01,,,,,", 'study "2026-AWP-OE"; wanted is a study as 2026-AWP-101-OE'), (",2026-03-01,,,,,", '"notice" wants study'),
                              ("2026-AWP-1-OE,3/1/2026,,,,,", 'start "3/1/2026" (a spreadsheet\'s date'), ("2026-AWP-1-OE,,,,,,", '"notice" wants start'),
-                             ("2026-AWP-1-OE,2026-03-01,no,,,,", 'permit "no"; wanted is -, or a day'), ("2026-AWP-1-OE,2026-03-01,,,urgent,,", 'urgency "urgent"; wanted is normal or emergency')):
+                             ("2026-AWP-1-OE,2026-03-01,no,,,,", 'permit "no"; wanted is -, or a day'),
+                             ("2026-AWP-1-OE,2026-03-01,,,urgent,,", 'urgency "urgent"; wanted is normal or emergency')):
             self.fault(words, "oe-from-points", self.write("points.csv", f"{head}{tower},{cells}\n"), *AT)
 
     @unittest.skipUnless(PROGRAM, "no program is named")
@@ -264,13 +266,15 @@ class Points(Trial):
 
     def test_rows_that_a_map_leaves_out(self) -> None:
         """By the word -, which an empty cell may have too; the other end of a runway goes with one, and a word of the desk that is - stays."""
-        table = "Sort,Field,Strip,Lat,Long,Height,Class\nE,TST,09/27,40.75,-73.51,20.5,C\nE,TST,09/27,40-45-00.0N,073-29-24.0W,18,C\nE,TST,18/36,40.76,-73.5,20.5,C\nE,TST,18/36,40.75,-73.5,20.5,\nW,LAKE,N/S,,,,\n"
+        table = ("Sort,Field,Strip,Lat,Long,Height,Class\nE,TST,09/27,40.75,-73.51,20.5,C\nE,TST,09/27,40-45-00.0N,073-29-24.0W,18,C\n"
+                 "E,TST,18/36,40.76,-73.5,20.5,C\nE,TST,18/36,40.75,-73.5,20.5,\nW,LAKE,N/S,,,,\n")
         columns = ('[columns]\nwhat = Sort\nid = Field\nname = Strip\nlat = Lat\nlon = Long\nelev_ft = Height\nkind = Class\nuse = "other"\nsurface = "hard"\n'
                    '[what]\nE = end\nW = -\n[kind]\nC = NA\n"" = -\n')
         ended = self.good("oe-from-points", self.write("theirs.csv", table), "--columns", self.write("theirs.ini", columns), *AT)
         self.assertEqual(ended.out.splitlines(), self.records(ENDS.replace("hard,P", "hard,NA")))
         self.assertIn("rows that the map leaves out: 2\nCAUTION: theirs.csv line 4 (TST 18/36) is left out too, as the map leaves out its other end\n", ended.err)
-        self.fault("there is no point in it; rows that the map leaves out: 5", "oe-from-points", self.write("theirs.csv", table), "--columns", self.write("none.ini", columns.replace("= end", "= -")), *AT)
+        none = self.write("none.ini", columns.replace("= end", "= -"))
+        self.fault("there is no point in it; rows that the map leaves out: 5", "oe-from-points", self.write("theirs.csv", table), "--columns", none, *AT)
         tower = "Kind,Lat,Long,Ground,Feet,Flag\nM,40.76,-73.52,30,250.5,none\n"
         columns = ('[columns]\nwhat = "structure"\nlat = Lat\nlon = Long\nelev_ft = Ground\nheight_ft = Feet\nkind = Kind\nflags = Flag\n[kind]\nM = antenna\n[flags]\nnone = -\n')
         (record,) = self.good("oe-from-points", self.write("theirs.csv", tower), "--columns", self.write("theirs.ini", columns), *AT).out.splitlines()
