@@ -8,7 +8,7 @@ from datetime import date
 
 LONGEST_LINE = 8192  # bytes
 LONGEST_QUOTED = 60  # letters of a field that was refused
-WORDS_OF_POINTS = ("what", "end", "pad", "structure")  # of a table for oe-from-points
+WORDS_OF_POINTS = ("what", "end", "pad", "structure", "notice")  # of a table for oe-from-points
 SEPARATORS = ",;\t"  # a spreadsheet saves semicolons where a comma begins the decimals
 FLAG_LETTERS = "SDRIGT"
 EXEMPT = "SDR"  # flags that take every notice rule away, 77.9(e)
@@ -91,6 +91,8 @@ ELEVATION = whole("tenths of a foot above mean sea level, a whole number")
 GROUND = whole("the ground in tenths of a foot above mean sea level, -20000 to 200000", -20_000, 200_000)
 HEIGHT = whole("the height above the ground in tenths of a foot, 0 to 100000", 0, 100_000)
 WIDTH = whole("the width in tenths of a foot, a whole number")
+USE = words("utility", "other")
+URGENCY = words("normal", "emergency")
 STRUCTURE = words("object", "antenna", *TRAVERSE_WAYS, meant={
     "tower": "antenna for an antenna structure, else object", **each("object", "building", "house", "crane", "pole", "stack", "tank", "turbine", "wall"),
     "highway": "interstate or road", "street": "road", **each("rail", "railroad", "railway"), **each("water", "waterway", "river", "canal")})
@@ -132,8 +134,7 @@ def runway_end(number: str) -> tuple[Field, ...]:
 FORMS: dict[str, tuple[Field, ...]] = {
     "airport": fields(CHANGE, Field("ID", ID), Field("CATEGORY", CATEGORY), Field("X", COORDINATE), Field("Y", COORDINATE),
                       Field("ELEVATION", ELEVATION)),
-    "runway": fields(CHANGE, Field("ID", ID), Field("NAME", NAME), Field("USE", words("utility", "other")),
-                     Field("SURFACE", PAVEMENT), runway_end("1"), runway_end("2")),
+    "runway": fields(CHANGE, Field("ID", ID), Field("NAME", NAME), Field("USE", USE), Field("SURFACE", PAVEMENT), runway_end("1"), runway_end("2")),
     "droprunway": fields(CHANGE, Field("ID", ID), Field("NAME", NAME)),
     "heliport": fields(CHANGE, Field("ID", ID), Field("CATEGORY", CATEGORY), Field("XA", COORDINATE), Field("YA", COORDINATE),
                        Field("XB", COORDINATE), Field("YB", COORDINATE), Field("WIDTH", WIDTH), Field("ELEVATION", ELEVATION)),
@@ -145,7 +146,7 @@ FORMS: dict[str, tuple[Field, ...]] = {
     "day": fields(CHANGE, Field("DATE", DAY)),
     "closed": fields(CHANGE, Field("DATE", DAY)),
     "file": fields(CHANGE, Field("START", DAY), Field("PERMIT", DAY_OR_NONE), Field("FCC", DAY_OR_NONE),
-                   Field("EMERGENCY", words("normal", "emergency")), Field("STATEMENT", YES), SITE),
+                   Field("EMERGENCY", URGENCY), Field("STATEMENT", YES), SITE),
     "form": OF_CASE,
     "determine": fields(OF_CASE, Field("FINDING", FINDING)),
     "petition": fields(OF_CASE, Field("WHO", words("sponsor", "commenter", "latecomment"))),

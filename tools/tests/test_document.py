@@ -9,7 +9,7 @@ from dataclasses import dataclass
 from tests import stored
 from tests.trial import PROGRAM, STORED_DESK, TOOLS, Trial
 
-NAMES = ("oe-say", "oe-from-points", "oe-clean", "oe-draw")
+NAMES = ("oe-say", "oe-from-nasr", "oe-from-points", "oe-clean", "oe-draw")
 INDENT, PROMPT = "    ", "    $ "
 PICTURES = ("plan.svg", "profile.svg", "heliport.svg")
 
