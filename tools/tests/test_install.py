@@ -13,7 +13,7 @@ from tests.trial import TOOLS
 STDOUT = stored.TOP / "crates" / "oe_main" / "stdout"  # the replies of docs/first.csv
 STANDS_FOR_THE_PROGRAM = f"#!/bin/sh\ncat > /dev/null\ncat <<'END'\n{STDOUT.read_text()}END\n"
 DOCS = Path("share", "doc", "oe")
-BESIDE_THE_PROGRAM = {"oe-say", "oe-from-points", "oe-clean", "oe-draw", "oe-convert"}
+BESIDE_THE_PROGRAM = {"oe-say", "oe-from-points", "oe-clean", "oe-draw", "oe-convert", "oe-map", "oe-high"}
 
 
 def run_in(folder: Path, *words: str | Path) -> str:
@@ -61,7 +61,8 @@ class Installed(unittest.TestCase):
             self.assertEqual((prefix / "bin" / "oe").read_text(), STANDS_FOR_THE_PROGRAM)
             self.assertIn("is not proved", " ".join(run_in(prefix, prefix / "bin" / "oe-say", "--help").split()))
             docs = prefix / DOCS
-            self.assertEqual({path.name for path in docs.glob("*.*")}, {path.name for path in (stored.TOP / "docs").glob("*.*")} - {"oe.1"})
+            self.assertEqual({path.name for path in docs.glob("*.*")}, {path.name for path in (stored.TOP / "docs").glob("*.*") if path.suffix != ".1"})
+            self.assertEqual({path.name for path in (prefix / "share" / "man" / "man1").iterdir()}, {path.name for path in (stored.TOP / "docs").glob("*.1")})
             for path in docs.rglob("*"):
                 self.assertEqual(path.stat().st_mode & 0o777, 0o755 if path.is_dir() else 0o644, path)
 
