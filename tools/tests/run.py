@@ -10,7 +10,13 @@ from pathlib import Path
 TOOLS = Path(__file__).resolve().parent.parent
 MISSING = {
     "pyproj": "pyproj is missing (Debian: python3-pyproj): the positions of oe-from-points are not tested",
-    "shapely": "shapely is missing (Debian: python3-shapely): the outline of the horizontal surface is not compared with its own",
+    "shapely": "shapely is missing (Debian: python3-shapely): the outline of the horizontal surface is not compared with its own, and oe-map is not tested",
+    "osgeo": "GDAL is missing (Debian: python3-gdal): the files of oe-map are not read back by it",
+    "contourpy": "contourpy is missing (Debian: python3-contourpy): the contours of oe-high are not compared with its own",
+}
+FILES = {
+    "/usr/share/javascript/leaflet": "Leaflet is missing (Debian: libjs-leaflet): the page of oe-map is not tested",
+    "chromium": "chromium is missing: what the page of oe-map says of a place is not tested",
 }
 MISSING_PROGRAMS = {
     "dh_python3": "debhelper or dh-python is missing (Debian: debhelper, dh-python): no package is made",
@@ -29,6 +35,7 @@ def main() -> int:
     sys.dont_write_bytecode = True
     sys.path.insert(0, str(TOOLS))
     said = [text for name, text in MISSING.items() if importlib.util.find_spec(name) is None]
+    said += [text for name, text in FILES.items() if not (os.path.exists(name) or shutil.which(name))]
     said += [text for name, text in MISSING_PROGRAMS.items() if shutil.which(name) is None]
     said += [] if program else ["no program is named (--oe PROGRAM): what asks the desk is not tested"]
     for text in said:

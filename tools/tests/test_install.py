@@ -14,7 +14,7 @@ from tests.trial import PROGRAM, TOOLS
 STDOUT = stored.TOP / "crates" / "oe_main" / "stdout"  # the replies of docs/first.csv
 STANDS_FOR_THE_PROGRAM = f"#!/bin/sh\ncat > /dev/null\ncat <<'END'\n{STDOUT.read_text()}END\n"
 DOCS = Path("share", "doc", "oe")
-BESIDE_THE_PROGRAM = {"oe-say", "oe-from-nasr", "oe-from-points", "oe-clean", "oe-draw", "oe-convert"}
+BESIDE_THE_PROGRAM = {"oe-say", "oe-from-nasr", "oe-from-points", "oe-clean", "oe-draw", "oe-convert", "oe-map", "oe-high"}
 
 WANTED_FOR_A_PACKAGE = ("git", "dpkg-buildpackage", "dh", "dh_python3")
 
