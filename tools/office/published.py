@@ -52,7 +52,7 @@ def chosen(args: argparse.Namespace, columns: Cells, ids: list[str]) -> tuple[na
 
 
 def write_table(some: list[nasr.Airfield]) -> list[str]:
-    """The rows for oe-from-points, blanks where something is wanting, and what to say of them."""
+    """The rows for oe-from-points, blank cells for what is wanting, and what to say of them."""
     parts = [part for airfield in some for part in (airfield.own, *airfield.runways.values())]
     rows = [row.values for part in parts for row in part.rows]
     writer = csv.DictWriter(sys.stdout, TABLE, restval="", lineterminator="\n")

@@ -78,9 +78,9 @@ class Airfields(Files):
     def test_the_program_takes_them(self) -> None:
         """Every record is accepted, once: the same files sent again change nothing."""
         records, db = self.made().out, str(self.folder / "office.db")
-        told = [subprocess.run([PROGRAM, "desk", "--db", db], input=records, capture_output=True, text=True, check=True).stdout.splitlines() for _ in "12"]
-        self.assertEqual(told[0], [f"ok,{number},published,{line.split(',')[0]}" for number, line in enumerate(records.splitlines(), 1)])
-        self.assertEqual(told[1], told[0])
+        replies = [subprocess.run([PROGRAM, "desk", "--db", db], input=records, capture_output=True, text=True, check=True).stdout.splitlines() for _ in "12"]
+        self.assertEqual(replies[0], [f"ok,{number},published,{line.split(',')[0]}" for number, line in enumerate(records.splitlines(), 1)])
+        self.assertEqual(replies[1], replies[0])
         again = self.over()
         self.assertEqual(again.out, "")
         self.assertIn("records: 0 (as before 7, left out 1)\n", again.err)
@@ -158,7 +158,7 @@ class Airfields(Files):
             self.assertIn(words, self.made("--id", "DEMO").err)
 
     def test_exchanged_coordinates(self) -> None:
-        """An end is that of its number wherever its row stands; where its coordinates are the other end's, the runway is left out."""
+        """An end is that of its number wherever its row stands; if its coordinates are the other end's, the runway is left out."""
         self.change(ENDS, ('"39.33388889","-115.41250000"', "@"), ('"39.33333333","-115.43750000"', '"39.33388889","-115.41250000"'), ("@", '"39.33333333","-115.43750000"'))
         ended = self.made("--id", "DEMO")
         self.assertNotIn("09/27", ended.out)
@@ -361,12 +361,12 @@ class Over(Files):
         """The changes are accepted, the case that they concern is marked, and then nothing is left to change."""
         db = str(self.folder / "office.db")
 
-        def told(text: str) -> list[str]:
+        def replies(text: str) -> list[str]:
             return subprocess.run([PROGRAM, "desk", "--db", db], input=text, capture_output=True, text=True, check=True).stdout.splitlines()
-        told(self.made().out + "day,office,1,2026-11-26\nfile,2026.AWP,1.OE,2027-02-01,-,-,normal,-,-4686,177667,60250,3050,antenna,0,-,-\ndetermine,2026.AWP,1.OE.det,1,none\n")
-        self.assertEqual(told("review\n"), ["review,0"])
+        replies(self.made().out + "day,office,1,2026-11-26\nfile,2026.AWP,1.OE,2027-02-01,-,-,normal,-,-4686,177667,60250,3050,antenna,0,-,-\ndetermine,2026.AWP,1.OE.det,1,none\n")
+        self.assertEqual(replies("review\n"), ["review,0"])
         self.change(BASE, ("2026/11/26", "2026/12/24"), ('"6010.0","O"', '"6005.0","O"'))
-        self.assertEqual(told(self.over().out + "review\n"), ["ok,11,published,airport", "review,1,1"])
+        self.assertEqual(replies(self.over().out + "review\n"), ["ok,11,published,airport", "review,1,1"])
         self.assertEqual(self.over().out, "")
 
 
@@ -445,8 +445,8 @@ class ObstacleFile(Trial):
         airfields = self.good("oe-from-nasr", str(EXAMPLES), *NEAR, *GRID).out
         db = str(self.folder / "office.db")
         subprocess.run([PROGRAM, "desk", "--db", db], input=airfields, capture_output=True, text=True, check=True)
-        told = subprocess.run([PROGRAM, "desk", "--db", db], input=self.made().out, capture_output=True, text=True, check=True).stdout
-        wanted = sorted(int(entry.split()[-1]) for line in told.splitlines() for entry in line.split(",")[3:] if entry.startswith(("17", "19", "23")))
+        replies = subprocess.run([PROGRAM, "desk", "--db", db], input=self.made().out, capture_output=True, text=True, check=True).stdout
+        wanted = sorted(int(entry.split()[-1]) for line in replies.splitlines() for entry in line.split(",")[3:] if entry.startswith(("17", "19", "23")))
         rows = list(csv.DictReader(self.made(EXAMPLES / "DOF.DAT", "--over", db, "--oe", PROGRAM).out.splitlines()))
         self.assertEqual(sorted(round(float(row["excess_ft"]) * 10) for row in rows), wanted)
         self.assertGreater(len(wanted), 2)

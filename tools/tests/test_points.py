@@ -143,7 +143,7 @@ class Points(Trial):
         self.refused("no row has the id ZZZ", AIRPORT, *AT, "--only", "ZZZ")
 
     def test_all_faults_are_named(self) -> None:
-        """Every row is looked at, and of a row every cell; an end is not said to be alone where its other one was refused."""
+        """Every row is looked at, and of a row every cell; an end is not said to be alone if its other one was refused."""
         rows = (AIRPORT.replace("40.75", "north").replace("20.6", "6 m").replace("public", "PU") + ENDS.replace("20.5", "20.55").replace("18,", "x,")
                 + TOWER.replace("antenna", "tower").replace(",T,", ",TS,") + "end,TST,18/36,40.75,-73.5,20,,other,hard,V,,,,\n" + TOWER)
         ended = self.run_tool("oe-from-points", self.write("points.csv", HEAD + rows), *AT, "--grid", "office.grid", "--names", "names.csv")
@@ -188,8 +188,8 @@ class Points(Trial):
     def test_the_program_takes_a_notice(self) -> None:
         head, tower = HEAD.strip() + ",study,start\n", TOWER.strip().replace("structure", "notice")
         out = self.good("oe-from-points", self.write("points.csv", f"{head}{tower},2026-AWP-11234-OE,2026-03-01\n"), *AT).out
-        told = subprocess.run([PROGRAM, "desk"], input="day,office,1,2026-01-15\n" + out, capture_output=True, text=True, check=True).stdout
-        self.assertEqual(told, "ok,1,published,day\nok,2,published,case,1,timely,-,-\n")
+        replies = subprocess.run([PROGRAM, "desk"], input="day,office,1,2026-01-15\n" + out, capture_output=True, text=True, check=True).stdout
+        self.assertEqual(replies, "ok,1,published,day\nok,2,published,case,1,timely,-,-\n")
 
     def test_the_top_in_place_of_the_ground(self) -> None:
         """The top is the ground and the height: 30 ft and 250.5 ft."""
