@@ -24,7 +24,11 @@ class Typed:
 def examples() -> list[Typed]:
     """The commands of the document, each with what it shows."""
     out: list[Typed] = []
+    is_fenced = False  # a block of docs/check-examples, which runs it
     for line in (stored.TOP / "docs" / "TOOLS.md").read_text().splitlines():
+        is_fenced = is_fenced != line.startswith("```")
+        if is_fenced:
+            continue
         if line.startswith(PROMPT):
             out.append(Typed(line.removeprefix(PROMPT)))
         elif out and line.startswith(INDENT):
