@@ -1,12 +1,13 @@
 //! Sessions of HTTP over links in memory, with reads, writes and a reply that fail.
 
-ghost use Rattle.std.specs.Prelude.{◌≡◌};
+ghost use Rattle.std.specs.Prelude.{◌≡◌, ◌+◌, ◌-◌, ◌^◌, None, min};
 
 use grid_exact::{Bytes, NoMemory};
 use http::Method;
 use http_session::{Replying, Response, session};
 use oe_http::{Ended, FakeLink, FakeSink, FakeSource};
 use std::alloc::Global;
+use std::marker::Model;
 use std::test::Fail;
 
 /// Replies to a request by its target, and counts its replies. For a request with a body it has no memory.
@@ -15,8 +16,18 @@ struct Echo {
     requests: u64,
 }
 
+impl Model for Echo {
+    ghost use Rattle.std.specs.Prelude.{ℕ};
+
+    ghost Value = { ℕ };
+
+    ghost view = { λ e. e.requests };
+}
+
 impl Replying for Echo {
-    ghost step = { λ s asked reply t. Unit {0} };
+    ghost use Rattle.std.specs.Prelude.{◌≡◌, ◌+◌, ◌-◌, ◌^◌, None, min};
+
+    ghost step = { λ s asked reply t. (t ≡ min (s + 1) (2 ^ 64 - 1)) × (reply.status ≡ 200) × (reply.allow ≡ None) × (reply.body ≡ asked.target) };
 
     fn reply(
         &mut self,
