@@ -187,4 +187,5 @@ class Package(unittest.TestCase):
         self.assertEqual([path.read_text() for path in units], [(TOOLS / "debian" / "oe.service").read_text()])
         scripts = "".join((self.room / "made" / "DEBIAN" / name).read_text() for name in ("postinst", "prerm", "postrm"))
         self.assertIn("adduser --system", scripts)
-        self.assertNotIn("deb-systemd-helper enable", scripts)
+        self.assertIn("if deb-systemd-helper --quiet was-enabled 'oe.service'; then", scripts)  # so it is enabled for whom it was before
+        self.assertIn("deb-systemd-invoke stop 'oe.service'", scripts)
