@@ -433,7 +433,7 @@ class ObstacleFile(Trial):
             ["77.17(a)(1)", "499 ft above the ground", "11.0", "32-000103", "STACK", "510", "6910", "39 26 00.00N", "115 33 00.00W", "2C", ""],
             ["77.19(a)", "horizontal surface of DEMO", "170.5", "32-000103", "STACK", "510", "6910", "39 26 00.00N", "115 33 00.00W", "2C", ""],
             ["77.19(a)", "horizontal surface of DEMO", "1.0", "32-000101", "TOWER", "305", "6330", "39 20 24.00N", "115 25 48.00W", "1A", "2025AWP00101OE"],
-            ["77.19(d)", "approach surface of DEMO runway 09/27, end 1 (09)", "0.0", "32-000105", "T-L TWR", "120", "6020", "39 16 00.00N", "115 31 00.00W", "5E", ""]])
+            ["77.19(d)", "approach surface of DEMO runway 09", "0.0", "32-000105", "T-L TWR", "120", "6020", "39 16 00.00N", "115 31 00.00W", "5E", ""]])
         self.assertEqual((self.folder / "asked").read_text().splitlines()[2:], self.made().out.splitlines())
         self.assertIn("obstacles that exceed a standard: 3\n", ended.err)
         table = self.write("dof.csv", (EXAMPLES / "DOF.CSV").read_text().replace(",305,", ",305.5,"))

@@ -132,10 +132,10 @@ class Points(Trial):
                 (AIRPORT.replace("\n", ",more\n"), "line 2: the row has more cells than the first line has names"),
                 (AIRPORT.replace("20.6", "20.65"), "points.csv line 2 (TST), elev_ft: 20.65 ft is finer than a tenth"),
                 (AIRPORT.replace("40.75", "404500N"), "line 2 (TST), lat"), (AIRPORT.replace("40.75", ""), '"airport" wants lat'),
-                (AIRPORT.replace("public", "PU"), 'line 2: category "PU"; wanted is public'), (AIRPORT.replace("TST", "tst"), 'id "tst" (capital and small letters are different)'),
+                (AIRPORT.replace("public", "PU"), 'line 2: category "PU" (write public); wanted is public'), (AIRPORT.replace("TST", "tst"), 'id "tst" (capital and small letters are different)'),
                 (AIRPORT.replace("airport,", "aiport,"), 'what is "aiport"'), (ENDS.splitlines()[0] + "\n", "line 2: TST 09/27 has one end"),
                 (ENDS.replace("hard,NA", "soft,NA"), 'differ in surface: "hard" and "soft"'),
-                (ENDS.replace("P,,,,", "P,,,,5000").replace("NA,,,,", "NA,,,,5001"), "differ in published_ft: 5000 and 5001"), (ENDS.replace("NA", "PIR"), 'line 3: kind "PIR"; wanted is V'),
+                (ENDS.replace("P,,,,", "P,,,,5000").replace("NA,,,,", "NA,,,,5001"), "differ in published_ft: 5000 and 5001"), (ENDS.replace("NA", "PIR"), 'line 3: kind "PIR" (write P); wanted is V'),
                 (TOWER.replace("250.5", ""), '"structure" wants height_ft'), (TOWER.replace("250.5", "11000"), 'HEIGHT "110000"'),
                 ("", "there is no point in it")):
             self.refused(words, rows)
