@@ -1,6 +1,7 @@
 """The examples of docs/TOOLS.md, typed as they stand there, and that each tool says what it is."""
 import importlib.util
 import os
+import re
 import shutil
 import subprocess
 import unittest
@@ -22,9 +23,10 @@ class Typed:
 
 
 def examples() -> list[Typed]:
-    """The commands of the document, each with what it shows."""
+    """The commands of the document, each with what it shows, but those between fences, which docs/check-examples types."""
     out: list[Typed] = []
-    for line in (stored.TOP / "docs" / "TOOLS.md").read_text().splitlines():
+    text = (stored.TOP / "docs" / "TOOLS.md").read_text()
+    for line in re.sub(r"^```.*?^```$", "", text, flags=re.M | re.S).splitlines():
         if line.startswith(PROMPT):
             out.append(Typed(line.removeprefix(PROMPT)))
         elif out and line.startswith(INDENT):
