@@ -11,8 +11,6 @@ from office.shapes import SHAPES, Feature, Layer, Ring, Shape
 from office.geojson import coordinates
 from office.grids import Grid
 from office.picture import CIRCLE_LINE, INK, LOOKS, MARKS, NOTICE_LINE
-from office.structures import Finding
-from office.surfaces import Look
 
 try:
     from osgeo import gdal, ogr, osr

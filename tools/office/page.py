@@ -113,7 +113,7 @@ h1 { font-size: 1.25em }
 SCRIPT = """
 "use strict";
 const { features, paints, marks, tiles } = JSON.parse(document.getElementById("data").textContent);
-const FEET = 3937 / 1200;
+const FEET = 3937 / 1200, NARROW = 700;
 const map = L.map("map", { zoomSnap: .5 });
 if (tiles) L.tileLayer(tiles.url, { attribution: tiles.credit, maxZoom: 19 }).addTo(map);
 map.attributionControl.setPrefix("Leaflet");
@@ -211,7 +211,7 @@ function placePopup(lat, lng) {
     element("td", "within", row);
     element("td", `${one.name} (${one.section})`, row);
   }
-  element("p", found.length ? "About so many feet above mean sea level; ask the desk for exact ones." : "No surface of 77.19 or 77.23 lies over this place.", out);
+  element("p", found.length ? "Feet above mean sea level, to within a foot; the desk's replies are exact." : "No surface of 77.19 or 77.23 lies over this place.", out);
   return out;
 }
 function structurePopup(one) {
@@ -272,7 +272,7 @@ for (const [label, { layer, swatch }] of groups) {
   legend[swatch + label] = layer;
   layer.addTo(map);
 }
-L.control.layers(null, legend, { collapsed: false }).addTo(map);
+L.control.layers(null, legend, { collapsed: innerWidth < NARROW }).addTo(map);
 L.control.scale({ maxWidth: 200 }).addTo(map);
 const place = L.control({ position: "bottomleft" });
 place.onAdd = () => { const out = L.DomUtil.create("div", "place"); out.textContent = "Click for the surfaces over a place."; return out; };

@@ -77,9 +77,12 @@ def airfields_of(some: Iterable[Record], path: str) -> list[Record]:
 
 
 def cautions_of(some: Sequence[Site], register: Register) -> list[str]:
-    """Where the heights may look better than they are: no airfield, or all of them far from every place."""
+    """Where the heights may look better than they are: no airfield, or all of them far away. Of a line or a raster its ends and its middle are looked at."""
     if not register.airfields:
         return ["no airfield is registered, so this says nothing of airports: was --over forgotten, another file named, or the airfields refused?"]
+    named = [site for site in some if site.name]
+    if named:
+        return [f"{site.name}: {caution}" for site in named for caution in cautions.of_point(site.place.feet, register)]
     found = [cautions.of_point(site.place.feet, register) for site in (some[0], some[len(some) // 2], some[-1])]
     return found[0] if all(found) else []
 

@@ -1,13 +1,12 @@
 """The surfaces of a written map as areas, to be held against the desk's replies: heights come from the corners that stand in the file alone."""
 import json
 import math
-import re
 import xml.etree.ElementTree as Xml
 from collections.abc import Iterable, Iterator, Sequence
 from functools import cache
 
 from office.register import Point
-from office.surfaces import Area, Line, Look
+from office.surfaces import Area, Look
 from tests import drawn
 
 ZONE, ORIGIN = 2236, (600_000, 100_000)  # Florida East, US survey feet

@@ -206,7 +206,7 @@ line 5: E 0.0 N 2,000.0 ft, ground 100.0 ft
 
     def test_cautions(self) -> None:
         for fields, at, words in ((LEVEL.replace("09/27,other", "09/27,utility"), "0,0", "line 2 is refused (2 PrecisionOnUtility): runway,office,2"),
-                                  ("", "0,0", "CAUTION: no airfield is registered"), (LEVEL, "9000000,0", "CAUTION: the nearest airfield, AAA, is 900,000 ft away")):
+                                  ("", "0,0", "CAUTION: no airfield is registered"), (LEVEL, "9000000,0", "CAUTION: 9000000,0: the nearest airfield, AAA, is 900,000 ft away")):
             ended = self.good("oe-high", self.write("fields.rec", fields), "--at", at, "--ground", "0", desk=PROGRAM)
             self.assertIn(words, ended.err)
         self.assertEqual(self.good("oe-high", self.write("fields.rec", LEVEL), "--at", "0,0", "--ground", "0", desk=PROGRAM).err, "")
