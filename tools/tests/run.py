@@ -2,6 +2,7 @@
 import argparse
 import importlib.util
 import os
+import shutil
 import sys
 import unittest
 from pathlib import Path
@@ -10,6 +11,10 @@ TOOLS = Path(__file__).resolve().parent.parent
 MISSING = {
     "pyproj": "pyproj is missing (Debian: python3-pyproj): the positions of oe-from-points are not tested",
     "shapely": "shapely is missing (Debian: python3-shapely): the outline of the horizontal surface is not compared with its own",
+}
+MISSING_PROGRAMS = {
+    "dh_python3": "debhelper or dh-python is missing (Debian: debhelper, dh-python): no package is made",
+    "man": "man is missing (Debian: man-db): the form of the manual pages is not tested",
 }
 
 
@@ -24,6 +29,7 @@ def main() -> int:
     sys.dont_write_bytecode = True
     sys.path.insert(0, str(TOOLS))
     said = [text for name, text in MISSING.items() if importlib.util.find_spec(name) is None]
+    said += [text for name, text in MISSING_PROGRAMS.items() if shutil.which(name) is None]
     said += [] if program else ["no program is named (--oe PROGRAM): what asks the desk is not tested"]
     for text in said:
         print(f"tools/test: skipped: {text}")

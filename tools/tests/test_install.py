@@ -9,12 +9,14 @@ import unittest
 from pathlib import Path
 
 from tests import stored
-from tests.trial import TOOLS
+from tests.trial import PROGRAM, TOOLS
 
 STDOUT = stored.TOP / "crates" / "oe_main" / "stdout"  # the replies of docs/first.csv
 STANDS_FOR_THE_PROGRAM = f"#!/bin/sh\ncat > /dev/null\ncat <<'END'\n{STDOUT.read_text()}END\n"
 DOCS = Path("share", "doc", "oe")
 BESIDE_THE_PROGRAM = {"oe-say", "oe-from-points", "oe-clean", "oe-draw", "oe-convert"}
+
+WANTED_FOR_A_PACKAGE = ("git", "dpkg-buildpackage", "dh", "dh_python3")
 
 
 def run_in(folder: Path, *words: str | Path, **variables: str) -> str:
@@ -25,7 +27,7 @@ def run_in(folder: Path, *words: str | Path, **variables: str) -> str:
 
 
 def make_repository(top: Path) -> None:
-    """The documents and the tools, with a script in place of the program."""
+    """The documents and the tools, with a script in place of the program, and of the one that builds it."""
     built = top / "crates" / "oe_main" / "out"
     built.mkdir(parents=True)
     for name in ("docs", "tools"):
@@ -142,3 +144,48 @@ class Installed(unittest.TestCase):
         """It is that of the package, which has its program elsewhere."""
         told = re.search(r"```ini\n(\[Unit\].*?)```", (stored.TOP / "docs" / "HTTP.md").read_text(), re.S)
         self.assertEqual((TOOLS / "debian" / "oe.service").read_text(), told and told[1].replace("/usr/local/", "/usr/"))
+
+
+@unittest.skipUnless(PROGRAM and all(map(shutil.which, WANTED_FOR_A_PACKAGE)), "no program is named, or debhelper or dh-python is missing")
+class Package(unittest.TestCase):
+    """One package is made for all tests; tools/release itself tries its program, and lintian where that is there."""
+    @classmethod
+    def setUpClass(cls) -> None:
+        folder = tempfile.TemporaryDirectory()
+        cls.addClassCleanup(folder.cleanup)
+        cls.room = Path(folder.name)
+        top = cls.room / "repository"
+        make_repository(top)
+        shutil.copy(str(PROGRAM), top / "crates" / "oe_main" / "out" / "oe_main")
+        run_in(cls.room, top / "tools" / "release", "--deb", cls.room)
+        (cls.package,) = cls.room.glob("oe_*.deb")
+        cls.version = run_in(cls.room, top / "tools" / "version").strip()
+        run_in(cls.room, "dpkg-deb", "-R", cls.package, "made")
+
+    def test_what_is_in_it(self) -> None:
+        made = self.room / "made" / "usr"
+        self.assertEqual({path.name for path in (made / "bin").iterdir()}, {"oe"} | BESIDE_THE_PROGRAM)
+        self.assertEqual(run_in(made, made / "bin" / "oe", "--version"), f"oe {self.version}\n")
+        self.assertEqual(run_in(made / DOCS, "sh", "-c", "../../../bin/oe desk < first.csv"), STDOUT.read_text())
+        self.assertEqual({path.name for path in (made / DOCS).glob("*.*")},
+                         {path.name for path in (stored.TOP / "docs").glob("*.*") if path.suffix != ".1"} | {"changelog.gz"})
+        self.assertFalse((made / "lib" / "oe" / "installed").exists())
+        self.assertIn("no licence has been granted", (made / DOCS / "copyright").read_text())
+
+    def test_its_pages_and_its_program(self) -> None:
+        made = self.room / "made" / "usr"
+        pages = {path.stem: path.read_bytes() for path in (made / "share" / "man" / "man1").iterdir()}
+        self.assertEqual({name: gzip.decompress(page).decode() for name, page in pages.items()}, manual_pages(stored.TOP / "docs"))
+        self.assertTrue(all(page[4:8] == bytes(4) for page in pages.values()))  # no time, so that the same pages are the same bytes
+        self.assertNotIn(".symtab", run_in(made, "readelf", "-SW", made / "lib" / "oe" / "oe"))
+
+    def test_what_it_wants_and_its_service(self) -> None:
+        fields = run_in(self.room, "dpkg-deb", "-f", self.package, "Depends", "Recommends")
+        for name in ("libc6 (>= ", "python3:any", "adduser", "python3-pyproj"):
+            self.assertIn(name, fields)
+        units = list((self.room / "made").rglob("*.service"))
+        self.assertEqual([path.read_text() for path in units], [(TOOLS / "debian" / "oe.service").read_text()])
+        scripts = "".join((self.room / "made" / "DEBIAN" / name).read_text() for name in ("postinst", "prerm", "postrm"))
+        self.assertIn("adduser --system", scripts)
+        self.assertIn("if deb-systemd-helper --quiet was-enabled 'oe.service'; then", scripts)  # so it is enabled for whom it was before
+        self.assertIn("deb-systemd-invoke stop 'oe.service'", scripts)
