@@ -128,6 +128,12 @@ class Installed(unittest.TestCase):
             with self.assertRaisesRegex(AssertionError, "status 1.*\n.*so nothing is known"):
                 run_in(room, self.top / "tools" / "install", "--remove", "prefix")
 
+    def test_a_place_that_cannot_be_written(self) -> None:
+        with tempfile.TemporaryDirectory() as folder:
+            Path(folder, "file").write_text("")
+            with self.assertRaisesRegex(AssertionError, "status 1:\nmkdir: [^\n]*Not a directory\n$"):
+                run_in(Path(folder), self.release / "tools" / "install", "file/prefix")
+
     def test_what_a_newer_one_does_not_have(self) -> None:
         """A tool that is no more is taken away by the next call, and by DESTDIR all stands in a folder."""
         with tempfile.TemporaryDirectory() as folder:
