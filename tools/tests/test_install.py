@@ -148,8 +148,8 @@ class Installed(unittest.TestCase):
 
     def test_the_service_of_the_pages(self) -> None:
         """It is that of the package, which has its program elsewhere."""
-        told = re.search(r"```ini\n(\[Unit\].*?)```", (stored.TOP / "docs" / "HTTP.md").read_text(), re.S)
-        self.assertEqual((TOOLS / "debian" / "oe.service").read_text(), told and told[1].replace("/usr/local/", "/usr/"))
+        shown = re.search(r"```ini\n(\[Unit\].*?)```", (stored.TOP / "docs" / "HTTP.md").read_text(), re.S)
+        self.assertEqual((TOOLS / "debian" / "oe.service").read_text(), shown and shown[1].replace("/usr/local/", "/usr/"))
 
 
 @unittest.skipUnless(PROGRAM and all(map(shutil.which, WANTED_FOR_A_PACKAGE)), "no program is named, or debhelper or dh-python is missing")
