@@ -15,7 +15,6 @@ STDOUT = stored.TOP / "crates" / "oe_main" / "stdout"  # the replies of docs/fir
 STANDS_FOR_THE_PROGRAM = f"#!/bin/sh\ncat > /dev/null\ncat <<'END'\n{STDOUT.read_text()}END\n"
 DOCS = Path("share", "doc", "oe")
 BESIDE_THE_PROGRAM = {"oe-say", "oe-from-nasr", "oe-from-points", "oe-clean", "oe-draw", "oe-convert", "oe-map", "oe-high"}
-
 WANTED_FOR_A_PACKAGE = ("git", "dpkg-buildpackage", "dh", "dh_python3")
 
 
@@ -128,6 +127,12 @@ class Installed(unittest.TestCase):
             with self.assertRaisesRegex(AssertionError, "status 1.*\n.*so nothing is known"):
                 run_in(room, self.top / "tools" / "install", "--remove", "prefix")
 
+    def test_a_place_that_cannot_be_written(self) -> None:
+        with tempfile.TemporaryDirectory() as folder:
+            Path(folder, "file").write_text("")
+            with self.assertRaisesRegex(AssertionError, "status 1:\nmkdir: [^\n]*Not a directory\n$"):
+                run_in(Path(folder), self.release / "tools" / "install", "file/prefix")
+
     def test_what_a_newer_one_does_not_have(self) -> None:
         """A tool that is no more is taken away by the next call, and by DESTDIR all stands in a folder."""
         with tempfile.TemporaryDirectory() as folder:
@@ -142,8 +147,8 @@ class Installed(unittest.TestCase):
 
     def test_the_service_of_the_pages(self) -> None:
         """It is that of the package, which has its program elsewhere."""
-        told = re.search(r"```ini\n(\[Unit\].*?)```", (stored.TOP / "docs" / "HTTP.md").read_text(), re.S)
-        self.assertEqual((TOOLS / "debian" / "oe.service").read_text(), told and told[1].replace("/usr/local/", "/usr/"))
+        shown = re.search(r"```ini\n(\[Unit\].*?)```", (stored.TOP / "docs" / "HTTP.md").read_text(), re.S)
+        self.assertEqual((TOOLS / "debian" / "oe.service").read_text(), shown and shown[1].replace("/usr/local/", "/usr/"))
 
 
 @unittest.skipUnless(PROGRAM and all(map(shutil.which, WANTED_FOR_A_PACKAGE)), "no program is named, or debhelper or dh-python is missing")
