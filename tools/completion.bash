@@ -3,7 +3,7 @@ _oe() {
     local word=${COMP_WORDS[COMP_CWORD]} before=${COMP_WORDS[COMP_CWORD - 1]}
     COMPREPLY=()
     case $COMP_CWORD,$before in
-        1,*) mapfile -t COMPREPLY < <(compgen -W "asof ceiling desk generate serve stations" -- "$word") ;;
+        1,*) mapfile -t COMPREPLY < <(compgen -W "asof ceiling desk generate serve stations --help --version" -- "$word") ;;
         2,asof | 2,ceiling | 2,desk | 2,stations) mapfile -t COMPREPLY < <(compgen -W "--db" -- "$word") ;;
         *,--listen) mapfile -t COMPREPLY < <(compgen -W "127.0.0.1:8077" -- "$word") ;;
         *,--workers | *,--turns) ;;
@@ -20,4 +20,4 @@ _oe_tool() {
 }
 
 complete -o filenames -o default -F _oe oe
-complete -o filenames -o default -F _oe_tool oe-clean oe-convert oe-draw oe-from-points oe-high oe-map oe-say
+complete -o filenames -o default -F _oe_tool oe-clean oe-convert oe-draw oe-from-nasr oe-from-points oe-high oe-map oe-say

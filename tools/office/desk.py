@@ -8,7 +8,7 @@ from contextlib import closing
 from dataclasses import dataclass
 from pathlib import Path
 
-from office import forms, replies
+from office import forms, replies, ways
 from office.faults import Fault
 from office.records import BEFORE, Record, read_bytes, record, records
 from office.replies import Accepted, Refusal, Reply
@@ -16,8 +16,9 @@ from office.replies import Accepted, Refusal, Reply
 TOP = Path(__file__).resolve().parent.parent.parent
 BUILT = TOP / "crates" / "oe_main" / "out" / "oe_main"  # in the repository, where `oe` is a script that may build it first
 RELEASED = TOP / "oe"  # in a release that was unpacked
+SQLITE = b"SQLite format 3\0"  # how its files begin
 STORED_CALLER = "_office_file_"  # of records that are made from the rows of an office's file
-AIRFIELD_TABLE, RUNWAY_TABLE, CASE_TABLE = 0, 1, 3
+AIRFIELD_TABLE, RUNWAY_TABLE, DAY_TABLE, CASE_TABLE = 0, 1, 2, 3
 SITE_IN_CASE = slice(5, 13)  # X to ON in the row of a case (docs/TABLES.md)
 END_OF_CASE = 15  # abandoned, reversed or -
 
@@ -93,6 +94,12 @@ def stored_airfields(db: str) -> list[Record]:
     return [record(BEFORE, text) for text in texts]
 
 
+def stored_day(db: str) -> str | None:
+    """The desk's day in an office's file."""
+    day = dict(table(db, DAY_TABLE)).get("now", "")
+    return day if forms.is_day(day) else None
+
+
 def stored_cases(db: str) -> list[tuple[str, Record]]:
     """The structures of the cases that were neither abandoned nor reversed, to be screened, each with its number."""
     rows = [(key, value.split(",")) for key, value in table(db, CASE_TABLE)]
@@ -101,13 +108,14 @@ def stored_cases(db: str) -> list[tuple[str, Record]]:
 
 
 def pair_up(some: list[Record], told: list[str], path: str) -> list[Pair]:
-    """Each record with its reply, where the replies are of its sort and as many."""
+    """Each record with its reply, if the replies are of its sort and as many; of `oe stations` each way."""
     rest, pairs = iter(told), []
-    for one in some:
+    for one in ways.with_reply(some) if any(line.startswith("stations,") for line in told) else some:
         reply = replies.read(rest)
         if reply is None:
             raise Fault(f"the replies end before line {one.line} of {path}: the desk stopped there, or they are not its replies")
-        if not replies.answers(one.form, reply):
+        is_good = bool(one.fields) and forms.first_bad_field(one.fields) is None
+        if not replies.answers(one.form, reply) or not is_good and not isinstance(reply, Refusal):
             raise Fault(f'line {one.line} of {path} is "{one.form}", and its reply is of another sort: these are not its replies')
         pairs.append(Pair(one, reply))
     if next(rest, None) is not None:
@@ -142,6 +150,20 @@ def add_arguments(parser: argparse.ArgumentParser, records_wanted: bool = True) 
                         help="names of structures: X,Y,GROUND,HEIGHT,NAME in each line, as oe-from-points writes them")
 
 
+def check_records(content: bytes, path: str) -> None:
+    """That what a desk would be asked is a file of records, if there is any line in it: no database, no sheet in another encoding, no table of another sort."""
+    if content.startswith(SQLITE):
+        raise Fault(f"{path} is a database and no file of records: name an office's file with --over")
+    if b"\0" in content:
+        line = content[:content.index(b"\0")].count(b"\n") + 1
+        raise Fault(f"{path} is no file of records: line {line} has a NUL in it (a sheet in UTF-16? Save it as CSV UTF-8)")
+    some = records(content)
+    if some and all(one.form not in forms.FORMS for one in some):
+        why = forms.about_form(some[0].form)
+        begin = f"line {some[0].line} begins with {forms.quoted(some[0].form)}" + (f": {why}" if why else "")
+        raise Fault(f"{path} is no file of records: no line of it begins with a record's word; {begin}")
+
+
 def pairs_of(args: argparse.Namespace) -> list[Pair]:
     """The pairs that the arguments of a tool name."""
     content, path = (read_bytes(args.records), args.records) if args.records else (b"", "no file")
@@ -149,4 +171,5 @@ def pairs_of(args: argparse.Namespace) -> list[Pair]:
         if args.over:
             raise Fault("--over asks a desk now: leave REPLIES out")
         return pair_up(records(content), read_bytes(args.replies).decode("utf-8", "replace").splitlines(), path)
+    check_records(content, path)
     return asked(content, stored_airfields(args.over) if args.over else [], path, program(args.oe))

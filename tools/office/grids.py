@@ -6,7 +6,7 @@ from collections.abc import Sequence
 from dataclasses import dataclass
 from functools import cached_property
 
-from office.faults import Fault
+from office.faults import Fault, FinalFault
 from office.records import show
 
 try:
@@ -16,9 +16,15 @@ except ImportError as error:
 
 NAD83, WGS84 = "EPSG:4269", "EPSG:4326"
 FEET = {"US survey foot": 1200 / 3937, "foot": 0.3048}  # metres
+MILE = 1609.344  # metres
+EARTH = pyproj.Geod(ellps="GRS80")
 FARTHEST = 20_000_000  # tenths of a foot from the origin
 ROUND_ORIGIN = 100_000
 AROUND_ZONE = 0.5  # degrees outside of a zone that are let pass
+
+
+class OffGrid(Fault):
+    """A place outside of the zone or of the grid."""
 
 
 @dataclass(frozen=True)
@@ -43,6 +49,11 @@ def accuracy(transformer: "pyproj.Transformer") -> str:
     """How exactly PROJ takes one datum for another."""
     metres = transformer.accuracy
     return f"to within {metres / FEET['foot']:.0f} ft" if metres and metres > 0 else "with an unknown error"
+
+
+def miles(one: tuple[float, float], other: tuple[float, float]) -> float:
+    """Statute miles between two points of latitude and longitude."""
+    return EARTH.inv(one[1], one[0], other[1], other[0])[2] / MILE
 
 
 def read_choice(path: str) -> Choice:
@@ -106,13 +117,13 @@ class Grid:
         self.check_zone(lat, lon, where)
         east, north = self.transformer.transform(lon, lat)
         if not (math.isfinite(east) and math.isfinite(north)):
-            raise Fault(f"{where}: PROJ does not find latitude {lat:.5f}, longitude {lon:.5f} in {self.crs.name}")
+            raise OffGrid(f"{where}: PROJ does not find latitude {lat:.5f}, longitude {lon:.5f} in {self.crs.name}")
         if self.origin is None:
             near = ",".join(f"{round(value / ROUND_ORIGIN) * ROUND_ORIGIN}" for value in (east, north))
-            raise Fault(f"{where} is at E {show(east)} N {show(north)} of {self.crs.name}; give one --origin for this desk and keep it, as --origin {near}")
+            raise FinalFault(f"{where} is at E {show(east)} N {show(north)} of {self.crs.name}; give one --origin for this desk and keep it, as --origin {near}")
         x, y = (round((value - origin) * 10) for value, origin in zip((east, north), self.origin))
         if max(abs(x), abs(y)) > FARTHEST:
-            raise Fault(f"{where} is {show(max(abs(x), abs(y)) / 10, 0)} ft from the origin, and the grid reaches {show(FARTHEST / 10, 0)}; "
+            raise OffGrid(f"{where} is {show(max(abs(x), abs(y)) / 10, 0)} ft from the origin, and the grid reaches {show(FARTHEST / 10, 0)}; "
                         f"it is at E {show(east, 0)} N {show(north, 0)} of {self.crs.name}")
         return Place(x, y)
 
@@ -125,21 +136,29 @@ class Grid:
             return zone.west - AROUND_ZONE <= lon <= zone.east + AROUND_ZONE and zone.south - AROUND_ZONE <= lat <= zone.north + AROUND_ZONE
         if not is_within(lat, lon):
             cause = "a western longitude is negative" if is_within(lat, -lon) else "are lat and lon exchanged?" if is_within(lon, lat) else "is this the zone of the place?"
-            raise Fault(f"{where}: latitude {lat:.5f}, longitude {lon:.5f} is outside of {self.crs.name} ({zone.south:g} to {zone.north:g}, "
+            raise OffGrid(f"{where}: latitude {lat:.5f}, longitude {lon:.5f} is outside of {self.crs.name} ({zone.south:g} to {zone.north:g}, "
                         f"{zone.west:g} to {zone.east:g}); {cause}")
 
     def ellipsoid_feet(self, lat: float, lon: float, to_lat: float, to_lon: float) -> float:
         """The way between two points over the ellipsoid, in feet of the grid."""
+        return self.geodesic(lat, lon, to_lat, to_lon)[2] / FEET[self.unit]
+
+    def bearing(self, lat: float, lon: float, to_lat: float, to_lon: float) -> float:
+        """The true direction in which the shortest way between two points begins, in degrees."""
+        return self.geodesic(lat, lon, to_lat, to_lon)[0] % 360
+
+    def geodesic(self, lat: float, lon: float, to_lat: float, to_lon: float) -> tuple[float, float, float]:
+        """Both directions and the metres of the shortest way."""
         geod = self.own_datum().get_geod()
         if geod is None:
-            raise Fault(f"--crs {self.choice.crs} ({self.crs.name}) has no ellipsoid")
-        return geod.inv(lon, lat, to_lon, to_lat)[2] / FEET[self.unit]
+            raise FinalFault(f"--crs {self.choice.crs} ({self.crs.name}) has no ellipsoid")
+        return geod.inv(lon, lat, to_lon, to_lat)
 
     def own_datum(self) -> "pyproj.CRS":
         """The latitudes and longitudes under the grid."""
         geodetic = self.crs.geodetic_crs
         if geodetic is None:
-            raise Fault(f"--crs {self.choice.crs} ({self.crs.name}) stands over no latitudes")
+            raise FinalFault(f"--crs {self.choice.crs} ({self.crs.name}) stands over no latitudes")
         return geodetic
 
     def words(self) -> list[str]:

@@ -69,7 +69,7 @@ def width_of(text: str, size: float) -> float:
 
 def cut(text: str, size: float, width: float) -> str:
     """A text that fits a width, its end left out where it is longer."""
-    most = int(width / (LETTER * size))
+    most = max(1, int(width / (LETTER * size)))
     return text if len(text) <= most else text[:most - 1].rstrip() + "\u2026"
 
 

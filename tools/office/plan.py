@@ -32,6 +32,7 @@ class Options:
     whole: bool = False
     notice: bool = False
     circles: bool = False
+    every: bool = False
 
 
 @dataclass(frozen=True)
@@ -337,6 +338,6 @@ def draw(airfields: Sequence[Airfield], structures: list[Structure], refused: in
     svg.put("</g>")
     sheet.draw_grid(svg, frame)
     looks = {look for one in drawn for look in one.looks}
-    listing = Listing(rows, {number for number, _ in shown}, refused, len(airfields), options.last_change)
+    listing = Listing(rows, {number for number, _ in shown}, refused, len(airfields), options.last_change, options.every)
     rest = sheet.draw_panel(svg, [look for look in LEGEND if look in looks], lines_of_legend(options), listing)
     return lists.sheets(svg, rest, listing, "The table of structures, continued", options.source)

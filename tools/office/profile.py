@@ -27,6 +27,7 @@ class Options:
     within: float | None = None
     whole: bool = False
     notice: bool = False
+    every: bool = False
 
 
 class Scale:
@@ -149,7 +150,7 @@ def draw_key(svg: Svg, near: Sequence[Near]) -> None:
 
 
 def side_of(airfields: dict[str, Airfield], chosen: str, options: Options) -> Side:
-    """The side that ID:RUNWAY names, or the ID of a heliport."""
+    """The side that ID:RUNWAY names, by the runway or one of its ends, or the ID of a heliport."""
     name, _, runway = chosen.partition(":")
     airfield = airfields[name]
     if isinstance(airfield, Heliport):
@@ -158,11 +159,13 @@ def side_of(airfields: dict[str, Airfield], chosen: str, options: Options) -> Si
         if not has_surfaces(airfield):
             raise Fault(f'{name} is "{airfield.category}": the surfaces of 77.23 do not stand over it')
         return HeliportSide(airfield, options.notice)
-    if runway not in airfield.runways:
+    ends = set(runway.split("/"))
+    names = [name for name in airfield.runways if name == runway] or [name for name in airfield.runways if ends <= set(name.split("/"))]
+    if len(names) != 1 or not runway:
         raise Fault(f"{name} has no runway {runway or '(none was named: write ID:RUNWAY)'}; it has: {', '.join(airfield.runways) or 'none'}")
     if airfield.category not in CIVIL:
         raise Fault(f'{name} is "{airfield.category}": the surfaces of 77.19 do not stand over it')
-    return RunwaySide(airfield, runway, options.whole, options.notice)
+    return RunwaySide(airfield, names[0], options.whole, options.notice)
 
 
 def draw_lines(svg: Svg, at: Scale, side: Side, near: Sequence[Near], traces: Sequence[Trace]) -> None:
@@ -200,5 +203,6 @@ def draw(airfields: dict[str, Airfield], chosen: str, structures: Sequence[Struc
     for one in sorted(near, key=lambda one: -order.index(one.structure.finding)):  # the gravest finding above the others
         draw_mast(svg, at, one)
     draw_key(svg, near)
-    listing = Listing(rest, {number for number, _ in rest}, 0, len(airfields), 0)
+    rows = sorted(((one.number, one.structure) for one in near), key=lambda row: row[0]) if options.every else rest
+    listing = Listing(rows, {number for number, _ in rows}, 0, len(airfields), 0, options.every)
     return lists.sheets(svg, rest, listing, "Structures that stand in the profile by their number alone", options.source)

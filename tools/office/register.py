@@ -15,6 +15,12 @@ NOT_DESCRIBED = "private"  # the one category that 77.9(d) does not list
 KINDS = ("V", "NA", "NL", "P")  # of approaches, the most precise last
 
 
+def end_name(runway: str, number: int) -> str:
+    """The designator of a runway end, as 04 of 04/22, or its number if the name has not two designators."""
+    designators = runway.split("/")
+    return designators[number - 1] if len(designators) == 2 and all(designators) else f"{runway} end {number}"
+
+
 @dataclass(frozen=True)
 class RunwayEnd:
     at: Point
@@ -34,9 +40,7 @@ class Runway:
         return math.dist(self.ends[0].at, self.ends[1].at)
 
     def end_name(self, number: int) -> str:
-        """The designator of an end, as 04 of 04/22, or its number where the name has not two."""
-        parts = self.name.split("/")
-        return parts[number - 1] if len(parts) == 2 else f"{self.name} end {number}"
+        return end_name(self.name, number)
 
 
 @dataclass(frozen=True)

@@ -5,6 +5,12 @@ from dataclasses import dataclass
 from office.faults import Fault
 
 NONE = "-"
+ENTRIES_OF_DETERMINATION = 8  # values of its reply before the first finding
+MALFORMED, NOT_STANDING = 13, 17
+VALUES_OF_REFUSAL = {MALFORMED: 1, 16: 2, NOT_STANDING: 1, 21: 2, 24: 2, 28: 1, 39: 2}
+VALUES_OF_ACCEPTED = {"case": 4, "determine": ENTRIES_OF_DETERMINATION, "revise": ENTRIES_OF_DETERMINATION}  # at least, of forms that have some
+VALUES_OF_AIRFIELD = {"airport": 5, "heliport": 8}
+ENDS = {"19d": "12", "19e": "012", "23a": "12", "23t": "012"}  # rules whose key names an end, or 0 for what lies between the ends
 
 
 @dataclass(frozen=True)
@@ -53,6 +59,8 @@ class Entry:
     @classmethod
     def read(cls, text: str) -> "Entry":
         rule, airfield, key, excess = text.split(" ")
+        if rule in ENDS and (not key or key[-1] not in ENDS[rule] or key[:-1] and key[-2] != "."):
+            raise ValueError(text)
         return cls(RULES[rule], airfield, key, int(excess))
 
 
@@ -75,6 +83,15 @@ class AsOf:
     """The findings over the airfields as they stood after entry `number` (`oe asof`)."""
     number: int
     entries: tuple[Entry, ...]
+
+
+@dataclass(frozen=True)
+class Stations:
+    """The findings of a way of `count` stations, and of each the first station that has its excess (`oe stations`)."""
+    changes: int
+    count: int
+    entries: tuple[Entry, ...]
+    firsts: tuple[str, ...]
 
 
 @dataclass(frozen=True)
@@ -135,11 +152,28 @@ class Report:
     lines: tuple[str, ...]
 
 
-Reply = Found | Ceiling | AsOf | Verdict | Accepted | Refusal | CaseState | AirfieldRow | Review | Sync | Report
+Reply = Found | Ceiling | AsOf | Stations | Verdict | Accepted | Refusal | CaseState | AirfieldRow | Review | Sync | Report
 
 
 def read_entries(texts: list[str]) -> tuple[Entry, ...]:
     return tuple(Entry.read(text) for text in texts)
+
+
+def is_number(text: str) -> bool:
+    return text.removeprefix("-").isdecimal()
+
+
+def accepted(number: str, form: str, values: list[str]) -> Accepted:
+    if len(values) < VALUES_OF_ACCEPTED.get(form, 0) or form in ("determine", "revise") and not is_number(values[2]):
+        raise ValueError(form)
+    read_entries(values[ENTRIES_OF_DETERMINATION:])
+    return Accepted(int(number), form, tuple(values))
+
+
+def refusal(number: int, name: str, values: list[str]) -> Refusal:
+    if len(values) < VALUES_OF_REFUSAL.get(number, 0) or number == MALFORMED and not values[0].isdecimal():
+        raise ValueError(name)
+    return Refusal(number, name, tuple(values))
 
 
 def parse(first: str, rest: Iterator[str]) -> Reply:
@@ -150,15 +184,18 @@ def parse(first: str, rest: Iterator[str]) -> Reply:
             return Ceiling(int(changes), None if height == NONE else int(height), read_entries(entries))
         case ["asof", number, _, *entries]:
             return AsOf(int(number), read_entries(entries))
+        case ["stations", changes, count, _, *entries]:
+            parts = [entry.rpartition(" ") for entry in entries]
+            return Stations(int(changes), int(count), read_entries([entry for entry, _, _ in parts]), tuple(station for _, _, station in parts))
         case ["verdict", changes, required, obstruction, count]:
             return Verdict(int(changes), required == "yes", obstruction == "yes", int(count))
         case ["ok", number, _, form, *values]:
-            return Accepted(int(number), form, tuple(values))
+            return accepted(number, form, values)
         case ["no", number, name, *values]:
-            return Refusal(int(number), name, tuple(values))
+            return refusal(int(number), name, values)
         case ["case", *values] if len(values) == 9:
             return CaseState(*values)
-        case ["airfield", *values]:
+        case ["airfield", *values] if len(values) == VALUES_OF_AIRFIELD.get(values[0]) and all(map(is_number, values[2:])):
             return AirfieldRow(tuple(values))
         case ["review", _, *cases]:
             return Review(tuple(cases))
@@ -188,6 +225,6 @@ def answers(form: str, reply: Reply) -> bool:
         case Accepted():
             return reply.form == {"file": "case"}.get(form, form)
         case _:
-            kinds = {"screen": (Found, Ceiling), "asof": AsOf, "verdict": Verdict, "case": CaseState, "airfield": AirfieldRow, "review": Review, "sync": Sync,
+            kinds = {"screen": (Found, Ceiling, Stations), "asof": AsOf, "verdict": Verdict, "case": CaseState, "airfield": AirfieldRow, "review": Review, "sync": Sync,
                      "report": Report}
             return isinstance(reply, kinds.get(form, ()))

@@ -5,11 +5,11 @@ from collections.abc import Iterator
 from dataclasses import dataclass
 
 from office import forms
+from office.cautions import Days
 from office.faults import Fault
 from office.records import read_bytes
 
 REMARK = "#"
-END_OF_WAY = ["-"]  # which `oe stations` reads behind the points of a way
 OTHER_ENCODINGS = (b"\xff\xfe", b"\xfe\xff")  # the marks of UTF-16
 TEMPLATE_REMARKS = (
     f"{REMARK} A row that begins with {REMARK} is a remark and is left out. Type records below the heading of their form.",
@@ -72,7 +72,7 @@ def about_form(cell: str) -> str:
     if others and first.strip().lower() in forms.FORMS:
         return f"{forms.quoted(cell)}: its cells are not parted as those of the first record"
     why = forms.about_form(cell) if cell else "the first cell is empty"
-    return f"{forms.quoted(cell)}: {why}" if why else f'{forms.quoted(cell)} is no form ({", ".join(forms.FORMS)}); begin a row of headings or remarks with {REMARK}'
+    return f"{forms.quoted(cell)}: {why}" if why else f'no record begins with {forms.quoted(cell)}; the words are {", ".join(forms.FORMS)}; begin a row of headings or remarks with {REMARK}'
 
 
 def about_runway(cells: list[str]) -> str | None:
@@ -83,7 +83,7 @@ def about_runway(cells: list[str]) -> str | None:
 
 def fault_of(row: Row) -> str | None:
     """What is wrong with a row's cells, or nothing."""
-    if row.cells == END_OF_WAY:
+    if row.cells == [forms.END_OF_WAY]:
         return None
     number = forms.first_bad_field(row.cells)
     if number is None:
@@ -118,6 +118,14 @@ def clean(path: str) -> tuple[list[str], list[str]]:
     wrong += reused_keys([row for row in some if row.is_record])
     return ([",".join(row.cells) if row.is_record else "" for row in some],
             [f"{path} line {line}: {why}" for line, why in sorted(wrong)])
+
+
+def far_days(path: str, some: list[str]) -> Iterator[str]:
+    """A caution for each `day` that is far from the one before it in a sheet's records, the first from the machine's."""
+    days = Days.of_office()
+    for line, text in enumerate(some, 1):
+        if text.startswith("day,"):
+            yield from (f"{path} line {line}: CAUTION: {caution}" for caution in days.cautions(forms.by_name(text.split(","))["DATE"]))
 
 
 def template() -> list[list[str]]:

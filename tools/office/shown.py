@@ -5,7 +5,9 @@ from dataclasses import dataclass
 
 from office import desk
 from office.faults import Fault
+from office.records import BEFORE
 from office.register import Airfield, register_after
+from office.replies import Refusal
 from office.structures import Structure, read_names, structures
 
 
@@ -51,8 +53,19 @@ def filed(args: argparse.Namespace) -> list[Structure]:
     return found
 
 
+def check_answered(path: str, pairs: list[desk.Pair]) -> None:
+    """That a file of records has one that was answered: a picture or a map without any looks like one of no structures."""
+    own = [pair for pair in pairs if pair.record.line != BEFORE]
+    if not own:
+        raise Fault(f"{path}: there is no record in it: is it another one, or was it not saved?")
+    if all(isinstance(pair.reply, Refusal) for pair in own):
+        raise Fault(f"{path}: the desk refuses each of its records; oe-say says why")
+
+
 def shown(args: argparse.Namespace) -> Shown:
     pairs = desk.pairs_of(args)
+    if args.records:
+        check_answered(args.records, pairs)
     register = register_after(pairs)
     found, refused = structures(pairs, read_names(args.names))
     return Shown(register.airfields, found + (filed(args) if args.cases else []), refused, register.last_change)

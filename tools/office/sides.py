@@ -162,7 +162,7 @@ class HeliportSide(Side):
         self.west, self.east = -shown, self.line.length + shown
         self.title = f"{heliport.id} heliport from the side"
         self.lead = "Along the axis of the area, approach 1 at the left."
-        self.origin = "feet along the axis, from end 1 of the area"
+        self.origin = "feet along the axis, from the end of the area at approach 1"
         self.labels = [Label("H", self.line.length / 2)]
         self.ground = [(0, self.elevation), (self.line.length, self.elevation)]
 

@@ -8,11 +8,10 @@ from office.desk import Pair
 from office.faults import Fault
 from office.records import TENTHS, Record, feet, lines, read_bytes
 from office.register import Point, point
-from office.replies import Accepted, Entry, Found, Refusal, Verdict, read_entries
+from office.replies import ENTRIES_OF_DETERMINATION, Accepted, Entry, Found, Refusal, Stations, Verdict, read_entries
 
 Names = Mapping[tuple[str, ...], str]
 SITE_KEY = ("X", "Y", "GROUND", "HEIGHT")
-ENTRIES_OF_DETERMINATION = 8  # values of its reply before the first finding
 
 
 class Finding(Enum):
@@ -78,6 +77,8 @@ def structures(pairs: Iterable[Pair], names: Names) -> tuple[list[Structure], in
             if isinstance(reply, Refusal):
                 refused += 1
                 continue
+            if isinstance(reply, Stations):
+                raise Fault(f"line {pair.record.line}: a way of `oe stations` is not drawn; oe-say says its reply")
             one = structure(pair.record, names)
             some.append(one)
             match reply:

@@ -1,13 +1,17 @@
 """Replies in words: heights in feet, the paragraph of 14 CFR Part 77, what was refused and what is wanted."""
 from collections.abc import Iterable
+from itertools import zip_longest
 
 from office import forms
 from office.desk import Pair
 from office.records import TENTHS, Record, feet, show
-from office.replies import (NONE, Accepted, AirfieldRow, AsOf, CaseState, Ceiling, Entry, Found, Refusal, Report, Review, Sync, Verdict, read_entries)
-from office.structures import ENTRIES_OF_DETERMINATION
+from office.register import end_name
+from office.replies import (ENDS, ENTRIES_OF_DETERMINATION, MALFORMED, NONE, NOT_STANDING, Accepted, AirfieldRow, AsOf, CaseState, Ceiling, Entry,
+                            Found, Refusal, Report, Review, Stations, Sync, Verdict, read_entries)
 
-MALFORMED = 13
+STATUSES = {"awaiting": "awaiting its determination", "inforce": "in force", "hazard": "a HAZARD in effect"}  # and others, as they are
+NO_NOTICE = "no notice rule that the desk knows is met"
+NOT_ASKED = "notice rules were not asked: flag S, D or R takes them away (77.9(e))"
 REFUSALS = {  # {0} and {1} are the values of the refusal
     2: "a utility runway cannot have a precision approach, nor be planned for one",
     3: "no airfield of this ID is registered: register it first, or look for a misspelt ID",
@@ -53,19 +57,33 @@ def feet_of(tenths: int) -> str:
     return f"{show(tenths / TENTHS)} ft"
 
 
+def parts_of(entry: Entry) -> tuple[str, int]:
+    """The runway of a finding, nothing at a heliport, and the number of the end or 0: its key is `09/27.1`, or `1`."""
+    runway, _, number = entry.key.rpartition(".")
+    return runway, int(number)
+
+
 def key_of(entry: Entry) -> str:
-    """The key of a finding: which runway, which of its ends, which side."""
-    runway, _, part = entry.key.rpartition(".") if "." in entry.key else ("", "", entry.key)
-    match entry.rule.name:
-        case "19d":
-            names = runway.split("/")
-            return f"{runway}, end {part}" + (f" ({names[int(part) - 1]})" if len(names) == 2 else "")
-        case "23a":
-            return f"end {part}"
-        case "19e" | "23t":
-            side = "beside the primary surface" if part == "0" else f"beside the approach of end {part}"
-            return f"{runway}, {side}" if runway else side
-    return entry.key
+    """The key of a finding in words: the runway, or the runway end by its own designator, and beside what a transitional surface lies."""
+    name = entry.rule.name
+    if name not in ENDS:
+        return entry.key
+    runway, number = parts_of(entry)
+    if name == "19e":
+        return f"{end_name(runway, number)}, beside its approach surface" if number else f"{runway}, beside its primary surface"
+    if name == "23t":
+        return f"beside the approach surface of end {number}" if number else "beside the primary surface"
+    return end_name(runway, number) if runway else f"end {number}"
+
+
+def short_key(entry: Entry) -> str:
+    """The key of a finding in a picture, which has the same numbers at the approaches of a heliport."""
+    if entry.rule.name not in ENDS:
+        return "" if entry.key == NONE else entry.key
+    runway, number = parts_of(entry)
+    if runway:
+        return end_name(runway, number) if number else runway
+    return (f"beside approach {number}" if entry.rule.name == "23t" else str(number)) if number else ""
 
 
 def excess_of(entry: Entry) -> str:
@@ -78,26 +96,25 @@ def say_entry(entry: Entry) -> tuple[str, str, str]:
     return entry.rule.paragraph, entry.rule.words.format(airfield=entry.airfield, key=key_of(entry)), excess_of(entry)
 
 
-def say_entries(entries: Iterable[Entry]) -> list[str]:
-    """Standards first, then what requires a notice, with the excesses in a column."""
-    rows = [(entry.rule.is_standard, *say_entry(entry)) for entry in entries]
+def say_entries(entries: Iterable[Entry], notes: Iterable[str] = ()) -> list[str]:
+    """Standards first, then what requires a notice, with the excesses in a column and a note behind each."""
+    rows = [(entry.rule.is_standard, *say_entry(entry), note) for entry, note in zip_longest(entries, notes, fillvalue="")]
     wide, out = max((len(row[2]) for row in rows), default=0), []
     for is_standard, head in ((True, "OBSTRUCTION, it exceeds:"), (False, "NOTICE to the FAA is required (Form 7460-1), it meets:")):
         some = [row for row in rows if row[0] == is_standard]
         out += [head] if some else []
-        out += [f"  {paragraph:<15} {text:<{wide}}  {excess}".rstrip() for _, paragraph, text, excess in some]
+        out += [f"  {paragraph:<15} {text:<{wide}}  {excess}{note}".rstrip() for _, paragraph, text, excess, note in some]
     if rows and all(row[0] for row in rows):
-        out.append("no notice rule that the desk knows is met")
+        out.append(NO_NOTICE)
     return out or ["no rule that the desk knows is met"]
 
 
-def say_ceiling(height: int | None, entries: Iterable[Entry]) -> list[str]:
-    head = "at every height it has a finding:" if height is None else f"without a finding up to {feet_of(height)} above the ground; 0.1 ft higher:"
-    return [head, *say_entries(entries)]
-
-
-def say_day(day: str) -> str:
-    return "none" if day == NONE else day
+def say_ceiling(height: int | None, entries: Iterable[Entry], flags: str) -> list[str]:
+    """With a flag that takes the notice rules away the height is that of the standards alone."""
+    is_exempt = any(letter in flags for letter in forms.EXEMPT)
+    none, some = ("no standard is exceeded", "a standard is exceeded") if is_exempt else ("without a finding", "it has a finding")
+    head = f"at every height {some}:" if height is None else f"{none} up to {feet_of(height)} above the ground; 0.1 ft higher:"
+    return [head, *(NOT_ASKED if is_exempt and line == NO_NOTICE else line for line in say_entries(entries))]
 
 
 def say_lateness(text: str) -> str:
@@ -105,8 +122,17 @@ def say_lateness(text: str) -> str:
     return "in time" if days == text else f"late by {days} {'day' if days == '1' else 'days'}"
 
 
+def say_effect(effective: str, expiry: str) -> str:
+    return f"{'no effective day' if effective == NONE else f'effective {effective}'}; {'no expiry' if expiry == NONE else f'expires {expiry}'}"
+
+
 def say_dates(deadline: str, effective: str, expiry: str) -> str:
-    return f"petitions until {say_day(deadline)}; effective {say_day(effective)}; expires {say_day(expiry)}"
+    petitions = "no petition may come" if deadline == NONE else f"petitions until {deadline}"
+    return f"{petitions}; {say_effect(effective, expiry)}"
+
+
+def say_status(status: str) -> str:
+    return STATUSES.get(status, status)
 
 
 def say_decision(decision: str) -> str:
@@ -141,9 +167,10 @@ def say_act(form: str, values: tuple[str, ...]) -> list[str]:
             return [f"case {case}: a petition is pending"]
         case "abandon", (case,):
             return [f"case {case}: given up"]
-        case "dispose", (case, disposition, effective, expiry):
-            ending = "affirmed" if disposition == "affirm" else "reversed"
-            return [f"case {case}: {ending}; effective {say_day(effective)}; expires {say_day(expiry)}"]
+        case "dispose", (case, "reverse", _, _):
+            return [f"case {case}: reversed"]
+        case "dispose", (case, _, effective, expiry):
+            return [f"case {case}: affirmed; {say_effect(effective, expiry)}"]
         case "extend", (case, expiry, last):
             return [f"case {case}: expires {expiry} now; the last day to ask for another extension is {last}"]
         case "fcc", (case, expiry):
@@ -182,7 +209,7 @@ def say_malformed(record: Record, number: int) -> list[str]:
         return [f"{head} at field 1: {say_foreign(record.form)}"]
     if record.form not in forms.FORMS:
         why = forms.about_form(record.form)
-        return [f"{head} at field 1: there is no form {forms.quoted(record.form)}" + (f" ({why})" if why else "")]
+        return [f"{head} at field 1: no record begins with {forms.quoted(record.form)}" + (f" ({why})" if why else "")]
     form = forms.FORMS[record.form]
     if number > len(form) + 1:
         return [f"{head} at field {number}: {forms.size(record.form)} (a spreadsheet pads lines with commas; oe-clean takes them off)"]
@@ -197,15 +224,20 @@ def say_malformed(record: Record, number: int) -> list[str]:
 def say_refusal(record: Record, reply: Refusal) -> list[str]:
     if reply.number == MALFORMED:
         return say_malformed(record, int(reply.values[0]))
-    return [f"REFUSED ({reply.number}): " + REFUSALS.get(reply.number, reply.name).format(*reply.values)]
+    values = map(say_status, reply.values) if reply.number == NOT_STANDING else reply.values
+    return [f"REFUSED ({reply.number}): " + REFUSALS.get(reply.number, reply.name).format(*values)]
 
 
 def say_case(state: CaseState) -> list[str]:
-    out = f"case {state.case} is {state.status.replace('inforce', 'in force')}"
+    out = [f"case {state.case} is {say_status(state.status)}"]
     if state.decision != NONE:
-        out += f": {say_decision(state.decision)}, issued {state.issued}; {say_dates(state.deadline, state.effective, state.expiry)}"
-        out += f"; the last day to ask for an extension is {say_day(state.last_day)}"
-    return [out + ("; MARKED FOR REVIEW, its findings would now be others" if state.mark == "marked" else "")]
+        decision = "" if state.status == "hazard" else f": {say_decision(state.decision)}"
+        out = [f"{out[0]}{decision}, issued {state.issued}", say_dates(state.deadline, state.effective, state.expiry)]
+    if state.last_day != NONE:
+        out.append(f"the last day to ask for an extension is {state.last_day}")
+    if state.mark == "marked":
+        out.append("MARKED FOR REVIEW, its findings would now be others")
+    return ["; ".join(out)]
 
 
 def say_row(values: tuple[str, ...]) -> list[str]:
@@ -235,9 +267,11 @@ def say(pair: Pair) -> list[str]:
         case Found(_, entries):
             return say_entries(entries)
         case Ceiling(_, height, entries):
-            return say_ceiling(height, entries)
+            return say_ceiling(height, entries, pair.record.values["FLAGS"])
         case AsOf(number, entries):
             return [f"over the airfields after entry {number}:", *say_entries(entries)]
+        case Stations(_, _, entries, firsts):
+            return say_entries(entries, [f" at station {first}" for first in firsts])
         case Verdict(_, notice, obstruction, count):
             return [f"notice required: {yes_or_no(notice)}; obstruction: {yes_or_no(obstruction)}; findings: {count} (`screen` lists them)"]
         case CaseState() as state:

@@ -18,6 +18,10 @@ FILES = {
     "/usr/share/javascript/leaflet": "Leaflet is missing (Debian: libjs-leaflet): the page of oe-map is not tested",
     "chromium": "chromium is missing: what the page of oe-map says of a place is not tested",
 }
+MISSING_PROGRAMS = {
+    "dh_python3": "debhelper or dh-python is missing (Debian: debhelper, dh-python): no package is made",
+    "man": "man is missing (Debian: man-db): the form of the manual pages is not tested",
+}
 
 
 def main() -> int:
@@ -32,6 +36,7 @@ def main() -> int:
     sys.path.insert(0, str(TOOLS))
     said = [text for name, text in MISSING.items() if importlib.util.find_spec(name) is None]
     said += [text for name, text in FILES.items() if not (os.path.exists(name) or shutil.which(name))]
+    said += [text for name, text in MISSING_PROGRAMS.items() if shutil.which(name) is None]
     said += [] if program else ["no program is named (--oe PROGRAM): what asks the desk is not tested"]
     for text in said:
         print(f"tools/test: skipped: {text}")

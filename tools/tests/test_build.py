@@ -7,11 +7,13 @@ import time
 from pathlib import Path
 
 from tests import stored
-from tests.trial import Ended, Trial
+from tests.test_words import COMMANDS, HELP, NONE_OF_THEM, VERSION
+from tests.trial import TOOLS, Ended, Trial
 
 # Counts its calls. It fails where there is a file `fails`, else it makes a program that says its words and what it reads.
 TOOLCHAIN = """#!/bin/sh
 echo x >> "{room}/calls"
+echo "$RT_JOBS" > "{room}/jobs"
 while [ -e "{room}/waits" ]; do sleep 0.1; done
 [ ! -e "{room}/fails" ] || exit 1
 mkdir -p crates/oe_main/out
@@ -19,7 +21,7 @@ printf '#!/bin/sh\\necho "$*"; cat\\n' > crates/oe_main/out/oe_main
 chmod +x crates/oe_main/out/oe_main
 """
 WANTED = ("sh", "awk", "cat", "chmod", "df", "dirname", "find", "flock", "git", "grep", "head", "mkdir", "mv", "python3", "readlink", "rm", "sleep", "tar", "touch",
-          "wc", "cp", "printf")
+          "wc", "cp", "printf", "nproc")
 SECONDS = 60
 
 
@@ -38,6 +40,9 @@ class Build(Trial):
         (self.top / "crates.txt").write_text("# crates\nlow:\napart: low\noe_main: low std\n")
         (self.top / "HANDLES").write_text("Handles allowed: none.\n")
         shutil.copy(stored.TOP / "oe", self.top)
+        (self.top / "tools").mkdir()
+        for name in ("words.sh", "jobs", "version"):
+            shutil.copy(TOOLS / name, self.top / "tools")
         self.path = self.folder / "path"
         self.path.mkdir()
         for word in WANTED:
@@ -91,9 +96,37 @@ class Build(Trial):
         self.assertEqual(self.calls(), 2)
 
     def test_words_that_are_no_command(self) -> None:
-        for words in ((), ("--help",), ("dsek",)):
+        """They are those that the program itself refuses, and nothing is built to refuse them."""
+        for words in NONE_OF_THEM:
             ended = self.call(*words)
-            self.assertEqual((ended.status, ended.err.splitlines()[0], self.calls()), (2, "oe: usage", 0))
+            self.assertEqual((ended.status, ended.out, ended.err.splitlines()[0], self.calls()), (2, "", "oe: usage", 0), words)
+
+    def test_words_that_are_commands(self) -> None:
+        """They are those that the program itself takes, and for each the build begins."""
+        (self.path / "rt").unlink()
+        for words, _ in COMMANDS:
+            ended = self.call(*words)
+            self.assertEqual((ended.status, "its command rt is not on the path" in ended.err), (1, True), words)
+
+    def test_help_and_version(self) -> None:
+        for words in HELP + VERSION:
+            ended = self.call(*words)
+            self.assertEqual((ended.status, ended.err, self.calls()), (0, "", 0), words)
+            self.assertTrue(ended.out.startswith("oe unknown"), ended.out)
+            self.assertEqual("oe generate SEED COUNT" in ended.out, words in HELP)
+        for words in (("init", "-q"), ("add", "-A"), ("-c", "user.name=office", "-c", "user.email=office@example.org", "commit", "-q", "-m", "all")):
+            subprocess.run(("git", *words), cwd=self.top, check=True)
+        self.assertRegex(self.call("--version").out, r"^oe [0-9a-f]{7,} of \d{4}-\d\d-\d\d\n$")
+        self.change("low")
+        self.write("repository/HANDLES", "")
+        self.assertRegex(self.call("--version").out, r"^oe [0-9a-f]{7,}-changed of ")
+
+    def test_proofs_side_by_side(self) -> None:
+        """As many as in the gate: of processors and memory, or as the variable says."""
+        self.call("desk")
+        jobs = int((self.folder / "jobs").read_text())
+        self.assertTrue(1 <= jobs <= (os.cpu_count() or 1), jobs)
+        self.assertIn("RT_JOBS=$(tools/jobs)", (stored.TOP / ".ci" / "run").read_text())
 
     def test_what_is_wanting(self) -> None:
         for word, said in (("git", "the command git"), ("rt", "its command rt is not on the path. A release needs no toolchain")):

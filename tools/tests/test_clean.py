@@ -33,7 +33,8 @@ class Clean(Trial):
                 ("day,office,1,01.02.2026", "line 2: field 4, DATE"), ("day,office,1,2026-02-30", "line 2: field 4, DATE"),
                 ("file,a,1,2026-03-01,3/1/2026,-,normal,-,0,0,0,2500,object,0,-,-", 'line 2: field 5, PERMIT: "3/1/2026"'),
                 ("droprunway,a,1,AAA,22-Apr", 'line 2: field 5, NAME: "22-Apr"'), ("droprunway,a,1,AAA,4/22/26", 'the runway "4/22/26" was made a date'),
-                ('screen,"1,000",0,0,1,object,0,-,-', "commas between thousands"), ("screen,1.5,0,0,1,object,0,-,-", "a point"),
+                ('screen,"1,000",0,0,1,object,0,-,-', "commas between thousands"), ("screen,37.4750,0,0,1,object,0,-,-", "degrees: oe-from-points makes"), ("screen,0,0,0,1,tower,0,-,-", "write antenna for"),
+                ("screen,\u2013150000,0,0,1,object,0,-,-", "a dash that is no hyphen"), ("\u201cscreen\u201d,0", "write screen, without curly quotes"), ("screen,1.5,0,0,1,object,0,-,-", "a point"),
                 ("screen,1E+06,0,0,1,object,0,-,-", "large number"), ("Screen,0,0,0,1,object,0,-,-", '"Screen": write screen'),
                 ("screen,0,0,0,1,Object,0,-,-", 'field 6, KIND: "Object" (capital'), ("screen,0,0,0,1,object,0,-", "field 9, ON: nothing (it is wanting)"),
                 ("screen,0,0,0,1,object,0,-,-,x", "screen has 9 fields, and the row has 10"), ("review\nscreen,0,0,0,1,object,0,-,-\nday;a;1;2026-01-15", 'line 4: "day;a;1;2026-01-15": its cells are not parted as those of the first record'),
@@ -41,7 +42,7 @@ class Clean(Trial):
                 ("screen,0,0,0,61m,object,0,-,-", '"61m" (a unit'), (",x,y", '"": the first cell is empty'), ("airport,a,1,M\u00dcN,public,0,0,0", 'ID: "M\u00dcN"; wanted is 1 to 8'),
                 ("screen,0,0,0,1,object,0,-," + "A" * 20000, f'ON: "{"A" * 60}.."; wanted'), ("screen;0;0;0;200,1;object;0;-;-", "a comma: write tenths"),
                 ("asof,01,0,0,0,1,object,0,-,-", 'line 2: field 2, N: "01" (a sign or zeros before the number)'),
-                ("asof,1,0,0,0,1,tower,0,-,-", 'field 7, KIND: "tower"'), ("X,Y,GROUND", "begin a row of headings or remarks with #"), ("what,id,name,lat", '"what": a table of points: oe-from-points makes'), ("screen,20000001,0,0,1,object,0,-,-", 'X: "20000001"')):
+                ("asof,1,0,0,0,1,tower,0,-,-", 'field 7, KIND: "tower"'), ("X,Y,GROUND", 'no record begins with "X"; the words are airport, runway'), ("X,Y,GROUND", "begin a row of headings or remarks with #"), ("what,id,name,lat", '"what": a table of points: oe-from-points makes'), ("screen,20000001,0,0,1,object,0,-,-", 'X: "20000001"')):
             self.fault(words, "oe-clean", self.write("sheet.csv", f"# remark\n{row}\nreview\n"))
 
     def test_other_separators(self) -> None:
@@ -82,6 +83,14 @@ class Clean(Trial):
         self.assertEqual(self.good("oe-clean", self.write("sheet.csv", again)).out, again)
         other = self.write("sheet.csv", "day,a,1,2026-01-15\nreview\nday,a,1,2026-01-16\n")
         self.fault("line 3: CALLER a and KEY 1 stand in line 1 for another request", "oe-clean", other)
+
+    def test_a_day_that_is_far(self) -> None:
+        """The records are written all the same."""
+        sheet = "# days\nday,a,1,2026-01-16,,\nreview\nday,a,2,2062-01-15\n"
+        ended = self.good("oe-clean", self.write("sheet.csv", sheet))
+        self.assertEqual(ended.out, "\nday,a,1,2026-01-16\nreview\nday,a,2,2062-01-15\n")
+        self.assertEqual(ended.err, f"oe-clean: {self.folder}/sheet.csv line 4: CAUTION: this day is 13,148 days after 2026-01-16, the day before it here: "
+                         "is it mistyped? The desk's day never goes back\n")
 
     def test_the_template(self) -> None:
         sheet = self.good("oe-clean", "--template").out

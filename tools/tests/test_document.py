@@ -1,7 +1,6 @@
-"""The examples of docs/TOOLS.md, typed as they stand there, and that each tool says what it is."""
+"""The examples of docs/TOOLS.md and docs/FIVE-MINUTES.md, typed as they stand there, and that each tool says what it is."""
 import importlib.util
 import os
-import re
 import shutil
 import subprocess
 import unittest
@@ -10,7 +9,7 @@ from dataclasses import dataclass
 from tests import stored
 from tests.trial import PROGRAM, STORED_DESK, TOOLS, Trial
 
-NAMES = ("oe-say", "oe-from-points", "oe-clean", "oe-draw")
+NAMES = ("oe-say", "oe-from-nasr", "oe-from-points", "oe-clean", "oe-draw")
 INDENT, PROMPT = "    ", "    $ "
 PICTURES = ("plan.svg", "profile.svg", "heliport.svg", "heights.svg")
 ASKING = ("oe-draw", "oe-high")  # of the desk what has no stored replies
@@ -23,10 +22,13 @@ class Typed:
 
 
 def examples() -> list[Typed]:
-    """The commands of the document, each with what it shows, but those between fences, which docs/check-examples types."""
+    """The commands of the document, each with what it shows."""
     out: list[Typed] = []
-    text = (stored.TOP / "docs" / "TOOLS.md").read_text()
-    for line in re.sub(r"^```.*?^```$", "", text, flags=re.M | re.S).splitlines():
+    is_fenced = False  # a block of docs/check-examples, which runs it
+    for line in (stored.TOP / "docs" / "TOOLS.md").read_text().splitlines():
+        is_fenced = is_fenced != line.startswith("```")
+        if is_fenced:
+            continue
         if line.startswith(PROMPT):
             out.append(Typed(line.removeprefix(PROMPT)))
         elif out and line.startswith(INDENT):
@@ -57,6 +59,20 @@ class Document(Trial):
                 self.assertEqual(self.type(one), one.shown, one.command)
         for picture in PICTURES if PROGRAM else ():
             self.assertEqual((self.folder / "out" / picture).read_text(), (stored.TOP / "docs" / picture).read_text(), f"look at {picture}, then copy it to docs")
+
+    @unittest.skipUnless(PROGRAM and importlib.util.find_spec("pyproj"), "no program is named, or pyproj is missing")
+    def test_five_minutes(self) -> None:
+        """Its lines are a dozen, run one after another with nothing beside them, and make the picture that the page shows."""
+        page = (stored.TOP / "docs" / "FIVE-MINUTES.md").read_text()
+        lines = [line[2:] for line in page.splitlines() if line.startswith(("$ ", "> "))]
+        room = self.folder / "bin"
+        room.mkdir()
+        (room / "oe").symlink_to(PROGRAM or "")
+        environment = {**os.environ, "PATH": f"{room}:{TOOLS}:{os.environ['PATH']}", "PYTHONDONTWRITEBYTECODE": "1"}
+        subprocess.run(["sh", "-e", "-c", "\n".join(lines)], cwd=self.folder, env=environment, check=True, capture_output=True)
+        self.assertEqual(len(lines), 12)
+        self.assertEqual((self.folder / "five-minutes.svg").read_text(), (stored.TOP / "docs" / "five-minutes.svg").read_text())
+        self.assertIn("](five-minutes.svg)", page)
 
     def test_each_tool_says_what_it_is(self) -> None:
         names = sorted(tool.name for tool in TOOLS.glob("oe-*"))

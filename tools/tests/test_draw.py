@@ -5,9 +5,10 @@ import unittest
 import xml.etree.ElementTree as Xml
 from pathlib import Path
 
-from office import picture, plan
-from office.register import Airport, Runway, RunwayEnd
+from office import lists, picture, plan
 from office.lists import WIDE
+from office.register import Airport, Runway, RunwayEnd
+from office.replies import Entry, Found
 from office.sheet import HIGH
 from office.structures import Finding, Structure
 from tests import stored
@@ -108,11 +109,46 @@ class Plans(Whole):
             self.assertEqual(words.count(f"sheet {sheets} of {sheets}"), int(sheets > 1))
             self.assertEqual(any("on the next sheet" in word for word in words), sheets > 1)
 
+    def test_every_finding_is_listed(self) -> None:
+        """Each on a line of its own, in order, standards first; what has no room continues in the next column, and on the next sheet."""
+        def entries(count: int) -> tuple[Entry, ...]:
+            return tuple(Entry.read(f"19e AAA 09/27.{n % 3} {n}") for n in range(1, count + 1)) + (Entry.read("9a - - 7"), Entry.read("9d AAA - 0"))
+        some = [structure(1, 0, 0), structure(2, 500, 500), structure(3, 900, 0, name="Last")]
+        some[1].judge(2, (Entry.read("9a - - 7"), *entries(200)[:-2]))
+        some[2].judge(2, entries(3))
+        drawn = plan.draw([airport(runway("09/27"))], some, 0, plan.Options(None, "a test", every=True))
+        self.assertEqual(len(drawn), 4)
+        words = self.check_sheets(drawn)
+        self.assertEqual([word for word in words if re.fullmatch("by [0-9.]+ ft", word)], [f"by {n / 10} ft" for n in range(1, 201)] + ["by 0.7 ft", "by 0.1 ft", "by 0.2 ft", "by 0.3 ft", "by 0.7 ft"])
+        surfaces = [word for word in words if word.startswith(("transitional ", "200 ft above", "on "))]
+        self.assertEqual(surfaces[-5:], ["transitional AAA 09, beside approach", "transitional AAA 27, beside approach",
+                                         "transitional AAA 09/27, beside primary", "200 ft above the ground", "on AAA"])
+        self.assertEqual(words.count("line 2 (continued)"), 4)
+        self.assertIn("every finding: on the next sheets", words)
+        self.assertIn("no rule that the desk knows is met", words)
+
+    def test_words_for_ends(self) -> None:
+        """A runway end is named by its own designator, an approach of a heliport by the number that stands at it."""
+        for text, words in (("19d AAA 09/27.2 10", "approach 27 +1.0 ft"), ("19e AAA 09/27.0 10", "transitional 09/27 +1.0 ft"), ("19e AAA 09/27.1 0", "transitional 09 by less than 0.1 ft"),
+                            ("19d AAA 18.1 10", "approach 18 end 1 +1.0 ft"), ("23a HHH 2 10", "approach 2 +1.0 ft"), ("23t HHH 0 10", "transitional HHH +1.0 ft"),
+                            ("23t HHH 1 10", "transitional beside approach 1 +1.0 ft"), ("9d AAA - 0", "on AAA"), ("17a1 - - 5", "499 ft above the ground +0.5 ft")):
+            one = structure(1, 0, 0)
+            one.judge(2, (Entry.read(text),))
+            self.assertEqual("".join(lists.summary(one, 1)), words)
+        one.judge(2, (Entry.read("19d AAA 09/27.2 10"), Entry.read("9a - - 7")))
+        self.assertEqual(lists.summary(one, 2), ("approach AAA 27", " +1.0 ft, 1 more"))
+
+    def test_a_long_name_does_not_hide_how_far(self) -> None:
+        one = structure(1, 90_000_000, 0)
+        one.judge(2, (Entry.read("19e AAAAAAAA 09L/27RR.0 123456"), Entry.read("9a - - 7")))
+        words = self.check_sheets(plan.draw([airport(runway("09/27")), airport(runway("09/27"))], [one], 0, OPTIONS))
+        self.assertTrue(any(word.startswith("tr") and word.endswith("\u2026 +12,345.6 ft, 1 more (off the map)") for word in words), words)
+
     def test_what_is_outside_of_the_map_is_listed(self) -> None:
         far = [structure(n, 9_000_000, n) for n in range(20)]
         text = picture.stacked(plan.draw([airport(runway("09/27"))], far, 0, OPTIONS))
         self.assertEqual(self.listed(text), list(range(1, 21)))
-        self.assertEqual(sum("(outside the picture)" in word for word in self.check(text)), 20)
+        self.assertEqual(sum("(off the map)" in word for word in self.check(text)), 20)
 
     def test_airfields_that_changed(self) -> None:
         """A structure that was asked before is marked, on the sheet where it stands."""
@@ -158,6 +194,19 @@ class Tool(Trial, Whole):
         self.assertTrue({"AAA runway 09/27 from the side", "horizontal 250.0 ft", "notice 100:1", "approach 09 50:1"} <= set(words), words)
         self.good("oe-draw", *self.files, "-o", "picture.svg", "--only", "AAA", "--circles", "--title", "A <title>")
         self.assertIn("A <title>", self.check((self.folder / "picture.svg").read_text()))
+
+    def test_a_profile_by_a_runway_end(self) -> None:
+        for chosen in ("09", "27", "27/09"):
+            self.assertIn("AAA runway 09/27 from the side", self.check(self.good("oe-draw", *self.files, "--profile", f"AAA:{chosen}").out, (1200, 700)))
+
+    def test_every_finding(self) -> None:
+        """As many lines as the replies have entries; beside a runway, those of the structures that are shown."""
+        entries = [entry for pair in stored.sessions()["surfaces of a runway"].pairs() if isinstance(pair.reply, Found) for entry in pair.reply.entries]
+        words = self.check(self.good("oe-draw", *self.files, "--all").out)
+        self.assertEqual(sum(word.startswith("77.") for word in words), len(entries))
+        self.assertEqual(words.count("approach AAA 09"), 1)
+        words = self.check(self.good("oe-draw", *self.files, "--all", "--profile", "AAA:27", "--within", "100", "--whole", "--sheet", "2").out, (1200, 700))
+        self.assertTrue({"Every finding of each structure: No. 1 to 3", "77.19(d)", "approach AAA 09"} <= set(words), words)
 
     def test_heliports(self) -> None:
         pad = self.write("pad", "heliport,a,1,HHH,public,0,0,1000,0,500,0\nscreen,1000,3000,0,1000,object,0,-,-\nscreen,1000,6000,0,1000,object,0,-,-\n")
@@ -207,6 +256,9 @@ class Tool(Trial, Whole):
         self.fault("name RECORDS", "oe-draw")
         self.fault("--cases wants --over", "oe-draw", *self.files, "--cases")
         self.fault("nothing to draw", "oe-draw", self.write("none", "review\n"), self.write("none.out", "review,0\n"))
+        self.fault("there is no record in it", "oe-draw", self.write("none", "\n"), self.write("none.out", ""))
+        self.fault("the desk refuses each of its records; oe-say says why", "oe-draw", self.write("none", "screen,0\nbuilding,1\n"), self.write("none.out", "no,13,Malformed,3\nno,13,Malformed,1\n"))
+        self.fault("a table of points: oe-from-points makes records of it", "oe-draw", self.write("none", "what,id\n"))
         pad = self.write("pad", "heliport,a,1,HHH,public,0,0,1000,0,500,0\n"), self.write("pad.out", "ok,1,published,heliport\n")
         self.fault("HHH is a heliport and has no runway", "oe-draw", *pad, "--profile", "HHH:1")
         self.fault("there is no sheet 2: the picture has 1 sheet", "oe-draw", *pad, "--sheet", "2")
@@ -247,6 +299,20 @@ abandon,a,7,2
         self.assertIn("1 case 1", words)
         self.assertFalse(any("case 2" in word for word in words))
         self.assertEqual(self.bytes_of_office(), before)
+
+    def test_what_is_no_file_of_records(self) -> None:
+        """The points in place of their records, and the office's file in place of both, would be a picture without structures."""
+        points = self.write("towers.csv", "what,id,name,lat,lon,elev_ft\nstructure,,Tower,1,2,3\n")
+        self.fault("a table of points: oe-from-points makes records of it", "oe-draw", points, "--over", self.office, desk=PROGRAM)
+        self.fault("is a database and no file of records: name an office's file with --over", "oe-draw", self.office, desk=PROGRAM)
+        self.fault("there is no record in it", "oe-draw", self.write("none", ""), "--over", self.office, desk=PROGRAM)
+
+    def test_the_day_of_an_office(self) -> None:
+        """Its day is 2026-01-15, as is the machine's in tests."""
+        out = self.good("oe-say", "-", "--over", self.office, given=b"day,a,8,2026-02-16\n", desk=PROGRAM).out
+        for words in ("this day is 32 days after 2026-01-15, this machine's day", "this day is 32 days after 2026-01-15, the office's day"):
+            self.assertIn(words, out)
+        self.assertNotIn("is it mistyped", self.good("oe-say", "-", "--over", self.office, given=b"day,a,8,2026-02-15\n", desk=PROGRAM).out)
 
     def test_an_office_that_is_open(self) -> None:
         with subprocess.Popen([PROGRAM, "desk", "--db", self.office], stdin=subprocess.PIPE, stdout=subprocess.PIPE) as open_desk:

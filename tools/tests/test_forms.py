@@ -48,7 +48,11 @@ class Forms(unittest.TestCase):
     def test_a_line_is_cut_as_the_desk_cuts_it(self) -> None:
         self.assertEqual(lines(b"a\r\n\n\r\nb\r\r\nc\r"), ["a", "", "", "b\r", "c\r"])
         self.assertEqual(forms.cut('\ufeff"screen","0"'), ["screen", "0"])
+        for text in ("\rreview", "\r\rreview", "\ufeff\rreview", "review\r", '\r"review"\r\r'):
+            self.assertEqual(forms.cut(text), ["review"], text)
+        self.assertEqual(forms.cut("\r\ufeffreview"), ["\ufeffreview"])
         self.assertIsNone(forms.cut("a\rb"))
+        self.assertIsNone(forms.cut("\r\r"))
         self.assertIsNone(forms.cut("\ufeff"))
 
     def test_planned_approaches(self) -> None:
@@ -58,12 +62,46 @@ class Forms(unittest.TestCase):
         for text, effective in (("V", "V"), ("V/NA", "NA"), ("NL/NA", "NL"), ("P/V", "P"), ("NL/P", "P")):
             self.assertEqual(register.effective(text), effective, text)
 
+    def check_causes(self, field: forms.Field, *pairs: tuple[str, str | None]) -> None:
+        for text, cause in pairs:
+            said = forms.cause(text, field)
+            if cause is None:
+                self.assertIsNone(said, text)
+            else:
+                self.assertIn(cause, said or "", text)
+
     def test_causes(self) -> None:
-        field = forms.FORMS["airport"][2]
-        for text, cause in (("1/15/2026", "date"), ("22-Apr", "date"), ("1,000", "commas"), ("100.0", "point"), ("1E+06", "large"), ("007", "zeros"),
-                            ("+5", "sign"), (" 5", "spaces"), ("aaa", "capital")):
-            self.assertIn(cause, forms.cause(text, field) or "", text)
-        self.assertIsNone(forms.cause("?", field))
+        self.check_causes(forms.FORMS["airport"][2], ("1/15/2026", "date"), ("22-Apr", "date"), ("1,000", "commas"), ("100.0", "point"), ("1E+06", "large"), ("007", "zeros"),
+                          ("+5", "sign"), (" 5", "spaces"), ("aaa", "capital"), ("?", None))
+
+    def test_degrees(self) -> None:
+        """In a coordinate, and nowhere else: a height of 37.475 has a point, and feet and thousands are what they are."""
+        coordinate, height = forms.FORMS["screen"][0], forms.FORMS["screen"][3]
+        angles = ("37.475", "-122.1333", "-122,1333", "37.475N", "37-28-30.0N", "37\u00b028'30\"N", "37 28 30", "N37:28", "061-02-24.0W", "37\u00b0")
+        self.check_causes(coordinate, *((text, "degrees: oe-from-points makes records") for text in angles), ("700.5", "a point: write tenths"), ("18.5", "a point: write tenths"),
+                          ("700.125", "a point"), ("1,000", "commas"), ("150 ft", "a unit"), ("1 000", None), ("37-", None))
+        self.check_causes(height, ("37.475", "a point: write tenths"), ("37-28-30.0N", None))
+
+    def test_signs_of_set_text(self) -> None:
+        """Curly quotes and longer dashes, as programs that set text put them."""
+        self.check_causes(forms.FORMS["screen"][0], ("\u2013150000", "a dash that is no hyphen"), ("\u2212150000", "a dash"), ("\u201c2001\u201d", "curly quotes"), ("\u20182001", "curly quotes"))
+        self.check_causes(forms.FORMS["screen"][7], ("\u2014", "a dash that is no hyphen"))
+        self.assertEqual(forms.about_form("\u201cscreen\u201d"), "write screen, without curly quotes")
+
+    def test_the_nearest_word(self) -> None:
+        runway = {one.name: one for one in forms.FORMS["runway"]}
+        self.check_causes(forms.FORMS["screen"][4], ("tower", "write antenna for an antenna structure, else object"), ("building", "write object"), ("crane", "write object"),
+                          ("antena", "write antenna"), ("Antenna", "capital"), ("railway", "write rail"), ("?", None))
+        self.check_causes(runway["SURFACE"], ("Asphalt", "write hard"), ("turf", "write soft"))
+        self.check_causes(runway["KIND1"], ("PIR", "write P"), ("NP", "write NA or NL"))
+        self.check_causes(forms.FORMS["airport"][3], ("PU", "write public"))
+        self.check_causes(forms.FORMS["dispose"][3], ("affirmed", "write affirm"))
+        self.assertEqual(forms.about_form("screeen"), "is it screen?")
+        for form in forms.FORMS.values():  # each word that is proposed is one that the field takes
+            for one in form:
+                for meaning in one.value.meant.values():
+                    found = [word for word in re.split(r"[ ,]+", meaning) if one.value.fits(word, {})]
+                    self.assertTrue(found, (one.name, meaning))
 
 
 class Replies(unittest.TestCase):
@@ -74,8 +112,8 @@ class Replies(unittest.TestCase):
                 self.assertTrue(all(words.say(pair)), pair)
                 kinds.add(type(pair.reply))
                 rules |= {entry.rule.name for entry in pair.reply.entries} if isinstance(pair.reply, Found) else set()
-        # the stored sessions are those of `oe desk`, which has no ceilings and no earlier lists; test_say has them, and the last entry
-        self.assertEqual(kinds | {replies.AsOf, replies.Ceiling, replies.Sync}, set(replies.Reply.__args__))
+        # the stored sessions are those of `oe desk`, which has no ceilings, no ways and no earlier lists; test_say and test_every_reply have them, and the last entry
+        self.assertEqual(kinds | {replies.AsOf, replies.Ceiling, replies.Stations, replies.Sync}, set(replies.Reply.__args__))
         self.assertEqual(rules, set(replies.RULES))
 
     def test_each_rule_is_said_by_its_paragraph(self) -> None:
@@ -100,7 +138,7 @@ class Replies(unittest.TestCase):
             for pair in session.pairs():
                 if isinstance(pair.reply, Refusal) and pair.reply.number != words.MALFORMED:
                     said = words.say(pair)[0]
-                    self.assertTrue(all(value in said for value in pair.reply.values), said)
+                    self.assertTrue(all(words.say_status(value) in said for value in pair.reply.values), said)
 
     def test_forms_of_changes_have_caller_and_key(self) -> None:
         for name, form in forms.FORMS.items():

@@ -1,11 +1,12 @@
 """oe-from-points: angles, feet, positions by PROJ, and what is refused by name."""
 import importlib.util
 import math
+import subprocess
 import unittest
 
 from office.faults import Fault
 from office.measures import Axis, degrees, tenths
-from tests.trial import TOOLS, Trial
+from tests.trial import PROGRAM, TOOLS, Trial
 
 HAS_PROJ = importlib.util.find_spec("pyproj") is not None
 ZONE = "2263"  # New York Long Island, US survey feet
@@ -129,18 +130,78 @@ class Points(Trial):
                 (AIRPORT.replace("-73.5", "73.5"), "; a western longitude is negative"), (AIRPORT.replace("-73.5", "-93.5"), "; is this the zone of the place?"),
                 (AIRPORT.replace("40.75,-73.5", "-73.5,40.75"), "; are lat and lon exchanged?"), (AIRPORT.replace("20.6", "6.3 m"), 'elev_ft: "6.3 m" is no number of feet: are these metres?'),
                 (AIRPORT.replace("\n", ",more\n"), "line 2: the row has more cells than the first line has names"),
-                (ENDS.replace("09/27", "27-Sep"), 'line 3: NAME "27-Sep" (a spreadsheet\'s date: format the column as text); wanted'),
                 (AIRPORT.replace("20.6", "20.65"), "points.csv line 2 (TST), elev_ft: 20.65 ft is finer than a tenth"),
                 (AIRPORT.replace("40.75", "404500N"), "line 2 (TST), lat"), (AIRPORT.replace("40.75", ""), '"airport" wants lat'),
-                (AIRPORT.replace("public", "PU"), 'line 2: CATEGORY "PU"; wanted is public'), (AIRPORT.replace("TST", "tst"), 'ID "tst"'),
+                (AIRPORT.replace("public", "PU"), 'line 2: category "PU" (write public); wanted is public'), (AIRPORT.replace("TST", "tst"), 'id "tst" (capital and small letters are different)'),
                 (AIRPORT.replace("airport,", "aiport,"), 'what is "aiport"'), (ENDS.splitlines()[0] + "\n", "line 2: TST 09/27 has one end"),
                 (ENDS.replace("hard,NA", "soft,NA"), 'differ in surface: "hard" and "soft"'),
-                (ENDS.replace("P,,,,", "P,,,,5000").replace("NA,,,,", "NA,,,,5001"), "differ in published_ft: 5000 and 5001"), (ENDS.replace("NA", "PIR"), 'KIND2 "PIR"'),
+                (ENDS.replace("P,,,,", "P,,,,5000").replace("NA,,,,", "NA,,,,5001"), "differ in published_ft: 5000 and 5001"), (ENDS.replace("NA", "PIR"), 'line 3: kind "PIR" (write P); wanted is V'),
                 (TOWER.replace("250.5", ""), '"structure" wants height_ft'), (TOWER.replace("250.5", "11000"), 'HEIGHT "110000"'),
                 ("", "there is no point in it")):
             self.refused(words, rows)
         self.refused("ft from the origin, and the grid reaches 2,000,000", AIRPORT, "--crs", ZONE, "--origin", "9000000,0")
         self.refused("no row has the id ZZZ", AIRPORT, *AT, "--only", "ZZZ")
+
+    def test_all_faults_are_named(self) -> None:
+        """Every row is looked at, and of a row every cell; an end is not said to be alone if its other one was refused."""
+        rows = (AIRPORT.replace("40.75", "north").replace("20.6", "6 m").replace("public", "PU") + ENDS.replace("20.5", "20.55").replace("18,", "x,")
+                + TOWER.replace("antenna", "tower").replace(",T,", ",TS,") + "end,TST,18/36,40.75,-73.5,20,,other,hard,V,,,,\n" + TOWER)
+        ended = self.run_tool("oe-from-points", self.write("points.csv", HEAD + rows), *AT, "--grid", "office.grid", "--names", "names.csv")
+        self.assertEqual((ended.status, ended.out), (1, ""))
+        said = ended.err.splitlines()
+        wanted = ('line 2 (TST), lat: "north"', 'line 2 (TST), elev_ft: "6 m"', 'line 2: category "PU"', "line 3 (TST 09/27), elev_ft: 20.55 ft is finer", 'line 4 (TST 09/27), elev_ft: "x"',
+                  'line 5: kind "tower"', 'line 5: flags "TS"', "line 6: TST 18/36 has one end")
+        self.assertEqual(len(said), len(wanted), ended.err)
+        for line, words in zip(said, wanted):
+            self.assertTrue(line.startswith("oe-from-points: points.csv " + words), line)
+        self.assertEqual([path.name for path in self.folder.iterdir()], ["points.csv"])
+
+    def test_exchanged_ends(self) -> None:
+        """The runway leads east, 90 degrees: as 09/27 it is right, as 27/09 its rows are exchanged, and as 04/22 magnetic north is too far off."""
+        first, second = ENDS.splitlines(keepends=True)
+        self.refused("line 3: TST 09/27 leads 270 degrees from its first end to its second: are its two rows exchanged? That of 09 comes first", second + first)
+        for name, words in (("09/27", ""), ("9/27", ""), ("09L/27R", ""), ("05/23", ""), ("12/30", ""), ("04/22", "09/27 leads 90 degrees"), ("14/32", ""), ("E/W", ""),
+                            ("27/09", "exchanged"), ("22/04", "exchanged"), ("20/02", "off its number"), ("36/18", "off its number"), ("99/00", "")):
+            ended = self.run_tool("oe-from-points", self.write("points.csv", HEAD + ENDS.replace("09/27", name)), *AT)
+            self.assertEqual(ended.status, int(words == "exchanged"), ended)
+            self.assertEqual("CAUTION" in ended.err, name in ("04/22", "14/32", "20/02", "36/18"), ended.err)
+            self.assertIn(words.replace("09/27", name), ended.err)
+        self.refused("line 3: the two ends of TST 09/27 are one place", first + first)
+
+    def test_a_notice(self) -> None:
+        """The record that was typed by hand before: the place is that of the same structure to be screened."""
+        (screen,) = self.records(TOWER)
+        head = HEAD.strip() + ",study,start,permit,fcc,urgency,statement,mobile_ft\n"
+        tower = TOWER.strip().replace("structure", "notice")
+        rows = f"{tower},2026-AWP-11234-OE,2026-03-01,,2026-01-15,,,\n{tower},2026-AEA-1-NRA,2026-03-01,2026-02-01,,emergency,yes,\n"
+        out = self.good("oe-from-points", self.write("points.csv", head + rows), *AT, "--names", "names.csv").out.splitlines()
+        site = screen.removeprefix("screen,")
+        self.assertEqual(out, [f"file,2026.AWP,11234.OE,2026-03-01,-,2026-01-15,normal,-,{site}", f"file,2026.AEA,1.NRA,2026-03-01,2026-02-01,-,emergency,yes,{site}"])
+        self.assertEqual((self.folder / "names.csv").read_text(), (",".join(site.split(",")[:4]) + ",Tower\n") * 2)
+        for cells, words in (("2026-AWP-OE,2026-03-01,,,,,", 'study "2026-AWP-OE"; wanted is a study as 2026-AWP-101-OE'), (",2026-03-01,,,,,", '"notice" wants study'),
+                             ("2026-AWP-1-OE,3/1/2026,,,,,", 'start "3/1/2026" (a spreadsheet\'s date'), ("2026-AWP-1-OE,,,,,,", '"notice" wants start'),
+                             ("2026-AWP-1-OE,2026-03-01,no,,,,", 'permit "no"; wanted is -, or a day'),
+                             ("2026-AWP-1-OE,2026-03-01,,,urgent,,", 'urgency "urgent"; wanted is normal or emergency')):
+            self.fault(words, "oe-from-points", self.write("points.csv", f"{head}{tower},{cells}\n"), *AT)
+
+    @unittest.skipUnless(PROGRAM, "no program is named")
+    def test_the_program_takes_a_notice(self) -> None:
+        head, tower = HEAD.strip() + ",study,start\n", TOWER.strip().replace("structure", "notice")
+        out = self.good("oe-from-points", self.write("points.csv", f"{head}{tower},2026-AWP-11234-OE,2026-03-01\n"), *AT).out
+        replies = subprocess.run([PROGRAM, "desk"], input="day,office,1,2026-01-15\n" + out, capture_output=True, text=True, check=True).stdout
+        self.assertEqual(replies, "ok,1,published,day\nok,2,published,case,1,timely,-,-\n")
+
+    def test_the_top_in_place_of_the_ground(self) -> None:
+        """The top is the ground and the height: 30 ft and 250.5 ft."""
+        head = HEAD.replace("elev_ft", "top_ft")
+        (record,) = self.good("oe-from-points", self.write("points.csv", head + TOWER.replace("30", "280.5")), *AT).out.splitlines()
+        self.assertEqual([record], self.records(TOWER))
+        both = HEAD.strip() + ",top_ft\n"
+        for top in ("280.5", ""):
+            self.assertEqual(self.good("oe-from-points", self.write("points.csv", f"{both}{TOWER.strip()},{top}\n"), *AT).out, record + "\n")
+        self.fault("(TST Tower): elev_ft and height_ft give a top of 280.5 ft, and top_ft is 281.0 ft", "oe-from-points", self.write("points.csv", f"{both}{TOWER.strip()},281\n"), *AT)
+        self.fault('"airport" wants elev_ft', "oe-from-points", self.write("points.csv", head + AIRPORT), *AT)
+        self.fault('"structure" wants elev_ft', "oe-from-points", self.write("points.csv", f"{both}{TOWER.strip().replace(',30,', ',,')},\n"), *AT)
 
     def test_columns_without_a_unit(self) -> None:
         for name in ("elev", "elev_m", "elevation"):
@@ -184,9 +245,44 @@ class Points(Trial):
                    "[surface]\nAsphalt = hard\n[use]\nC = other\n[kind]\nC = NA\n")
         path, mapped = self.write("theirs.csv", table), self.write("theirs.ini", columns)
         self.fault('theirs.csv line 4: "Lava" in column Pavement is not in the map\'s [surface]', "oe-from-points", path, "--columns", mapped, *AT)
-        path = self.write("theirs.csv", table.replace("Lava", "Asphalt"))
         out = self.good("oe-from-points", path, "--columns", mapped, "--only", "TST", *AT).out
         self.assertEqual(out.split(","), [*self.records(ENDS.replace("P", "NA"))[0].split(",")[:-1], "NA\n"])
         for broken, words in ((columns.replace("= Lat\n", "= Latitude\n"), "no column Latitude"), (columns.replace("lat =", "latitude ="), "latitude is no column of ours"),
                               (columns.replace("elev_ft = Height\n", ""), "no column elev_ft"), ("lat = Lat\n", "File contains no section headers")):
             self.fault(words, "oe-from-points", path, "--columns", self.write("broken.ini", broken), *AT)
+
+    def test_only_one_airfield(self) -> None:
+        """Rows of others are not looked at, whatever stands in them; the ID may be their word or ours."""
+        table = "Field,Lat,Long,Elev\nKTST,40.75,-73.5,20.6\nKQQQ,north,,no\nKRRR,40.75,-73.5,20.6,one cell more\n"
+        columns = self.write("theirs.ini", '[columns]\nwhat = "airport"\ncategory = "public"\nid = Field\nlat = Lat\nlon = Long\nelev_ft = Elev\n[id]\nKTST = TST\n')
+        path, wanted = self.write("theirs.csv", table), self.records(AIRPORT)
+        for name in ("TST", "KTST"):
+            self.assertEqual(self.good("oe-from-points", path, "--columns", columns, "--only", name, *AT).out.splitlines(), wanted)
+        for name in ("AAA", "tst"):
+            self.fault(f"theirs.csv: no row has the id {name}", "oe-from-points", path, "--columns", columns, "--only", name, *AT)
+        ended = self.run_tool("oe-from-points", path, "--columns", columns, *AT)
+        self.assertEqual([line.partition(": ")[2] for line in ended.err.splitlines()], [
+            'theirs.csv line 3: "KQQQ" in column Field is not in the map\'s [id]', "theirs.csv line 4: the row has more cells than the first line has names"])
+
+    def test_rows_that_a_map_leaves_out(self) -> None:
+        """By the word -, which an empty cell may have too; the other end of a runway goes with one, and a word of the desk that is - stays."""
+        table = ("Sort,Field,Strip,Lat,Long,Height,Class\nE,TST,09/27,40.75,-73.51,20.5,C\nE,TST,09/27,40-45-00.0N,073-29-24.0W,18,C\n"
+                 "E,TST,18/36,40.76,-73.5,20.5,C\nE,TST,18/36,40.75,-73.5,20.5,\nW,LAKE,N/S,,,,\n")
+        columns = ('[columns]\nwhat = Sort\nid = Field\nname = Strip\nlat = Lat\nlon = Long\nelev_ft = Height\nkind = Class\nuse = "other"\nsurface = "hard"\n'
+                   '[what]\nE = end\nW = -\n[kind]\nC = NA\n"" = -\n')
+        ended = self.good("oe-from-points", self.write("theirs.csv", table), "--columns", self.write("theirs.ini", columns), *AT)
+        self.assertEqual(ended.out.splitlines(), self.records(ENDS.replace("hard,P", "hard,NA")))
+        self.assertIn("rows that the map leaves out: 2\nCAUTION: theirs.csv line 4 (TST 18/36) is left out too, as the map leaves out its other end\n", ended.err)
+        none = self.write("none.ini", columns.replace("= end", "= -"))
+        self.fault("there is no point in it; rows that the map leaves out: 5", "oe-from-points", self.write("theirs.csv", table), "--columns", none, *AT)
+        tower = "Kind,Lat,Long,Ground,Feet,Flag\nM,40.76,-73.52,30,250.5,none\n"
+        columns = ('[columns]\nwhat = "structure"\nlat = Lat\nlon = Long\nelev_ft = Ground\nheight_ft = Feet\nkind = Kind\nflags = Flag\n[kind]\nM = antenna\n[flags]\nnone = -\n')
+        (record,) = self.good("oe-from-points", self.write("theirs.csv", tower), "--columns", self.write("theirs.ini", columns), *AT).out.splitlines()
+        self.assertTrue(record.endswith(",antenna,0,-,-"), record)
+
+    def test_the_obstacle_file_by_a_map(self) -> None:
+        """The names of the columns of the FAA's obstacle file as CSV: heights above ground and above mean sea level."""
+        table = "OAS,LATDEC,LONDEC,TYPE,AGL,AMSL\n36-000001,40.76,-73.52,TOWER,00250,00280\n"
+        columns = '[columns]\nwhat = "structure"\nkind = "object"\nname = OAS\nlat = LATDEC\nlon = LONDEC\nheight_ft = AGL\ntop_ft = AMSL\n'
+        (record,) = self.good("oe-from-points", self.write("theirs.csv", table), "--columns", self.write("theirs.ini", columns), *AT).out.splitlines()
+        self.assertRegex(record, r"^screen,[0-9]+,[0-9]+,300,2500,object,0,-,-$")

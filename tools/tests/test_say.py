@@ -32,8 +32,9 @@ class Say(Trial):
                 "      77.17(a)(2)     the height near AAA                   by less than 0.1 ft\n",
                 "    REFUSED (5): a runway is 100 to 20,000 ft long: are the coordinates tenths of a foot?\n",
                 '    REFUSED (13) at field 2, X: "20000001"; wanted is tenths of a foot on the grid, -20000000 to 20000000\n',
-                "      77.23(b)        approach surface of heliport HHH, end 2                             by 0.1 ft\n",
-                "      77.23(c)        transitional surface of heliport HHH, beside the approach of end 2  by 0.1 ft\n",
+                "      77.23(b)        approach surface of heliport HHH, end 2                                     by 0.1 ft\n",
+                "      77.23(c)        transitional surface of heliport HHH, beside the approach surface of end 2  by 0.1 ft\n",
+                "      77.19(e)        transitional surface of AAA runway 09/27, beside its primary surface  by 13.1 ft\n",
                 "      77.9(c), (b)(1) 100 to 1 slope from AAA runway 09/27, raised by its traffic  by 17.4 ft\n",
                 "line 15: verdict: 20.0 ft on ground of 100.0 ft, top 120.0 ft\n    notice required: no; obstruction: yes; findings: 1 (`screen` lists them)\n",
                 "screened: obstructions 8, notice only 1, without a finding 0; records refused 3; with a caution 0\n"):
@@ -75,8 +76,8 @@ class Say(Trial):
     def test_a_first_field_that_is_no_form(self) -> None:
         records = "screen;0;0;0;1;object;0;-;-\nday\ta\t1\t2026-01-15\n,,,,\nScreen,0\nbuilding,0\n"
         out = self.said(records, "no,13,Malformed,1\n" * 5)
-        for words in ('no form "screen;0;0;0;1;object;0;-;-" (the columns are parted by semicolons or tabs: oe-clean', 'no form "" (an empty row of a spreadsheet: oe-clean',
-                      'no form "Screen" (write screen)\n', 'no form "building"\n'):
+        for words in ('no record begins with "screen;0;0;0;1;object;0;-;-" (the columns are parted by semicolons or tabs: oe-clean', 'no record begins with "" (an empty row of a spreadsheet: oe-clean',
+                      'no record begins with "Screen" (write screen)\n', 'no record begins with "building"\n'):
             self.assertIn(words, out)
         self.assertEqual(out.count("by semicolons or tabs"), 2)
         self.assertIn("UTF-16", self.said("s\0c\0\n", "no,13,Malformed,1\n"))
@@ -104,10 +105,10 @@ class Say(Trial):
                       "    NOTICE to the FAA is required (Form 7460-1), it meets:\n"
                       "      77.9(a)         200 ft above the ground  by 0.1 ft\n",
                       "line 4: asof 2: 200.1 ft on ground of 100.0 ft, top 300.1 ft\n    over the airfields after entry 2:\n    OBSTRUCTION, it exceeds:\n"
-                      "      77.17(a)(2)     the height near AAA                               by 0.1 ft\n"
-                      "      77.19(a)        horizontal surface of AAA                         by 50.1 ft\n"
-                      "      77.19(d)        approach surface of AAA runway 09/27, end 1 (09)  by 0.1 ft\n",
-                      "      77.9(b)(1)      100 to 1 slope from AAA runway 09/27              by 98.1 ft\n",
+                      "      77.17(a)(2)     the height near AAA                   by 0.1 ft\n"
+                      "      77.19(a)        horizontal surface of AAA             by 50.1 ft\n"
+                      "      77.19(d)        approach surface of AAA runway 09     by 0.1 ft\n",
+                      "      77.9(b)(1)      100 to 1 slope from AAA runway 09/27  by 98.1 ft\n",
                       "line 5: asof,3,-152000,0,1000,2001,object,0,-,-\n    REFUSED (39): this run can tell lists as of entries 0 to 2 alone: ",
                       "screened: obstructions 0, notice only 0, without a finding 0; records refused 1; with a caution 0\n"):
             self.assertIn(words, out)
@@ -118,7 +119,7 @@ class Say(Trial):
         out = self.said(f"asof,01,{site},object,0,-,-\nasof,1,{site},tower,0,-,-\nasof,1,{site},object,0,-,-\n",
                         "no,13,Malformed,2\nno,13,Malformed,7\nno,13,Malformed,1\n")
         for words in ('REFUSED (13) at field 2, N: "01" (a sign or zeros before the number); wanted is the number of an entry',
-                      'REFUSED (13) at field 7, KIND: "tower"; wanted is object', "REFUSED (13) at field 1: `oe asof` alone answers it"):
+                      'REFUSED (13) at field 7, KIND: "tower" (write antenna for an antenna structure, else object); wanted is object', "REFUSED (13) at field 1: `oe asof` alone answers it"):
             self.assertIn(words, out)
         self.fault("another sort", "oe-say", self.write("in", f"asof,1,{site},object,0,-,-\n"), self.write("out", "found,1,1,9a - - 1\n"))
 
@@ -153,6 +154,11 @@ class Say(Trial):
                                ("ok,1,published,airport\nok,2,published,runway\nfound,2,0\n", "more replies than records"),
                                ("ok,1,published,airport\nfound,x,0\n", "no whole reply"), ("report,expiry,3\n", "no whole reply")):
             self.fault(words, "oe-say", records, self.write("out", replies))
+        for record, reply, words in (("file,a,1", "ok,1,published,case,1,timely,-,-", "another sort"), ("screen,0,0,0,x,object,0,-,-", "found,1,0", "another sort"),
+                                     ("day,a,1,2026-01-15", "no,16,DayBack,2026-01-15", "no whole reply"), ("x", "no,13,Malformed,x", "no whole reply"),
+                                     ("determine,a,1,1,-", "ok,1,published,determine,1,nohazard", "no whole reply"), ("airfield,AAA", "airfield,airport,public,x,0,0", "no whole reply"),
+                                     ("screen,0,0,0,1,object,0,-,-", "found,1,1,19d AAA 09/27.3 1", "no whole reply"), ("screen,0,0,0,1,object,0,-,-", "found,1,1,23a AAA - 1", "no whole reply")):
+            self.fault(words, "oe-say", self.write("in", record + "\n"), self.write("out", reply + "\n"))
 
     def test_faults(self) -> None:
         self.fault("No such file", "oe-say", "nothing")
@@ -161,6 +167,14 @@ class Say(Trial):
         self.fault("2 columns", "oe-say", self.write("in", ""), self.write("out", ""), "--names", self.write("names", "1,2\n"))
         self.fault("no such file", "oe-say", self.write("in", TWO), "--over", "office.db")
         self.fault("is it a file of", "oe-say", self.write("in", TWO), "--over", self.write("office.db", "no database" * 100))
+
+    def test_files_that_are_no_records(self) -> None:
+        """They are said to be none before a desk is asked, since it would run what looks like a record in them."""
+        for content, words in ((b"SQLite format 3\0" + b"screen,0,0,0,1,object,0,-,-\n", "a database and no file of records"),
+                               (TWO.encode() + b"review\0\n", "line 3 has a NUL in it"), (TWO.encode("utf-16"), "line 1 has a NUL in it (a sheet in UTF-16?"),
+                               (b"what,id,lat,lon\nstructure,,1,2\n", 'line 1 begins with "what": a table of points'), (b"\nScreen,0\n", 'line 2 begins with "Screen": write screen'),
+                               (b"screen;0;0\n", "by semicolons or tabs"), (b"<html>\n<p>\n", 'line 1 begins with "<html>"')):
+            self.fault(words, "oe-say", self.write("in", content))
 
 
 class Cautions(Trial):
@@ -174,13 +188,17 @@ class Cautions(Trial):
         self.assertIn(EMPTY, self.said("airport,a,1,AAA,public,0,0,999999\nscreen,0,0,0,2500,object,0,-,-\n", "no,9,ElevationRange\nfound,0,0\n"))
 
     def test_places_of_ceilings(self) -> None:
-        """The height 0 of a place is no mistake; an empty desk, a misspelt airfield and a flag are."""
+        """The height 0 of a place is no mistake, and a flag asks for the standards alone; an empty desk and a misspelt airfield are mistakes."""
         site = "screen,0,0,1000,0,object,0,"
         self.assertIn(EMPTY, self.said(f"{site}-,-\n", "ceiling,0,2000,1,9a - - 1\n"))
         self.assertNotIn("CAUTION", self.said(f"{site}-,-\n", "ceiling,2,1020,1,9b1 AAA 09/27 1\n"))
         self.assertNotIn("CAUTION", self.said(f"{site}-,AAA\n", "ceiling,2,-,1,9d AAA - 0\n"))
         self.assertIn("is AAB registered", self.said(f"{site}-,AAB\n", "ceiling,2,1020,1,9b1 AAA 09/27 1\n"))
-        self.assertIn("flag S, D or R", self.said(f"{site}S,-\n", "ceiling,2,1500,1,19a AAA - 1\n"))
+        out = self.said(f"{site}S,-\n{site}R,-\n", "ceiling,2,1500,1,19a AAA - 1\nceiling,2,-,1,19c AAA 09/27 1\n")
+        self.assertIn("    no standard is exceeded up to 150.0 ft above the ground; 0.1 ft higher:\n    OBSTRUCTION, it exceeds:\n"
+                      "      77.19(a)        horizontal surface of AAA  by 0.1 ft\n    notice rules were not asked: flag S, D or R takes them away (77.9(e))\n", out)
+        self.assertIn("    at every height a standard is exceeded:\n", out)
+        self.assertNotIn("CAUTION", out)
 
     def test_as_of_an_earlier_entry(self) -> None:
         """Entry 0 has no airfield; an airfield may not have been there yet; a flag, and numbers in the wrong place, are as now."""
@@ -214,7 +232,37 @@ class Cautions(Trial):
         self.assertIn("it is on AAA, which is private", out)
 
     def test_a_file_without_a_record(self) -> None:
-        self.assertIn("CAUTION: there is no record in this file", self.said("\n\n", ""))
+        out = self.said("\n\n", "")
+        self.assertIn("CAUTION: there is no record in this file", out)
+        self.assertIn("with a caution 0, and 1 of the whole file\n", out)
+
+    def test_a_day_that_is_far(self) -> None:
+        """From the machine's, which is 2026-01-15 in tests, and then from the one before it in the file."""
+        def day(number: int, text: str) -> str:
+            return f"day,o,{number},{text}\n"
+        for days, words in ((("2026-02-15",), ()), (("2025-12-15",), ()), (("2026-02-16",), ("this day is 32 days after 2026-01-15, this machine's day",)),
+                            (("2062-01-15",), ("this day is 13,149 days after 2026-01-15, this machine's day",)),
+                            (("2025-12-14",), ("this day is 32 days before 2026-01-15, this machine's day",)),
+                            (("2026-01-14", "2026-01-15", "2062-01-16"), ("this day is 13,150 days after 2026-01-15, the day before it here",)),
+                            (("2024-01-14", "2024-01-15"), ("this day is 732 days before 2026-01-15, this machine's day",))):
+            records = "".join(day(number, text) for number, text in enumerate(days))
+            out = self.good("oe-say", self.write("in", records), self.write("out", "".join(f"ok,{number},published,day\n" for number in range(1, len(days) + 1))), "--short").out
+            self.assertEqual(out.count("CAUTION"), len(words), days)
+            for text in words:
+                self.assertIn(text + ": is it mistyped? The desk's day never goes back", out)
+        self.assertNotIn("CAUTION", self.said(day(1, "2062-01-15"), "no,28,KeyReused,1\n"))
+
+    def test_an_airfield_under_two_ids(self) -> None:
+        here, there = "airport,a,1,SJC,public,0,0,620\n", "airport,a,2,KSJC,public,10000,0,620\n"
+        two = "ok,1,published,airport\nok,2,published,airport\n"
+        self.assertIn("line 2: airport,a,2,KSJC,public,10000,0,620\n    entry 2: airport KSJC is registered\n"
+                      "    CAUTION: KSJC stands where SJC does: is it one airport under two IDs? `drop` takes one out\n", self.said(here + there, two))
+        self.assertNotIn("CAUTION", self.said(here + there.replace("10000", "10001"), two))
+        self.assertNotIn("CAUTION", self.said(here + there.replace("KSJC", "SJC"), two))
+        pads = "heliport,a,1,HHH,public,0,0,500,0,500,50\nheliport,a,2,PAD,public,0,500,500,500,500,50\n"
+        self.assertIn("PAD stands where HHH does", self.said(pads, two.replace("airport", "heliport")))
+        self.assertNotIn("CAUTION", self.said(pads.replace("500,500,500", "501,500,501"), two.replace("airport", "heliport")))
+        self.assertNotIn("CAUTION", self.said(here + pads.splitlines()[1] + "\n", "ok,1,published,airport\nok,2,published,heliport\n"))
 
     def test_numbers_in_the_wrong_place(self) -> None:
         answered = "ok,1,published,airport\nok,2,published,runway\nfound,2,0\n"

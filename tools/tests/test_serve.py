@@ -7,7 +7,7 @@ import time
 import unittest
 from types import TracebackType
 
-from tests.trial import PROGRAM, Trial
+from tests.trial import NO_OUTPUT, PROGRAM, STREAMS, Trial, program
 
 SECONDS = 60
 AIRPORT = [("airport,u,1,AAA,public,0,0,1000", "ok,1,published,airport"), ("runway,u,2,AAA,09/27,other,hard,-50000,0,1000,P,50000,0,1000,NA", "ok,2,published,runway"),
@@ -61,13 +61,13 @@ class Link:
 
 @unittest.skipUnless(PROGRAM, "no program is named")
 class Served(Trial):
-    def serve(self, workers: int, *words: str) -> tuple["subprocess.Popen[bytes]", int]:
-        """A desk of which each worker serves one link, and its port."""
+    def serve(self, workers: int, *words: str, closed: str = "") -> tuple["subprocess.Popen[bytes]", int]:
+        """A desk of which each worker serves one link, and its port; a standard stream of it may be closed."""
         with socket.socket() as it:
             it.bind(("127.0.0.1", 0))
             port = it.getsockname()[1]
         listen = ["--listen", f"127.0.0.1:{port}", "--workers", str(workers), "--turns", "1"]
-        served = subprocess.Popen([str(PROGRAM), "serve", *listen, *words], cwd=self.folder, stdin=subprocess.DEVNULL, stdout=subprocess.PIPE, stderr=subprocess.PIPE)
+        served = subprocess.Popen(program("serve", *listen, *words, closed=closed), cwd=self.folder, stdin=subprocess.DEVNULL, stdout=subprocess.PIPE, stderr=subprocess.PIPE)
         self.addCleanup(served.communicate)
         self.addCleanup(served.kill)
         return served, port
@@ -86,6 +86,18 @@ class Served(Trial):
     def assert_ended(self, served: "subprocess.Popen[bytes]", count: int) -> None:
         out, err = served.communicate(timeout=SECONDS)
         self.assertEqual((served.returncode, out, err), (0, b"served %d\n" % count, b""))
+
+    def test_addresses_at_which_nobody_listens(self) -> None:
+        """A network's, a name, one without a port, and one that another listens at."""
+        with socket.socket() as other:
+            other.bind(("127.0.0.1", 0))
+            other.listen()
+            taken = f"127.0.0.1:{other.getsockname()[1]}"
+            for address in ("0.0.0.0:0", "[::ffff:127.0.0.1]:0", "localhost:0", "127.0.0.1", taken):
+                with self.subTest(address):
+                    ended = subprocess.run([str(PROGRAM), "serve", "--listen", address, "--workers", "1", "--turns", "1"], cwd=self.folder, stdin=subprocess.DEVNULL,
+                                           capture_output=True, check=False, timeout=SECONDS)
+                    self.assertEqual((ended.returncode, ended.stdout, ended.stderr), (9, b"served 0\n", b"oe: gate fault\n"))
 
     def test_a_link_is_refused_over_what_another_put(self) -> None:
         served, port = self.serve(2)
@@ -114,3 +126,17 @@ class Served(Trial):
             with self.link(served, port) as link:
                 self.assertEqual([link.reply(record) for record, _ in said], [reply for _, reply in said])
             self.assert_ended(served, 1)
+
+    def test_a_standard_stream_that_is_closed(self) -> None:
+        for kind in ("db", "oej"):
+            files = []
+            for closed in ("", *STREAMS):
+                place = f"office{len(files)}.{kind}"
+                served, port = self.serve(1, "--db", place, closed=closed)
+                with self.link(served, port) as link:
+                    self.assertEqual([link.reply(record) for record, _ in FIRST], [reply for _, reply in FIRST])
+                out, err = served.communicate(timeout=SECONDS)
+                self.assertEqual((served.returncode, out, err), (4, b"", b"oe: write fault\n") if closed == NO_OUTPUT else (0, b"served 1\n", b""))
+                files.append((self.folder / place).read_bytes())
+            self.assertEqual(files, files[:1] * len(files))
+            self.assertNotIn(b"served", files[0])

@@ -1,4 +1,4 @@
-"""The words of the program: those that are a command, and those that are none, which touch nothing."""
+"""The words of the program: those that are a command, and those that are none, which touch nothing. Some of these are answered before it by tools/wrapper."""
 import subprocess
 import unittest
 
@@ -10,12 +10,16 @@ COMMANDS = [  # the words, and the status with an empty input
     (["generate", "9223372036854775807", "1"], 0), ([*SERVE, "--workers", "16", "--turns", "1000000"], 9), (["serve", "--turns=3", "--db", "f", "--listen=192.0.2.1:1", "--workers", "1"], 9),
     (["serve", "--db=f", "--workers=2", "--turns", "1", *SERVE[1:]], 9)]
 NONE = """
-help | des | desk f | --db f desk | desk --help | desk -h | desk -- | desk -- --db f | desk - | desk -d f | desk --db f --db f | desk --turns 3
+des | desk f | --db f desk | desk -- | desk -- --db f | desk - | desk -d f | desk --db f --db f | desk --turns 3
 desk --db=-x | desk --db -x | desk --db= | desk --db | serve --listen a --work 3 --turns 3 | serve --listen a --workers 3 --turns 3 --turns=3 | generate 1 1 --db=f
 serve --listen a --workers 3 | serve --listen a --workers --turns 3 | serve --listen= --workers 3 --turns 3 | serve --listen=-a --workers 3 --turns 3
 serve --listen a --workers 017 --turns 3 | serve --listen a --workers 17 --turns 3 | serve --listen a --workers 0 --turns 3 | serve --listen a --workers +3 --turns 3
 serve --listen a --workers 3 --turns 0 | serve --listen a --workers 3 --turns 1000001 | generate 1 | generate 9223372036854775808 1 | generate 1 0 | generate 1 20001 | generate 01 1
+serve --listen a --workers 3 --turns 3 f | generate 1 1 1 | generate - 1 | generate 1 --db=1 | desk --db=f desk | desk --workers=3 | desk --=f | desk =f
 """
+NONE_OF_THEM = [[], [""], ["desk", "--db", ""], *(line.split() for line in NONE.replace("\n", "|").split("|") if line.strip())]
+HELP = [["--help"], ["-h"], ["help"], ["help", "desk"], ["desk", "--help"], ["desk", "-h"], ["desk", "help"], ["serve", "-h"], ["serve", "--listen", "a", "--help"], ["generate", "1", "-h"]]
+VERSION = [["--version"], ["desk", "--version"], ["ceiling", "--db", "f", "--version"]]
 
 
 @unittest.skipUnless(PROGRAM, "no program is named")
@@ -29,8 +33,7 @@ class Words(Trial):
                 self.assertEqual(self.run_program(words).returncode, status)
 
     def test_words_that_are_no_command(self) -> None:
-        lists = [line.split() for line in NONE.replace("\n", "|").split("|") if line.strip()]
-        for words in [[], [""], ["desk", "--db", ""], *lists]:
+        for words in [*NONE_OF_THEM, *HELP, *VERSION]:
             with self.subTest(words):
                 ended = self.run_program(words)
                 self.assertEqual((ended.returncode, ended.stdout, ended.stderr), (2, b"", b"oe: usage\n"))

@@ -7,12 +7,20 @@ import sys
 import tempfile
 import unittest
 from dataclasses import dataclass
+from datetime import date
 from pathlib import Path
 from unittest import mock
 
 TOOLS = Path(__file__).resolve().parent.parent
 STORED_DESK = TOOLS / "tests" / "stored_desk.py"
 PROGRAM = os.environ.get("OE_TESTED")
+TODAY = date(2026, 1, 15)  # the machine's day as the tools see it
+NO_INPUT, NO_OUTPUT, NO_ERROR = STREAMS = "<&-", ">&-", "2>&-"
+
+
+def program(*words: str, closed: str = "") -> list[str]:
+    """The program with these words, and with a standard stream that is closed before it begins."""
+    return ["sh", "-c", f'exec "$0" "$@" {closed}', str(PROGRAM), *words]
 
 
 @dataclass(frozen=True)
@@ -42,7 +50,7 @@ class Trial(unittest.TestCase):
         os.chdir(self.folder)
         try:
             with (mock.patch.object(sys, "argv", [tool, *words]), mock.patch.object(sys, "stdin", stdin), mock.patch.object(sys, "path", list(sys.path)),
-                  mock.patch.dict(os.environ, {"OE": desk or str(STORED_DESK)}), contextlib.redirect_stdout(out), contextlib.redirect_stderr(err)):
+                  mock.patch.dict(os.environ, {"OE": desk or str(STORED_DESK)}), mock.patch("office.cautions.today", lambda: TODAY), contextlib.redirect_stdout(out), contextlib.redirect_stderr(err)):
                 runpy.run_path(str(TOOLS / tool), run_name="__main__")
             status: object = 0
         except SystemExit as ended:

@@ -6,11 +6,15 @@ use crate::calls::fault;
 use crate::disk::{Disk, Failed};
 use std::fs::File;
 use std::io;
+use std::os::fd::{AsRawFd, RawFd};
 use std::os::unix::fs::FileExt;
 use std::path::Path;
 
 /// How many bytes a file may have.
 const MOST: u64 = 1 << 62;
+
+/// The greatest descriptor of a standard stream.
+const LAST_STREAM: RawFd = 2;
 
 /// A file of the machine. It is opened once, and locked.
 #[derive(Drop)]
@@ -42,11 +46,15 @@ fn open(rt: &HostRuntime, place: Option<&str>) -> io::Result<File> {
     let Some(place) = place else {
         return Err(no_file());
     };
-    let file = File::options()
+    let mut file = File::options()
         .read(true)
         .write(true)
         .create(true)
         .open(rt, place)?;
+    // The system gives it the number of a standard stream that was closed. What is meant for that stream must not land in the file.
+    if file.as_raw_fd() <= LAST_STREAM {
+        file = file.try_clone()?;
+    }
     if file.try_lock().is_err() {
         return Err(io::ErrorKind::WouldBlock.into());
     }

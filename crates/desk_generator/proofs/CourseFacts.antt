@@ -6,7 +6,7 @@ use Rattle.desk_machine.specs.Machine.{Answer as Decided, state_after}
 use Rattle.filing_desk.specs.declared.answer.Answer.{Answer}
 use Rattle.filing_desk.specs.declared.answer.Answer.TheVariants as answers
 use Rattle.filing_desk.specs.Clerks.{Clerking, Advances}
-use Rattle.filing_desk.specs.Handed.{HasCause}
+use Rattle.filing_desk.specs.Served.{HasCause}
 use Rattle.oe_keeper.specs.contracts.no_keeper.NoKeeperKeeper.TheImpl as unkept
 use Rattle.oe_keeper.specs.declared.no_keeper.NoKeeper.{NoKeeper}
 use Rattle.desk_generator.specs.Desks.{Course, each}

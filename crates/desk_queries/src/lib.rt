@@ -2,5 +2,7 @@
 #![tactic(auto)]
 
 mod queries;
+mod screening;
 
 pub use queries::reply;
+pub use screening::{screen, verdict};

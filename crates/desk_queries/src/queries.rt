@@ -6,25 +6,21 @@ ghost use Rattle.desk_queries.specs.Queries.{IsAnswer, IsReport};
 ghost use Rattle.wire_requests.specs.declared.request.Query.TheVariants as queries;
 ghost use Rattle.wire_replies.specs.declared.reply.Reply.TheVariants as replies;
 
+use crate::screening::verdict;
 use airfields::{Airfield, FieldId, Filing};
 use filing_desk::Clerk;
-use grid_exact::{NoMemory, Steps, Text};
+use grid_exact::{NoMemory, Text};
 use oe_keeper::Keeper;
 use oe_reports::airfield_table;
 use oe_wire::{Query, Refusal, Reply, ReportKind, append_airfield};
+use review_marks::findings;
 use std::alloc::Global;
-use std::sync::ledger::Ledger;
 
 /// The reply with the findings of a structure.
-fn found<K: Keeper, L: Ledger>(
-    alloc: Global,
-    clerk: &Clerk<K>,
-    steps: &mut Steps<L>,
-    filing: &Filing,
-) -> Reply
+fn found<K: Keeper>(alloc: Global, clerk: &Clerk<K>, filing: &Filing) -> Reply
     ensures { IsAnswer clerk.now.state (queries.Screen filing.now) result }
 {
-    match clerk.sky().findings(alloc, filing, steps) {
+    match findings(alloc, clerk.sky(), filing) {
         Ok(list) => Reply::Found {
             last: clerk.accepted(),
             list,
@@ -34,12 +30,12 @@ fn found<K: Keeper, L: Ledger>(
 }
 
 /// The reply with the verdict on a structure's findings.
-fn verdict<K: Keeper, L: Ledger>(clerk: &Clerk<K>, steps: &mut Steps<L>, filing: &Filing) -> Reply
+fn judged<K: Keeper>(clerk: &Clerk<K>, filing: &Filing) -> Reply
     ensures { IsAnswer clerk.now.state (queries.Verdict filing.now) result }
 {
     Reply::Verdict {
         last: clerk.accepted(),
-        verdict: clerk.sky().verdict(filing, steps),
+        verdict: verdict(clerk.sky(), filing),
     }
 }
 
@@ -113,17 +109,12 @@ fn report<K: Keeper>(alloc: Global, clerk: &Clerk<K>, kind: ReportKind) -> Reply
 }
 
 /// The reply to a query over the present state of a clerk; a refusal for `NoMemory` where memory was refused. Nothing changes.
-pub fn reply<K: Keeper, L: Ledger>(
-    alloc: Global,
-    clerk: &Clerk<K>,
-    steps: &mut Steps<L>,
-    query: &Query,
-) -> Reply
+pub fn reply<K: Keeper>(alloc: Global, clerk: &Clerk<K>, query: &Query) -> Reply
     ensures { IsAnswer clerk.now.state query.now result }
 {
     match query {
-        Query::Screen(filing) => found(alloc, clerk, steps, filing),
-        Query::Verdict(filing) => verdict(clerk, steps, filing),
+        Query::Screen(filing) => found(alloc, clerk, filing),
+        Query::Verdict(filing) => judged(clerk, filing),
         Query::Case(number) => case(clerk, *number),
         Query::Review => review(alloc, clerk),
         Query::Report(kind) => report(alloc, clerk, *kind),

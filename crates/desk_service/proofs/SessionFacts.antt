@@ -1,8 +1,8 @@
 -- Sessions over a state of which the replies see a part: the same sessions over the part.
 use Rattle.std.proofs.Common.{ℕ, List, [], ◌∷◌, Option, Some, None, ap, inl, inr}
 use Rattle.link_gates.specs.Serving.{Meets, Serves, SessionOf, WorksOff}
-use Rattle.line_session.specs.declared.session.Ended.{Ended}
-use Rattle.line_session.specs.declared.session.Ended.TheVariants as endings
+use Rattle.oe_http.specs.declared.session.Ended.{Ended}
+use Rattle.oe_http.specs.declared.session.Ended.TheVariants as endings
 use Rattle.http_session.specs.Machine.{Exchange, Runs, Step}
 use Rattle.http_session.specs.Endings.{BeginsNext, CarriesOut, Ends, EndsSo, Served}
 

@@ -7,7 +7,7 @@ use Rattle.std.proofs.Crossing.{crosses}
 use Rattle.airport_register.specs.contracts.register.Register as Register
 use Rattle.oe_findings.specs.contracts.sky.Sky as Sky
 use Rattle.oe_findings.specs.contracts.surroundings.Surroundings as Surroundings
-use Rattle.http_routes.specs.contracts.routes.Routes as Routes
+use Rattle.http_messages.specs.contracts.routes.Routes as Routes
 use Rattle.oe_keeper.specs.declared.keeper.Keeper as Keeper
 use Rattle.filing_desk.specs.contracts.desk.Desk as Desk
 use Rattle.filing_desk.specs.contracts.desk.Desk.TheInside as desk
@@ -15,7 +15,7 @@ use Rattle.filing_desk.specs.contracts.office.Office as Office
 use Rattle.filing_desk.specs.contracts.office.Office.TheInside as office
 use Rattle.filing_desk.specs.contracts.clerk.Clerk as Clerk
 use Rattle.filing_desk.specs.contracts.clerk.Clerk.TheInside as clerk
-use Rattle.filing_desk.proofs.receipts.Receipts.TheSendSync as receipts
+use Rattle.desk_receipts.proofs.receipts.Receipts.TheSendSync as receipts
 use Rattle.review_marks.proofs.book.MarkBook.TheSendSync as marks
 use Rattle.case_records.proofs.case.KeptCase.TheSendSync as kept
 use Rattle.determination_dates.proofs.closed.ClosedDays.TheSendSync as closed

@@ -14,7 +14,7 @@ use Rattle.desk_machine.specs.declared.entry.Entry.{Entry}
 use Rattle.desk_machine.specs.States.{State}
 use Rattle.desk_machine.specs.Evaluations.{evaluated_site}
 use Rattle.desk_machine.specs.Fronts.{register_after}
-use Rattle.filing_desk.specs.Handed.{Told as ToldRows}
+use Rattle.desk_receipts.specs.Handed.{Told as ToldRows}
 use Rattle.publishing_clerk.specs.Evaluations.{Evaluating, IsEvaluation, given_in}
 use Rattle.publishing_clerk.specs.Publishing.{GoesOn, Publishing}
 use Rattle.publishing_clerk.specs.Rulings.{IsRuled, Ruled}

@@ -8,42 +8,39 @@ ghost use Rattle.desk_service.specs.Replies.{Appends, Line};
 use crate::fulfil::{ask, fulfil};
 use crate::place::Place;
 use desk_machine::Entry;
-use grid_exact::{LINE_LIMIT, NoMemory, Steps};
-use line_session::Answering;
+use grid_exact::{LINE_LIMIT, NoMemory};
 use oe_findings::{Findings, Sky};
+use oe_http::Answering;
 use oe_wire::{ReadRefusal, RecordReader, Refusal, Reply, append_reply, question};
 use publishing_clerk::{Front, Opening};
 use std::alloc::Global;
 use std::marker::Model;
 use std::sync::Wait;
-use std::sync::ledger::{Blank, Ledger};
 use tree_versions::Seat;
 
 /// A desk over a seat, which shows published versions, and a front, which asks the clerk. Screenings, verdicts and `sync` are answered over
 /// what the seat shows; a determination and a revision are made on it. All else is asked of the clerk. Contracts see what the
 /// session sees.
-pub struct SeatDesk<'r, F: Front<J>, J: Opening, R: Wait, L: Ledger> {
+pub struct SeatDesk<'r, F: Front<J>, J: Opening, R: Wait> {
     alloc: Global,
     place: Place<'r, F, J, R>,
     records: RecordReader,
     list: Findings,
-    steps: Steps<L>,
 }
 
 // By hand, so that no crate above proves again how what it holds is dropped.
-impl<'r, F: Front<J> + Drop, J: Opening, R: Wait, L: Ledger> Drop for SeatDesk<'r, F, J, R, L> {
+impl<'r, F: Front<J> + Drop, J: Opening, R: Wait> Drop for SeatDesk<'r, F, J, R> {
     fn drop(self) {
         let SeatDesk {
             alloc: _,
             place: _,
             records: _,
             list: _,
-            steps: _,
         } = self;
     }
 }
 
-impl<'r, F: Front<J>, J: Opening, R: Wait, L: Ledger> Model for SeatDesk<'r, F, J, R, L> {
+impl<'r, F: Front<J>, J: Opening, R: Wait> Model for SeatDesk<'r, F, J, R> {
     ghost use Rattle.desk_service.specs.Sittings.{Sitting};
 
     ghost Value = { Sitting F.Keeper };
@@ -52,12 +49,11 @@ impl<'r, F: Front<J>, J: Opening, R: Wait, L: Ledger> Model for SeatDesk<'r, F, 
 }
 
 /// Appends the reply to a line; an empty line has none.
-fn append_answer<F: Front<J>, J: Opening, R: Wait, L: Ledger>(
+fn append_answer<F: Front<J>, J: Opening, R: Wait>(
     alloc: Global,
     place: &mut Place<'_, F, J, R>,
     records: &mut RecordReader,
     list: &mut Findings,
-    steps: &mut Steps<L>,
     line: &[u8],
     text: &mut String,
 ) -> Result<(), NoMemory>
@@ -71,10 +67,10 @@ fn append_answer<F: Front<J>, J: Opening, R: Wait, L: Ledger>(
         return Ok(());
     }
     if let Some(query) = question(line) {
-        return ask(alloc, place, list, steps, &query, text);
+        return ask(alloc, place, list, &query, text);
     }
     match records.record(line) {
-        Ok(request) => fulfil(alloc, place, list, steps, &request, text),
+        Ok(request) => fulfil(alloc, place, list, &request, text),
         Err(ReadRefusal::Malformed { field }) => {
             append_reply(text, &Reply::Refused(Refusal::Malformed { field }))
         }
@@ -96,19 +92,14 @@ fn append_too_long<F: Front<J>, J: Opening>(text: &mut String) -> Result<(), NoM
     append_reply(text, &Reply::Refused(Refusal::Malformed { field: 0 }))
 }
 
-impl<'r, F: Front<J>, J: Opening, R: Wait, L: Ledger> SeatDesk<'r, F, J, R, L> {
-    /// A desk over this seat and this front, which come from one opening. Its steps are counted in the ledger that `blank` opens. It allocates
-    /// nothing.
+impl<'r, F: Front<J>, J: Opening, R: Wait> SeatDesk<'r, F, J, R> {
+    /// A desk over this seat and this front, which come from one opening. It allocates nothing.
     pub fn over(
         rt: &'r R,
         alloc: Global,
         seat: Seat<Entry, Sky, J>,
         front: F,
-        blank: Blank,
-    ) -> SeatDesk<'r, F, J, R, L>
-        requires name { blank.name ≡ L.name }
-        requires parts { blank.parts ≡ L.parts }
-        requires some { 0 < L.parts }
+    ) -> SeatDesk<'r, F, J, R>
         ensures { result ≡ record {
           clerk = F.clerk front;
           front = seat.front;
@@ -121,7 +112,6 @@ impl<'r, F: Front<J>, J: Opening, R: Wait, L: Ledger> SeatDesk<'r, F, J, R, L> {
             place: Place { rt, seat, front },
             records: RecordReader::new(alloc),
             list: Findings::new(alloc),
-            steps: Steps::new(blank),
         }
     }
 
@@ -135,7 +125,6 @@ impl<'r, F: Front<J>, J: Opening, R: Wait, L: Ledger> SeatDesk<'r, F, J, R, L> {
             place,
             records: _,
             list: _,
-            steps: _,
         } = self;
         let Place {
             rt: _,
@@ -146,7 +135,7 @@ impl<'r, F: Front<J>, J: Opening, R: Wait, L: Ledger> SeatDesk<'r, F, J, R, L> {
     }
 }
 
-impl<'r, F: Front<J>, J: Opening, R: Wait, L: Ledger> Answering for SeatDesk<'r, F, J, R, L> {
+impl<'r, F: Front<J>, J: Opening, R: Wait> Answering for SeatDesk<'r, F, J, R> {
     ghost use Rattle.desk_service.specs.Replies.{LineOver};
 
     ghost step = { LineOver F.Keeper.Tells F.Keeper.IsSteady F.Keeper.faults J.first J.base J.opening };
@@ -157,7 +146,6 @@ impl<'r, F: Front<J>, J: Opening, R: Wait, L: Ledger> Answering for SeatDesk<'r,
             &mut self.place,
             &mut self.records,
             &mut self.list,
-            &mut self.steps,
             line,
             text,
         );

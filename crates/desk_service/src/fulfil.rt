@@ -8,20 +8,19 @@ ghost use Rattle.wire_requests.specs.declared.request.Query.TheVariants as queri
 
 use crate::place::Place;
 use airfields::Filing;
-use grid_exact::{NoMemory, Steps};
+use desk_queries::{screen, verdict};
+use grid_exact::NoMemory;
 use oe_findings::Findings;
 use oe_wire::{Query, Refusal, Reply, Request, append_found, append_reply};
 use publishing_clerk::{Front, Opening};
 use std::alloc::Global;
 use std::sync::Wait;
-use std::sync::ledger::Ledger;
 
 /// Appends the reply with the findings of a structure. `list` is a buffer that is reused.
-fn screen<F: Front<J>, J: Opening, R: Wait, L: Ledger>(
+fn append_findings<F: Front<J>, J: Opening, R: Wait>(
     alloc: Global,
     place: &mut Place<'_, F, J, R>,
     list: &mut Findings,
-    steps: &mut Steps<L>,
     filing: &Filing,
     text: &mut String,
 ) -> Result<(), NoMemory>
@@ -35,16 +34,15 @@ fn screen<F: Front<J>, J: Opening, R: Wait, L: Ledger>(
     let Ok(shown) = place.look() else {
         return append_reply(text, &Reply::Refused(Refusal::NoMemory));
     };
-    if shown.value.find(alloc, list, filing, steps).is_err() {
+    if screen(alloc, &shown.value, list, filing).is_err() {
         return append_reply(text, &Reply::Refused(Refusal::NoMemory));
     }
     append_found(text, place.seat.base() + shown.number, list.as_slice())
 }
 
 /// Appends the reply with the verdict on a structure's findings.
-fn verdict<F: Front<J>, J: Opening, R: Wait, L: Ledger>(
+fn append_verdict<F: Front<J>, J: Opening, R: Wait>(
     place: &mut Place<'_, F, J, R>,
-    steps: &mut Steps<L>,
     filing: &Filing,
     text: &mut String,
 ) -> Result<(), NoMemory>
@@ -60,7 +58,7 @@ fn verdict<F: Front<J>, J: Opening, R: Wait, L: Ledger>(
     };
     let reply = Reply::Verdict {
         last: place.seat.base() + shown.number,
-        verdict: shown.value.verdict(filing, steps),
+        verdict: verdict(&shown.value, filing),
     };
     append_reply(text, &reply)
 }
@@ -86,11 +84,10 @@ fn sync<F: Front<J>, J: Opening, R: Wait>(
 }
 
 /// Appends the reply to a query.
-pub(crate) fn ask<F: Front<J>, J: Opening, R: Wait, L: Ledger>(
+pub(crate) fn ask<F: Front<J>, J: Opening, R: Wait>(
     alloc: Global,
     place: &mut Place<'_, F, J, R>,
     list: &mut Findings,
-    steps: &mut Steps<L>,
     query: &Query,
     text: &mut String,
 ) -> Result<(), NoMemory>
@@ -102,21 +99,20 @@ pub(crate) fn ask<F: Front<J>, J: Opening, R: Wait, L: Ledger>(
     ensures part { OnErr result (Extends (string_bytes text.old) (string_bytes text.new)) }
 {
     match query {
-        Query::Screen(filing) => screen(alloc, place, list, steps, filing, text),
-        Query::Verdict(filing) => verdict(place, steps, filing, text),
+        Query::Screen(filing) => append_findings(alloc, place, list, filing, text),
+        Query::Verdict(filing) => append_verdict(place, filing, text),
         Query::Sync => sync(place, text),
         Query::Case(_) | Query::Airfield(_) | Query::Review | Query::Report(_) => {
-            place.ask(alloc, steps, query, text)
+            place.ask(alloc, query, text)
         }
     }
 }
 
 /// Carries out a request, and appends the reply.
-pub(crate) fn fulfil<F: Front<J>, J: Opening, R: Wait, L: Ledger>(
+pub(crate) fn fulfil<F: Front<J>, J: Opening, R: Wait>(
     alloc: Global,
     place: &mut Place<'_, F, J, R>,
     list: &mut Findings,
-    steps: &mut Steps<L>,
     request: &Request,
     text: &mut String,
 ) -> Result<(), NoMemory>
@@ -128,7 +124,7 @@ pub(crate) fn fulfil<F: Front<J>, J: Opening, R: Wait, L: Ledger>(
     ensures part { OnErr result (Extends (string_bytes text.old) (string_bytes text.new)) }
 {
     match request {
-        Request::Query(query) => ask(alloc, place, list, steps, query, text),
-        Request::Change(change) => place.change(alloc, steps, change, text),
+        Request::Query(query) => ask(alloc, place, list, query, text),
+        Request::Change(change) => place.change(alloc, change, text),
     }
 }

@@ -16,14 +16,13 @@ ghost use Rattle.wire_requests.specs.declared.request.Request.TheVariants as req
 
 use airfields::Filing;
 use desk_machine::Entry;
-use grid_exact::{NoMemory, Steps};
+use grid_exact::NoMemory;
 use oe_findings::Sky;
 use oe_wire::{Change, Query, Refusal, Reply, append_reply};
 use publishing_clerk::{Answered, Evaluation, Front, Opening, Ruling};
 use std::alloc::Global;
 use std::marker::Model;
 use std::sync::Wait;
-use std::sync::ledger::Ledger;
 use tree_versions::{Note, Seat, Snapshot};
 
 /// The seat of a session and the front of its clerk, which come from one opening.
@@ -89,28 +88,17 @@ impl<'r, F: Front<J>, J: Opening, R: Wait> Place<'r, F, J, R> {
     }
 
     /// Has a query answered by the clerk.
-    fn answer<L: Ledger>(
-        &mut self,
-        alloc: Global,
-        steps: &mut Steps<L>,
-        query: &Query,
-    ) -> Answered<F::Keeper, J>
+    fn answer(&mut self, alloc: Global, query: &Query) -> Answered<F::Keeper, J>
         ensures query { result.query ≡ query.now }
         ensures replied { IsReplied J.opening result }
         ensures own { WasAsked self.old.clerk result }
         ensures same { self.new ≡ self.old }
     {
-        self.front.answer(self.rt, alloc, query, steps)
+        self.front.answer(self.rt, alloc, query)
     }
 
     /// Has a query answered by the clerk, and appends the reply.
-    pub fn ask<L: Ledger>(
-        &mut self,
-        alloc: Global,
-        steps: &mut Steps<L>,
-        query: &Query,
-        text: &mut String,
-    ) -> Result<(), NoMemory>
+    pub fn ask(&mut self, alloc: Global, query: &Query, text: &mut String) -> Result<(), NoMemory>
         requires { IsAskedOfClerk query.now }
         ensures ok { OnOk result (Tells F.Keeper.IsSteady F.Keeper.faults J.first J.base J.opening
             self.old (requests.Query query.now)
@@ -119,7 +107,7 @@ impl<'r, F: Front<J>, J: Opening, R: Wait> Place<'r, F, J, R> {
             self.old (requests.Query query.now) self.new) }
         ensures part { OnErr result (Extends (string_bytes text.old) (string_bytes text.new)) }
     {
-        let answered = self.answer(alloc, steps, query);
+        let answered = self.answer(alloc, query);
         let appended = append_reply(text, answered.reply());
         self.hear(answered.into_note());
         appended
@@ -149,10 +137,9 @@ impl<'r, F: Front<J>, J: Opening, R: Wait> Place<'r, F, J, R> {
     /// # Errors
     ///
     /// `NoMemory` where memory was refused.
-    fn evaluate<L: Ledger>(
+    fn evaluate(
         &mut self,
         alloc: Global,
-        steps: &mut Steps<L>,
         change: &Change,
     ) -> Result<Option<Evaluation<J>>, NoMemory>
         ensures stays { Stays self.old self.new }
@@ -162,16 +149,15 @@ impl<'r, F: Front<J>, J: Opening, R: Wait> Place<'r, F, J, R> {
             return Ok(None);
         };
         let shown = self.look()?;
-        let evaluation = Evaluation::of(alloc, &shown, &filing, steps)?;
+        let evaluation = Evaluation::over(alloc, &shown, &filing)?;
         evaluation.is_over();
         Ok(Some(evaluation))
     }
 
     /// Has a change decided by the clerk, a determination or a revision on what the seat shows, and appends the reply.
-    pub fn change<L: Ledger>(
+    pub fn change(
         &mut self,
         alloc: Global,
-        steps: &mut Steps<L>,
         change: &Change,
         text: &mut String,
     ) -> Result<(), NoMemory>
@@ -182,7 +168,7 @@ impl<'r, F: Front<J>, J: Opening, R: Wait> Place<'r, F, J, R> {
             self.old (requests.Change change.now) self.new) }
         ensures part { OnErr result (Extends (string_bytes text.old) (string_bytes text.new)) }
     {
-        let Ok(evaluated) = self.evaluate(alloc, steps, change) else {
+        let Ok(evaluated) = self.evaluate(alloc, change) else {
             return append_reply(text, &Reply::Refused(Refusal::NoMemory));
         };
         self.decide(alloc, change, evaluated, text)

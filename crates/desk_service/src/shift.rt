@@ -13,16 +13,14 @@ ghost use Rattle.link_gates.specs.declared.shift.TheConstants.{TURN_LIMIT};
 use crate::desk::SeatDesk;
 use desk_machine::Entry;
 use grid_exact::NoMemory;
-use http_routes::Routes;
+use http_messages::Routes;
 use http_session::Routed;
-use line_session::Answering;
 use link_gates::{Port, Shift, TURN_LIMIT, Worked, worker};
 use oe_findings::Sky;
+use oe_http::Answering;
 use oe_keeper::Keeper;
 use publishing_clerk::{Locked, Opening, PublishingClerk};
 use std::alloc::Global;
-use std::marker::Brand;
-use std::sync::ledger::{Blank, Ledger};
 use std::sync::{Mutex, Wait};
 use tree_versions::{Seat, Seats};
 
@@ -33,8 +31,7 @@ struct Furniture<J: Opening> {
     seat: Seat<Entry, Sky, J>,
 }
 
-/// The work of one worker: a seat, the shared clerk, and a port. It works once. The desk is made when it works, since each desk counts its
-/// steps in a ledger of its own.
+/// The work of one worker: a seat, the shared clerk, and a port. It works once.
 #[derive(Drop)]
 pub(crate) struct DeskShift<'a, K: Keeper, J: Opening, P> {
     alloc: Global,
@@ -73,19 +70,15 @@ fn serve_desk<A: Answering + Drop, P: Port>(
     worker(alloc, &mut Routed::new(routes, desk), port, turns)
 }
 
-/// Serves the links of a port over a seat and the shared clerk. The steps are counted in the ledger that `blank` opens.
-fn serve_port<K: Keeper, J: Opening, L: Ledger, P: Port, R: Wait>(
+/// Serves the links of a port over a seat and the shared clerk.
+fn serve_port<K: Keeper, J: Opening, P: Port, R: Wait>(
     rt: &R,
     alloc: Global,
     clerk: &Mutex<PublishingClerk<K, J>>,
     furniture: Furniture<J>,
-    blank: Blank,
     port: &mut P,
     turns: u64,
 ) -> Worked
-    requires name { blank.name ≡ L.name }
-    requires parts { blank.parts ≡ L.parts }
-    requires some { 0 < L.parts }
     // The same, over what the seat shows and what the clerk is asked.
     ensures works { (before : Sitting K) × (after : Sitting K)
         × (before.front ≡ furniture.seat.front) × (before.told ≡ furniture.seat.told)
@@ -106,7 +99,7 @@ fn serve_port<K: Keeper, J: Opening, L: Ledger, P: Port, R: Wait>(
     ensures steady { P.IsSteady port.old → result.failed ≡ false }
 {
     let Furniture { routes, seat } = furniture;
-    let desk = SeatDesk::<Locked<K, J>, J, R, L>::over(rt, alloc, seat, Locked::new(clerk), blank);
+    let desk = SeatDesk::over(rt, alloc, seat, Locked::new(clerk));
     serve_desk(alloc, routes, desk, port, turns)
 }
 
@@ -126,12 +119,11 @@ impl<'a, K: Keeper, J: Opening, P: Port> Shift for DeskShift<'a, K, J, P> {
                 failed: true,
             };
         };
-        serve_port::<K, J, Brand, P, R>(
+        serve_port(
             rt,
             self.alloc,
             self.clerk,
             furniture,
-            Blank::new(1),
             &mut self.port,
             self.turns,
         )

@@ -1,15 +1,13 @@
-//! Tests of runs, of sessions over seats of one clerk, and of what records can't reach.
+//! Tests of runs and services, and of what records can't reach.
 //!
-//! They call what no worked session and no example of the documents reaches: streams and gates that fail, threads, and values that no session
-//! has. The program itself does nothing.
+//! They call what no worked session and no example of the documents reaches: streams and gates that fail, and values that no session has.
+//! The program itself does nothing.
 #![tactic(auto)]
 
 #[cfg(test)]
 mod area_tests;
 #[cfg(test)]
 mod command_tests;
-#[cfg(test)]
-mod evaluation_tests;
 #[cfg(test)]
 mod fault_tests;
 #[cfg(test)]
@@ -19,12 +17,6 @@ mod links;
 #[cfg(test)]
 mod meeting;
 #[cfg(test)]
-mod seat_tests;
-#[cfg(test)]
 mod service_tests;
-#[cfg(test)]
-mod sessions;
-#[cfg(test)]
-mod version_tests;
 
 fn main() {}

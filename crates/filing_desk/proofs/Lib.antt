@@ -1,4 +1,3 @@
-pub mod Indexing
 pub mod Sound
 pub mod Limits
 pub mod Deciding
@@ -8,6 +7,6 @@ pub mod Closing
 pub mod AmendFacts
 pub mod Rooms
 pub mod RowFacts
-pub mod Unasked
+pub mod Serving
 pub mod Opened
 pub mod Causes

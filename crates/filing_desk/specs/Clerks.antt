@@ -9,7 +9,7 @@ use Rattle.filing_desk.specs.declared.answer.Answer.{Answer}
 use Rattle.filing_desk.specs.declared.answer.Answer.TheVariants as answers
 use Rattle.desk_tables.specs.Reachable.{IsDesk}
 use Rattle.filing_desk.specs.Answers.{answer_of}
-use Rattle.filing_desk.specs.Handed.{Told}
+use Rattle.desk_receipts.specs.Handed.{Told}
 
 -- the state, the requests accepted since the opening, and the keeper
 pub record Clerking (K : Type 0) : Type 0 where

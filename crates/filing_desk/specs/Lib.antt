@@ -1,8 +1,6 @@
-pub mod Receipts
 pub mod Desks
 pub mod Answers
 pub mod Clerks
-pub mod Keepers
 pub mod Marked
-pub mod Handed
+pub mod Served
 pub mod Loads

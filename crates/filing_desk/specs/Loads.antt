@@ -1,25 +1,12 @@
 -- Opening a clerk, and why it fails.
-use Rattle.std.specs.Prelude.{◌≡◌, ◌≢◌, ℕ, List, [], Option}
+use Rattle.std.specs.Prelude.{◌≡◌, ℕ, List, [], Option}
 use Rattle.oe_keeper.specs.Kept.{Kept, place}
-use Rattle.oe_keeper.specs.Keeping.{HasAll, StaysSilent}
-use Rattle.oe_keeper.specs.declared.change.RowChange.{RowChange}
 use Rattle.desk_tables.specs.Opening.{Opens, IsFirstBad, renewal}
 use Rattle.filing_desk.specs.Clerks.{Clerking}
-use Rattle.filing_desk.specs.Keepers.{IsLater, HasFailed, HasLoaded}
-use Rattle.filing_desk.specs.declared.opening.OpenRefusal.{OpenRefusal}
-use Rattle.filing_desk.specs.declared.opening.OpenRefusal.TheVariants.{KeeperFault, BadRow, NoMemory}
-
--- the keeper after these changes were made, as one list; where there are none it was not asked
-pub record HasRenewed {K : Type 0} (Tells : K → Kept → Type 0) (changes : List RowChange) (old new : K) : Type 0 where
-  pub made : changes ≢ [] → HasAll Tells old new changes
-  pub same : changes ≡ [] → new ≡ old
-  pub silent : StaysSilent Tells old new
-
--- why they could not be made: the keeper failed, or memory ran out
-abbrev pub StopsRenewal : {K : Type 0} → (K → Type 0) → (K → ℕ) → K → K → OpenRefusal → Type 0
-StopsRenewal IsSteady faults old new KeeperFault = HasFailed IsSteady faults old new
-StopsRenewal IsSteady faults old new (BadRow table key) = ⊥
-StopsRenewal IsSteady faults old new NoMemory = Unit {0}
+use Rattle.desk_receipts.specs.Renewals.{HasRenewed}
+use Rattle.desk_receipts.specs.Keepers.{IsLater, HasFailed, HasLoaded}
+use Rattle.desk_receipts.specs.declared.renewal.OpenRefusal.{OpenRefusal}
+use Rattle.desk_receipts.specs.declared.renewal.OpenRefusal.TheVariants.{KeeperFault, BadRow, NoMemory}
 
 -- a clerk of the desk whose rows a load of the keeper finds at a place; nothing was accepted yet
 pub record IsOpened {K : Type 0} (Tells : K → Kept → Type 0) (Finds : K → Option (List ℕ) → Kept → Type 0) (IsSteady : K → Type 0) (faults : K → ℕ)

@@ -12,12 +12,12 @@ ghost use Rattle.desk_machine.specs.Evaluations.{basis_of, evaluated_site, evalu
 ghost use Rattle.desk_machine.specs.Machine.{ruling_of_act};
 
 use crate::desk::Desk;
-use crate::evaluated::Evaluated;
 use airfields::Filing;
 use case_acts::{Effect, Extension, Revision, Step, is_before};
 use case_records::{KeptList, Outcome, Refusal};
 use case_requests::{Act, Impact, Party, Submission};
 use desk_machine::MOST_CASES;
+use desk_receipts::{Evaluated, is_own};
 use grid_exact::NoMemory;
 use jiff::civil::Date;
 use review_marks::findings;
@@ -133,13 +133,7 @@ impl Desk {
         ensures { result ≡ true → basis_of self.now p (option_copied given.entry) act.now
             ≡ basis_of self.now p None act.now }
     {
-        let Some(evaluated) = given else {
-            return true;
-        };
-        match self.structure(act) {
-            Some(filing) => !evaluated.fits(&filing, p),
-            None => true,
-        }
+        is_own(self.structure(act), p, given)
     }
 
     /// Outcome of a determination, made on the given list or on the findings over the present airfields.

@@ -11,14 +11,15 @@ ghost use Rattle.desk_machine.specs.Marks.{case_view, marks};
 ghost use Rattle.desk_tables.specs.Reachable.{IsDesk};
 ghost use Rattle.filing_desk.specs.Answers.{decision};
 ghost use Rattle.filing_desk.specs.Clerks.{Advances, HasOpening};
-ghost use Rattle.filing_desk.specs.Handed.{HasCause, Told};
+ghost use Rattle.desk_receipts.specs.Handed.{Told};
+ghost use Rattle.filing_desk.specs.Served.{HasCause};
 
 use crate::answer::Answer;
-use crate::evaluated::{Evaluated, given_told};
 use crate::office::Office;
 use airfields::Filing;
 use case_records::{CaseList, CaseView};
 use desk_machine::Entry;
+use desk_receipts::{Evaluated, given_told};
 use desk_tables::desk_goes_on;
 use grid_exact::{NoMemory, Text};
 use oe_findings::Sky;

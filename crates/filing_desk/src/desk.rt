@@ -8,11 +8,11 @@ ghost use Rattle.desk_machine.specs.States.{empty, case_at, entry_of};
 ghost use Rattle.desk_machine.specs.Marks.{stands_in};
 ghost use Rattle.filing_desk.specs.Desks.{AreSound};
 
-use crate::receipts::Receipts;
 use crate::view::status_on;
 use case_acts::is_standing;
 use case_records::KeptCase;
 use desk_machine::Entry;
+use desk_receipts::Receipts;
 use determination_dates::ClosedDays;
 use jiff::civil::Date;
 use oe_findings::Sky;

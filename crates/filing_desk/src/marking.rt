@@ -8,11 +8,11 @@ ghost use Rattle.determination_dates.specs.Effects.{IsKept};
 ghost use Rattle.desk_machine.specs.States.{with_entry, state_after_step};
 ghost use Rattle.desk_machine.specs.Marks.{Goes, IsPresent, stands_in};
 ghost use Rattle.desk_tables.specs.Changes.{HasRoom};
-ghost use Rattle.filing_desk.specs.Handed.{IsNew, Keeps, TakesStep};
+ghost use Rattle.desk_receipts.specs.Handed.{IsNew, Keeps};
+ghost use Rattle.filing_desk.specs.Served.{TakesStep};
 ghost use Rattle.review_marks.specs.Books.{rows_after_close, row_at};
 
 use crate::desk::Desk;
-use crate::handing::Accepted;
 use crate::issued_mark::issued_mark;
 use crate::office::Office;
 use crate::register_change::mark_change;
@@ -20,6 +20,7 @@ use airfields::Filing;
 use airport_register::Amendment;
 use case_acts::Step;
 use case_records::{KeptCase, KeptList, Refusal};
+use desk_receipts::Accepted;
 use determination_dates::Life;
 use jiff::civil::Date;
 use oe_keeper::Keeper;
@@ -50,7 +51,7 @@ fn close_fallen(desk: &Desk, marks: &mut MarkBook)
 
 impl Office {
     /// Amends the register, where its rules allow it, and marks the determinations whose lists then differ.
-    #[tactic(auto, using(review_marks::proofs::Abouts::shown, crate::proofs::Unasked::unasked))]
+    #[tactic(auto, using(review_marks::proofs::Abouts::shown, desk_receipts::proofs::Unasked::unasked))]
     fn amend<K: Keeper>(
         &mut self,
         alloc: Global,

@@ -1,43 +1,19 @@
 //! Opening a clerk.
 
-ghost use Rattle.std.specs.Prelude.{◌≡◌, [], IfOk, IfErr, OnOk, option_copied};
+ghost use Rattle.std.specs.Prelude.{◌≡◌, [], IfOk, IfErr, option_copied};
 ghost use Rattle.desk_tables.specs.Opening.{Opens, renewal, renewed};
 ghost use Rattle.desk_tables.specs.Rows.{AreRows};
 ghost use Rattle.desk_machine.specs.States.{empty};
-ghost use Rattle.filing_desk.specs.Handed.{Told};
-ghost use Rattle.oe_keeper.specs.Keeping.{HasAll, StaysSilent};
-ghost use Rattle.filing_desk.specs.Keepers.{IsLater};
-ghost use Rattle.filing_desk.specs.Loads.{HasOpenCause, HasRenewed, IsOpened, NamesBadRow, StopsRenewal};
+ghost use Rattle.desk_receipts.specs.Handed.{Told};
+ghost use Rattle.filing_desk.specs.Loads.{HasOpenCause, IsOpened, NamesBadRow};
 
 use crate::clerk::Clerk;
 use crate::desk::Desk;
 use crate::office::Office;
+use desk_receipts::{OpenRefusal, renew};
 use desk_tables::{ChangeList, Unread, desk_starts, opened_is_desk, opened_rows, read_desk};
-use grid_exact::{NoMemory, Text};
-use oe_keeper::{KeepErr, Keeper, NoKeeper, Table, Tables};
+use oe_keeper::{KeepErr, Keeper, NoKeeper, Tables};
 use std::alloc::Global;
-
-/// Why a clerk could not be opened.
-#[derive(Debug, Drop)]
-pub enum OpenRefusal {
-    /// The keeper failed.
-    KeeperFault,
-    /// The first row, in order of table and key, that is bad or missing.
-    BadRow { table: Table, key: Text },
-    /// Memory was refused.
-    NoMemory,
-}
-
-impl From<NoMemory> for OpenRefusal {
-    ghost use Rattle.std.specs.Prelude.{◌≡◌};
-    ghost use Rattle.filing_desk.specs.declared.opening.OpenRefusal.TheVariants as errors;
-
-    ghost from_gives = { λ _ e. e ≡ errors.NoMemory };
-
-    fn from(_: NoMemory) -> OpenRefusal {
-        OpenRefusal::NoMemory
-    }
-}
 
 /// An office that was opened from tables.
 #[derive(Drop)]
@@ -71,50 +47,6 @@ fn office_of(alloc: Global, tables: Tables) -> Result<OpenedOffice, OpenRefusal>
         }),
         Err(Unread::NoMemory) => Err(OpenRefusal::NoMemory),
     }
-}
-
-/// Has the keeper make these changes, all or none.
-///
-/// # Errors
-///
-/// `KeeperFault` only where the keeper failed, `NoMemory` where memory ran out.
-#[tactic(auto, using(crate::proofs::Opened::not_asked))]
-fn put_all<K: Keeper>(
-    alloc: Global,
-    keeper: &mut K,
-    changes: &ChangeList,
-) -> Result<(), OpenRefusal>
-    requires loaded { ∥ K.IsLoaded keeper.old ∥₁ }
-    ensures made { OnOk result (HasAll K.Tells keeper.old keeper.new changes.now) }
-    ensures silent { OnOk result (StaysSilent K.Tells keeper.old keeper.new) }
-    ensures loaded { ∥ K.IsLoaded keeper.new ∥₁ }
-    ensures later { IsLater K.IsSteady K.faults keeper.old keeper.new }
-    ensures cause { IfErr result (StopsRenewal K.IsSteady K.faults keeper.old keeper.new) }
-{
-    match keeper.apply(alloc, changes.as_slice()) {
-        Ok(()) => Ok(()),
-        Err(KeepErr::Failed) => Err(OpenRefusal::KeeperFault),
-        Err(KeepErr::NoMemory) => Err(OpenRefusal::NoMemory),
-    }
-}
-
-/// Brings a keeper's rows of an older format to that of today, by these changes. A keeper of others, for which there are none, is not asked.
-///
-/// # Errors
-///
-/// As `put_all`.
-#[tactic(auto, using(crate::proofs::Opened::not_asked))]
-fn renew<K: Keeper>(alloc: Global, keeper: &mut K, changes: &ChangeList) -> Result<(), OpenRefusal>
-    requires loaded { ∥ K.IsLoaded keeper.old ∥₁ }
-    ensures renewed { OnOk result (HasRenewed K.Tells changes.now keeper.old keeper.new) }
-    ensures loaded { ∥ K.IsLoaded keeper.new ∥₁ }
-    ensures later { IsLater K.IsSteady K.faults keeper.old keeper.new }
-    ensures cause { IfErr result (StopsRenewal K.IsSteady K.faults keeper.old keeper.new) }
-{
-    if changes.is_empty() {
-        return Ok(());
-    }
-    put_all(alloc, keeper, changes)
 }
 
 impl<K: Keeper> Clerk<K> {

@@ -6,7 +6,7 @@ ghost use Rattle.filing_desk.specs.Marked.{AreMarks, AreMarksTo, HasDay};
 
 use crate::desk::Desk;
 use crate::office::Office;
-use crate::receipts::Receipts;
+use desk_receipts::Receipts;
 use desk_tables::{ChangeList, OpenedDesk};
 use grid_exact::{NoMemory, Steps};
 use oe_findings::Sky;

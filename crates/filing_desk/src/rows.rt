@@ -33,7 +33,7 @@ fn copy_of(alloc: Global, list: &Option<KeptList>) -> Result<Option<KeptList>, N
 
 impl Desk {
     /// Whether the desk is empty.
-    #[tactic(auto, using(crate::proofs::Unasked::none_of))]
+    #[tactic(auto, using(crate::proofs::Serving::none_of))]
     fn is_bare(&self) -> bool
         ensures { result ≡ is_bare self.now }
     {

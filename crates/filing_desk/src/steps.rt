@@ -12,13 +12,13 @@ ghost use Rattle.desk_machine.specs.States.{with_entry, state_after_step};
 ghost use Rattle.desk_machine.specs.Machine.{register_rule};
 ghost use Rattle.desk_tables.specs.Changes.{HasRoom};
 ghost use Rattle.filing_desk.specs.Desks.{with_register};
-ghost use Rattle.filing_desk.specs.Handed.{IsNew, Keeps};
+ghost use Rattle.desk_receipts.specs.Handed.{IsNew, Keeps};
 
 use crate::desk::Desk;
-use crate::handing::Accepted;
 use airfields::Filing;
 use airport_register::{Amendment, Changed};
 use case_records::{KeptCase, KeptList, Refusal};
+use desk_receipts::Accepted;
 use determination_dates::Life;
 use jiff::civil::Date;
 use oe_findings::Sky;
@@ -110,7 +110,7 @@ impl Desk {
     }
 
     /// Adds a case after the others.
-    #[tactic(auto, using(crate::proofs::Sound::sound_more, crate::proofs::Unasked::unasked))]
+    #[tactic(auto, using(crate::proofs::Sound::sound_more, desk_receipts::proofs::Unasked::unasked))]
     pub(crate) fn open<K: Keeper>(
         &mut self,
         alloc: Global,

@@ -2,8 +2,8 @@
 use Rattle.std.proofs.Common.{◌≡◌, ◌<◌, ◌⊎◌, ℕ, Bool, List, [], ◌∷◌, ◌++◌, length, refl, sym, ap, ◌∙◌, arith, append-nil, inl, inr, length-append}
 use Rattle.httparse.specs.Grammar.{RequestHead, print_request}
 use Rattle.httparse.proofs.GrammarLemmas.{request_unique}
-use Rattle.http_heads.specs.Heads.{IsOpen}
-use Rattle.http_heads.proofs.LawFacts.{refused_once, good_not_large, good_not_malformed}
+use Rattle.http_messages.specs.Heads.{IsOpen}
+use Rattle.http_messages.proofs.OutcomeFacts.{refused_once, good_not_large, good_not_malformed}
 use Rattle.http_messages.specs.declared.request.Incoming.TheVariants as incoming
 use Rattle.http_messages.specs.Frames.{Frame, Body, Refused, frame_of}
 use Rattle.http_messages.specs.Messages.{BeginsWith, IsMessage, EndsInBody, IsRefused, Comes}

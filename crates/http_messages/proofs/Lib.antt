@@ -1,5 +1,14 @@
+pub mod CrowdFacts
+pub mod EndFacts
 pub mod FrameFacts
+pub mod HeadFacts
 pub mod HeldFacts
 pub mod LawFacts
+pub mod LineFacts
 pub mod MessageFacts
+pub mod OutcomeFacts
+pub mod RouteFacts
 pub mod SaidFacts
+pub mod SeekFacts
+pub mod SpanFacts
+pub mod TargetFacts

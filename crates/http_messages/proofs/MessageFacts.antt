@@ -7,9 +7,9 @@ use Rattle.httparse.specs.Spans.{IsRequestAt}
 use Rattle.httparse.specs.declared.spans.HeaderSpan.{HeaderSpan}
 use Rattle.httparse.specs.declared.spans.RequestSpans.{RequestSpans}
 use Rattle.httparse.proofs.GrammarLemmas.{ReadsRequest-append}
-use Rattle.http_heads.specs.Heads.{IsOpen, open_head, RefusesLarge, RefusesMalformed}
-use Rattle.http_heads.specs.declared.decision.TheConstants.{HEAD_LIMIT, MOST_FIELDS}
-use Rattle.http_heads.proofs.HeadFacts.{print_open, refuses_more, malformed_more}
+use Rattle.http_messages.specs.Heads.{IsOpen, open_head, RefusesLarge, RefusesMalformed}
+use Rattle.http_messages.specs.declared.decision.TheConstants.{HEAD_LIMIT, MOST_FIELDS}
+use Rattle.http_messages.proofs.HeadFacts.{print_open, refuses_more, malformed_more}
 use Rattle.http_messages.specs.declared.said.Head.{Head}
 use Rattle.http_messages.specs.declared.request.Incoming.{Incoming}
 use Rattle.http_messages.specs.declared.request.Incoming.TheVariants as incoming

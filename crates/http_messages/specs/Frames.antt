@@ -6,8 +6,7 @@ use Rattle.std.specs.Str.Parse.{digits_value}
 use Rattle.httparse.specs.Grammar.{RequestHead}
 use Rattle.std.specs.Str.{str_eq_ignore_ascii_case}
 use Rattle.httparse.specs.Spans.{name_and_value}
-use Rattle.http_messages.specs.declared.frame.TheConstants.{BODY_LIMIT}
-use Rattle.http_messages.specs.declared.number.TheConstants.{MOST_DIGITS}
+use Rattle.http_messages.specs.declared.frame.TheConstants.{BODY_LIMIT, MOST_DIGITS}
 use Rattle.http_messages.specs.declared.status.TheConstants.{BODY_TOO_LARGE, LENGTH_WANTED, MALFORMED, NO_TRANSFER_ENCODING}
 
 -- a name and a value

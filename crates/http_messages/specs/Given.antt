@@ -1,7 +1,7 @@
 -- For proofs alone: a head that is held, and the request that is returned when its body is held too.
 use Rattle.std.specs.Prelude.{ℕ, ◌≡◌, ◌≤◌, ◌+◌, List, length, take, drop}
 use Rattle.httparse.specs.Grammar.{RequestHead, ReadsRequest, print_request}
-use Rattle.http_heads.specs.declared.decision.TheConstants.{HEAD_LIMIT, MOST_FIELDS}
+use Rattle.http_messages.specs.declared.decision.TheConstants.{HEAD_LIMIT, MOST_FIELDS}
 use Rattle.http_messages.specs.declared.said.Head.{Head}
 use Rattle.http_messages.specs.declared.request.Incoming.{Incoming}
 use Rattle.http_messages.specs.declared.request.Incoming.TheVariants as incoming

@@ -4,8 +4,8 @@ use Rattle.std.specs.Io.KnownBytes.{IsAtEnd}
 use Rattle.httparse.specs.Grammar.{RequestHead}
 use Rattle.httparse.specs.Spans.{IsRequestAt, IsRequestWithin}
 use Rattle.httparse.specs.declared.spans.HeaderSpan.{HeaderSpan}
-use Rattle.http_heads.specs.Heads.{IsOpen, RefusesLarge, RefusesMalformed}
-use Rattle.http_heads.specs.declared.decision.TheConstants.{HEAD_LIMIT, MOST_FIELDS}
+use Rattle.http_messages.specs.Heads.{IsOpen, RefusesLarge, RefusesMalformed}
+use Rattle.http_messages.specs.declared.decision.TheConstants.{HEAD_LIMIT, MOST_FIELDS}
 use Rattle.http_messages.specs.declared.held.HeadEnd.{HeadEnd}
 use Rattle.http_messages.specs.declared.held.HeadEnd.TheVariants as ended
 

@@ -1,8 +1,14 @@
 pub mod Counts
+pub mod Feeds
+pub mod Finds
 pub mod Frames
 pub mod Given
 pub mod Heading
+pub mod Heads
 pub mod Messages
+pub mod Records
 pub mod Responses
+pub mod Routing
 pub mod Said
 pub mod Statuses
+pub mod Targets

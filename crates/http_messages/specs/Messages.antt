@@ -2,8 +2,8 @@
 use Rattle.std.specs.Prelude.{ℕ, ◌≡◌, ◌≤◌, ◌<◌, ◌+◌, ◌-◌, ◌⊎◌, Bool, List, [], ◌++◌, length, Option, Some, None}
 use Rattle.std.specs.Io.KnownBytes.{prepend_known}
 use Rattle.httparse.specs.Grammar.{RequestHead, ReadsRequest, print_request}
-use Rattle.http_heads.specs.Heads.{IsOpen, RefusesLarge, RefusesMalformed}
-use Rattle.http_heads.specs.declared.decision.TheConstants.{HEAD_LIMIT, MOST_FIELDS}
+use Rattle.http_messages.specs.Heads.{IsOpen, RefusesLarge, RefusesMalformed}
+use Rattle.http_messages.specs.declared.decision.TheConstants.{HEAD_LIMIT, MOST_FIELDS}
 use Rattle.oe_http.specs.declared.lines.TheConstants.{INPUT_LIMIT}
 use Rattle.http_messages.specs.declared.held.Held.{Held}
 use Rattle.http_messages.specs.declared.held.TheConstants.{READ_SIZE}

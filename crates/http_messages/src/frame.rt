@@ -1,18 +1,22 @@
 //! The length of a request's body, from the fields of its head.
 
 ghost use Rattle.std.specs.Prelude.{◌≡◌, ◌≤◌, ◌<◌, ℕ, List, Some, None, All, IfSome, IfNone, ◌+◌, ◌∷◌, [], drop, get_or, slice_index, length, take, map, true, false};
-ghost use Rattle.std.specs.List.{list_any};
+ghost use Rattle.std.specs.Char.{is_ascii_digit};
+ghost use Rattle.std.specs.List.{list_all, list_any};
+ghost use Rattle.std.specs.Str.Parse.{digits_value};
 ghost use Rattle.httparse.specs.Spans.{header_bytes, IsHeaderWithin};
-ghost use Rattle.http_messages.specs.Frames.{frame, values, is_called, by_length};
+ghost use Rattle.http_messages.specs.Frames.{frame, values, is_called, is_length, by_length};
 ghost use Rattle.http_messages.specs.Statuses.{HasFrameStatus};
 ghost use Rattle.http_messages.specs.Counts.{Counts, IfOnce, IsFrame, IsSmall};
 
-use crate::number::length_of;
 use crate::status::{BODY_TOO_LARGE, LENGTH_WANTED, MALFORMED, NO_TRANSFER_ENCODING};
 use httparse::spans::HeaderSpan;
 
 /// The greatest size of a body in bytes: 1 MiB.
 pub const BODY_LIMIT: u64 = 1_048_576;
+
+/// Most digits of a Content-Length accepted.
+const MOST_DIGITS: usize = 10;
 
 /// The size of a body, or the refusal of the request.
 #[derive(Clone, Copy, Debug, PartialEq, Eq)]
@@ -82,6 +86,49 @@ fn values_of(bytes: &[u8], headers: &[HeaderSpan], name: &[u8]) -> Count
         }
         None => Count::Nothing,
     }
+}
+
+/// Whether each byte is a digit.
+fn is_all_digits(text: &[u8]) -> bool
+    ensures { result ≡ list_all is_ascii_digit text.now }
+{
+    for byte in text {
+        if !byte.is_ascii_digit() {
+            return false;
+        }
+    }
+    true
+}
+
+/// The value of at most [`MOST_DIGITS`] digits.
+fn number_of(text: &[u8]) -> u64
+    requires few { length text.now ≤ MOST_DIGITS }
+    requires digits { list_all is_ascii_digit text.now ≡ true }
+    ensures { result ≡ digits_value 10 text.now }
+{
+    let mut total = 0;
+    for byte in text {
+        total = total * 10 + (*byte - b'0') as u64;
+    }
+    total
+}
+
+/// Parses a Content-Length: 1 to [`MOST_DIGITS`] digits.
+fn length_of(text: &[u8]) -> Option<u64>
+    ensures some { IfSome result (λ n. n ≡ digits_value 10 text.now) }
+    ensures good { IfSome result (λ n. is_length text.now ≡ true) }
+    ensures none { IfNone result (is_length text.now ≡ false) }
+{
+    if text.is_empty() {
+        return None;
+    }
+    if text.len() > MOST_DIGITS {
+        return None;
+    }
+    if !is_all_digits(text) {
+        return None;
+    }
+    Some(number_of(text))
 }
 
 /// The frame from the only value of Content-Length.

@@ -5,11 +5,11 @@ ghost use Rattle.std.specs.Io.KnownBytes.{Keeps, IsAtEnd, prepend_known};
 ghost use Rattle.oe_http.specs.Causes.{Rose};
 ghost use Rattle.oe_http.specs.Pending.{FellBy};
 ghost use Rattle.oe_http.specs.declared.lines.TheConstants.{INPUT_LIMIT};
-ghost use Rattle.http_heads.specs.Heads.{Decides};
+ghost use Rattle.http_messages.specs.Heads.{Decides};
 ghost use Rattle.http_messages.specs.declared.held.TheConstants.{READ_SIZE};
 ghost use Rattle.http_messages.specs.Heading.{HeadComes, UnlessFailed};
 
-use http_heads::{Decision, MOST_FIELDS, decide};
+use crate::decision::{Decision, MOST_FIELDS, decide};
 use httparse::spans::{HeaderSpan, RequestSpans};
 use oe_http::{INPUT_LIMIT, Source};
 use std::alloc::Global;

@@ -1,8 +1,21 @@
-//! A law of the definitions.
+//! Laws of the definitions.
 
-ghost use Rattle.std.specs.Prelude.{◌≡◌, ◌<◌, Bool, ℕ, List, length};
+ghost use Rattle.std.specs.Prelude.{◌≡◌, ◌≤◌, ◌<◌, Bool, ℕ, List, length};
+ghost use Rattle.httparse.specs.Grammar.{RequestHead, ReadsRequest, print_request};
+ghost use Rattle.http_messages.specs.Heads.{RefusesLarge, RefusesMalformed};
 ghost use Rattle.http_messages.specs.Messages.{Comes, IsMessage};
+ghost use Rattle.http_messages.specs.declared.decision.TheConstants.{HEAD_LIMIT, MOST_FIELDS};
 ghost use Rattle.http_messages.specs.declared.request.Incoming.TheVariants as incoming;
+
+/// No bytes are both too large and malformed, and bytes that begin with a head within the limits are neither.
+pub fn one_outcome()
+    ensures refused { (bytes : List ℕ) → RefusesLarge bytes → RefusesMalformed bytes → ⊥ }
+    ensures good { (bytes : List ℕ) (h : RequestHead) (rest : List ℕ) → ReadsRequest bytes h rest
+        → length h.fields ≤ MOST_FIELDS → length (print_request h) ≤ HEAD_LIMIT
+        → RefusesLarge bytes → ⊥ }
+    ensures well { (bytes : List ℕ) (h : RequestHead) (rest : List ℕ) → ReadsRequest bytes h rest
+        → length h.fields ≤ MOST_FIELDS → RefusesMalformed bytes → ⊥ }
+{}
 
 /// A stream begins with one request at most, and it is neither cut, refused nor at its end where it does. It is refused with
 /// one status at most, and not where it is cut.

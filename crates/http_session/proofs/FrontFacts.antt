@@ -5,7 +5,7 @@ use Rattle.std.specs.Result.{OnErr}
 use Rattle.case_records.specs.declared.refusal.Refusal.TheVariants as refusals
 use Rattle.wire_replies.specs.Replies.{reply_text}
 use Rattle.wire_replies.specs.declared.reply.Reply.TheVariants as replies
-use Rattle.line_session.specs.Machine.{Step}
+use Rattle.oe_http.specs.Machine.{Step}
 use Rattle.http_session.specs.Replying.{AnswersRecord}
 
 pub on_err : {A E P : Type 0} (r : Result A E) → P → OnErr r P

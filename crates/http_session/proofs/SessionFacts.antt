@@ -12,8 +12,8 @@ use Rattle.http_messages.specs.declared.status.TheConstants.{NO_MEMORY}
 use Rattle.http_session.specs.Machine.{Asked, Asks, Reply, Step, Exchange, texts, exchange_text, reply_text, refusal_text, StaysOpen, ClosesAtLast}
 use Rattle.http_session.specs.Endings.{Served, Ends, EndsSo, Finishes, GivesUp, Goes, IsRequest, RefusesSo, Stops}
 use Rattle.http_session.proofs.WaitingFacts.{Reaches, reach_moved, reach_done, waits_more, appends_behind, sent_then, sent_more, sent_last, sent_reached, front_then, fronts}
-use Rattle.line_session.specs.declared.session.Ended.{Ended}
-use Rattle.line_session.specs.declared.session.Ended.TheVariants as endings
+use Rattle.oe_http.specs.declared.session.Ended.{Ended}
+use Rattle.oe_http.specs.declared.session.Ended.TheVariants as endings
 
 -- ---- an exchange before the others
 

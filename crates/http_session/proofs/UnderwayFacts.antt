@@ -6,8 +6,8 @@ use Rattle.http_session.specs.Machine.{Step, exchange_text}
 use Rattle.http_session.specs.Endings.{EndsSo, Goes, Stops, WroteFront}
 use Rattle.http_session.proofs.WaitingFacts.{reach_moved, reach_nothing, sent_then, front_then}
 use Rattle.http_session.proofs.SessionFacts.{any_after, ends_more, ends_reached, stops_write}
-use Rattle.line_session.specs.declared.session.Ended.{Ended}
-use Rattle.line_session.specs.declared.session.Ended.TheVariants as endings
+use Rattle.oe_http.specs.declared.session.Ended.{Ended}
+use Rattle.oe_http.specs.declared.session.Ended.TheVariants as endings
 
 pub record Underway {St : Type 0} (step : Step St) (start now : St) (x y h k : Option (List ℕ)) (w : List ℕ) : Type 0 where
   -- once what waits is written

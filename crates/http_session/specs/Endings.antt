@@ -7,8 +7,8 @@ use Rattle.http_messages.specs.declared.request.Incoming.{Incoming}
 use Rattle.http_messages.specs.declared.request.Incoming.TheVariants as incoming
 use Rattle.http_messages.specs.declared.status.TheConstants.{NO_MEMORY}
 use Rattle.http_session.specs.Machine.{Asks, Step, Exchange, texts, exchange_text, refusal_text, Runs, StaysOpen, ClosesAtLast}
-use Rattle.line_session.specs.declared.session.Ended.{Ended}
-use Rattle.line_session.specs.declared.session.Ended.TheVariants as endings
+use Rattle.oe_http.specs.declared.session.Ended.{Ended}
+use Rattle.oe_http.specs.declared.session.Ended.TheVariants as endings
 
 -- a text is a front of another
 abbrev pub IsFront : List ℕ → List ℕ → Type 0

@@ -3,10 +3,10 @@ use Rattle.std.specs.Prelude.{ℕ, ◌≡◌, ◌<◌, ◌⊎◌, List, [], leng
 use Rattle.case_records.specs.declared.refusal.Refusal.TheVariants as refusals
 use Rattle.wire_replies.specs.Replies.{reply_text}
 use Rattle.wire_replies.specs.declared.reply.Reply.TheVariants as replies
-use Rattle.http_routes.specs.Routing.{IsRouted}
-use Rattle.http_routes.specs.declared.routes.Routed.{Routed}
-use Rattle.http_routes.specs.declared.routes.Routed.TheVariants as routed
-use Rattle.line_session.specs.Machine.{Step as LineStep}
+use Rattle.http_messages.specs.Routing.{IsRouted}
+use Rattle.http_messages.specs.declared.routes.Routed.{Routed}
+use Rattle.http_messages.specs.declared.routes.Routed.TheVariants as routed
+use Rattle.oe_http.specs.Machine.{Step as LineStep}
 use Rattle.http_session.specs.Machine.{Asked, Reply}
 use Rattle.http_session.specs.Statuses.{status_of}
 use Rattle.http_session.specs.declared.status.TheConstants.{NOT_ALLOWED, NOT_FOUND}

@@ -7,8 +7,8 @@ use crate::status::{NOT_ALLOWED, NOT_FOUND, status_of};
 use crate::{Replying, Response};
 use grid_exact::{LINE_LIMIT, NoMemory};
 use http::Method;
-use http_routes::{Routed as Found, Routes};
-use line_session::Answering;
+use http_messages::{Routed as Found, Routes};
+use oe_http::Answering;
 use std::alloc::Global;
 use wire_replies::{Refusal, Reply, append_reply};
 

@@ -12,7 +12,7 @@ ghost use Rattle.http_messages.specs.Responses.{response_text};
 ghost use Rattle.http_messages.specs.Statuses.{HasStatus};
 ghost use Rattle.http_messages.specs.declared.request.Incoming.TheVariants as incoming;
 ghost use Rattle.http_messages.specs.declared.status.TheConstants.{NO_MEMORY};
-ghost use Rattle.line_session.specs.Session.{Completes, HasCauses};
+ghost use Rattle.oe_http.specs.Session.{Completes, HasCauses};
 ghost use Rattle.http_session.specs.Machine.{Reply, reply_text, refusal_text};
 ghost use Rattle.http_session.specs.Endings.{CarriesOut, EndsSo, Finishes, GivesUp, Goes, GoesFurther, IsRequest, RefusesSo, Stops, WroteFront};
 
@@ -21,16 +21,12 @@ use http::Method;
 use http_messages::{
     Held, Incoming, SendErr, append_response, held_request, next_request, write_response,
 };
-use line_session::Ended;
-use oe_http::{Failed, TwoWay, write_whole};
+use oe_http::{Ended, Failed, MOST_WAITING, TwoWay, write_whole};
 use std::alloc::Global;
 
 /// The 507 response. It is a constant, since it must be sent when there is no memory.
 const NO_MEMORY_RESPONSE: &[u8] =
     b"HTTP/1.1 507 Insufficient Storage\r\nContent-Type: text/plain\r\nContent-Length: 0\r\nConnection: close\r\n\r\n";
-
-/// The size in bytes at which the responses that wait are written: 64 KiB. A response with so long a body does not wait.
-const MOST_WAITING: usize = 65_536;
 
 /// Reads the next request. The sink is unchanged.
 fn next_on<L: TwoWay>(alloc: Global, link: &mut L, held: &mut Held) -> Incoming
@@ -435,7 +431,7 @@ fn respond<A: Replying, L: TwoWay>(
 
 /// Writes a response to each request of a link, in order. Responses are gathered, and written before each read and at the
 /// end. The buffers of the responses and of the reply's text are reused.
-#[tactic(auto, using(crate::proofs::UnderwayFacts::underway_start, crate::proofs::CarryFacts::runs_start, line_session::proofs::SessionFacts::fell_none, line_session::proofs::SessionFacts::fell_more, line_session::proofs::SessionFacts::took_more))]
+#[tactic(auto, using(crate::proofs::UnderwayFacts::underway_start, crate::proofs::CarryFacts::runs_start, oe_http::proofs::SessionFacts::fell_none, oe_http::proofs::SessionFacts::fell_more, oe_http::proofs::SessionFacts::took_more))]
 pub fn session<A: Replying, L: TwoWay>(alloc: Global, desk: &mut A, link: &mut L) -> Ended
     // The link then holds its old content and, by how the session ended, the responses to its requests.
     ensures ends { EndsSo A.step result desk.old desk.new (L.Source.left link.old)

@@ -8,7 +8,7 @@ use Rattle.case_records.specs.declared.refusal.Refusal.TheVariants as refusals
 use Rattle.desk_machine.specs.Machine.{state_after}
 use Rattle.filing_desk.specs.Answers.{answer_of, decision}
 use Rattle.filing_desk.specs.Clerks.{Clerking, Advances}
-use Rattle.filing_desk.specs.Handed.{HasCause}
+use Rattle.filing_desk.specs.Served.{HasCause}
 use Rattle.filing_desk.specs.declared.answer.Answer.{Answer}
 use Rattle.filing_desk.specs.declared.answer.Answer.TheVariants as answers
 use Rattle.line_desk.specs.Desk.{Tells, Decided, NoRoom, NotKept, change_reply, serving}

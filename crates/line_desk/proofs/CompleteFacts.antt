@@ -14,7 +14,7 @@ use Rattle.desk_machine.specs.States.{State}
 use Rattle.desk_machine.specs.Machine.{Answer as Decided, Done, Kept, No, entries_of_answer, state_after}
 use Rattle.filing_desk.specs.Answers.{answer_of, decision}
 use Rattle.filing_desk.specs.Clerks.{Advances, Clerking}
-use Rattle.filing_desk.specs.Handed.{HasCause}
+use Rattle.filing_desk.specs.Served.{HasCause}
 use Rattle.filing_desk.specs.declared.answer.Answer.{Answer}
 use Rattle.filing_desk.specs.declared.answer.Answer.TheVariants as answers
 use Rattle.line_desk.specs.Desk.{Blank, IsReply, NotKept, Plain, Refused, Served, Serving, Step, StepOver, Told, Wanting, after_request, change_reply}

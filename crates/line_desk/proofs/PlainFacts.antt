@@ -2,7 +2,7 @@
 use Rattle.std.proofs.Common.{ℕ, List, Option}
 use Rattle.oe_keeper.specs.Kept.{Kept}
 use Rattle.desk_machine.specs.States.{State}
-use Rattle.line_session.specs.Session.{Answered, AnsweredFront, AnsweredRead, Begun}
+use Rattle.oe_http.specs.Session.{Answered, AnsweredFront, AnsweredRead, Begun}
 use Rattle.line_desk.specs.Desk.{Serving, Plain, Step, Served, NotKept, StepOver}
 use Rattle.line_desk.proofs.SeenFacts as seen
 

@@ -13,7 +13,7 @@ use Rattle.wire_requests.specs.declared.request.Request.{Request}
 use Rattle.wire_requests.specs.declared.request.Request.TheVariants as requests
 use Rattle.desk_machine.specs.States.{last_number}
 use Rattle.desk_queries.specs.Queries.{IsAnswer, no_memory}
-use Rattle.filing_desk.specs.Keepers.{IsLater}
+use Rattle.desk_receipts.specs.Keepers.{IsLater}
 use Rattle.line_desk.specs.Desk.{IsAfter, Serving, Tells, Decided, NoRoom}
 
 module _ {K : Type 0} (IsSteady : K → Type 0) (faults : K → ℕ) (k : Serving K) (old new : List ℕ) where

@@ -1,8 +1,8 @@
 -- What a session does is what it is seen to do through a map of its states.
 use Rattle.std.proofs.Common.{inl, inr, ap, ℕ, List, [], ◌∷◌, Option, Some, None}
 use Rattle.std.specs.Str.Lines.{lines}
-use Rattle.line_session.specs.Machine.{Runs, Starts, Step}
-use Rattle.line_session.specs.Session.{Answered, AnsweredFront, AnsweredRead, Begun, Replied}
+use Rattle.oe_http.specs.Machine.{Runs, Starts, Step}
+use Rattle.oe_http.specs.Session.{Answered, AnsweredFront, AnsweredRead, Begun, Replied}
 
 -- each step is seen as one where this holds of its first state, and then it holds of its last
 module _ {S T : Type 0} (step : Step S) (outer : Step T) (seen : S → T) (Holds : S → Type 0)

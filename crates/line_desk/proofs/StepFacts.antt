@@ -6,7 +6,7 @@ use Rattle.wire_replies.specs.Replies.{reply_text}
 use Rattle.wire_requests.specs.declared.request.Request.{Request}
 use Rattle.case_records.specs.declared.refusal.Refusal.TheVariants as refusals
 use Rattle.wire_replies.specs.declared.reply.Reply.TheVariants as replies
-use Rattle.filing_desk.specs.Keepers.{IsLater}
+use Rattle.desk_receipts.specs.Keepers.{IsLater}
 use Rattle.desk_queries.specs.Queries.{no_memory}
 use Rattle.line_desk.specs.Desk.{Answers, IsAfter, Serving, Blank, Told, Refused, Wanting, Step, Served, Tells, Decided, NoRoom, NotKept, not_kept}
 

@@ -11,7 +11,7 @@ use Rattle.desk_machine.specs.Machine.{Answer as Decided, state_after, entries_o
 use Rattle.desk_queries.specs.Queries.{no_memory}
 use Rattle.filing_desk.specs.Answers.{answer_of, decision, MakesEntry}
 use Rattle.filing_desk.specs.Clerks.{Clerking}
-use Rattle.filing_desk.specs.Keepers.{HasFailed}
+use Rattle.desk_receipts.specs.Keepers.{HasFailed}
 use Rattle.filing_desk.specs.declared.answer.Answer.{Answer}
 use Rattle.filing_desk.specs.declared.answer.Answer.TheVariants as answers
 use Rattle.line_desk.specs.Desk.{IsReply, Serving, after_request, not_kept}

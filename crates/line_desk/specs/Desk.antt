@@ -12,8 +12,8 @@ use Rattle.desk_machine.specs.Machine.{state_after}
 use Rattle.desk_queries.specs.Queries.{IsQueryReply, no_memory}
 use Rattle.filing_desk.specs.Answers.{answer_of, decision, MakesEntry}
 use Rattle.filing_desk.specs.Clerks.{Clerking}
-use Rattle.filing_desk.specs.Handed.{Told as ToldRows}
-use Rattle.filing_desk.specs.Keepers.{IsLater, HasFailed}
+use Rattle.desk_receipts.specs.Handed.{Told as ToldRows}
+use Rattle.desk_receipts.specs.Keepers.{IsLater, HasFailed}
 use Rattle.filing_desk.specs.declared.answer.Answer.{Answer}
 use Rattle.filing_desk.specs.declared.answer.Answer.TheVariants as answers
 use Rattle.wire_replies.specs.declared.reply.Reply.{Reply}

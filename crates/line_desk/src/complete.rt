@@ -12,7 +12,7 @@ ghost use Rattle.desk_machine.specs.States.{State};
 ghost use Rattle.desk_machine.specs.Machine.{Answer as Decided, entries_of_answer};
 ghost use Rattle.filing_desk.specs.Answers.{answer_of, decision};
 ghost use Rattle.filing_desk.specs.Clerks.{Advances, Clerking};
-ghost use Rattle.filing_desk.specs.Handed.{HasCause};
+ghost use Rattle.filing_desk.specs.Served.{HasCause};
 ghost use Rattle.filing_desk.specs.declared.answer.Answer.{Answer};
 ghost use Rattle.filing_desk.specs.declared.answer.Answer.TheVariants as answers;
 ghost use Rattle.line_desk.specs.Desk.{Plain, Serving, StepOver};

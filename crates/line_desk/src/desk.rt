@@ -7,26 +7,24 @@ ghost use Rattle.line_desk.specs.Desk.{Answers, Serving, Step, serving};
 
 use crate::fulfil::{ask, fulfil};
 use filing_desk::Clerk;
-use grid_exact::{LINE_LIMIT, NoMemory, Steps};
-use line_session::Answering;
+use grid_exact::{LINE_LIMIT, NoMemory};
 use oe_findings::Findings;
+use oe_http::Answering;
 use oe_keeper::{Keeper, NoKeeper};
 use oe_wire::{ReadRefusal, RecordReader, Refusal, Reply, append_reply, question};
 use std::alloc::Global;
 use std::marker::Model;
-use std::sync::ledger::{Blank, Ledger};
 
 /// A desk, seen as all that it holds (the airfields, the day, the closed days, the cases and the accepted requests) and its keeper.
 #[derive(Drop)]
-pub struct LineDesk<K: Keeper, L: Ledger> {
+pub struct LineDesk<K: Keeper> {
     alloc: Global,
     clerk: Clerk<K>,
     records: RecordReader,
     list: Findings,
-    steps: Steps<L>,
 }
 
-impl<K: Keeper, L: Ledger> Model for LineDesk<K, L> {
+impl<K: Keeper> Model for LineDesk<K> {
     ghost use Rattle.line_desk.specs.Desk.{Serving, serving};
 
     ghost Value = { Serving K };
@@ -40,12 +38,11 @@ impl<K: Keeper, L: Ledger> Model for LineDesk<K, L> {
 /// # Errors
 ///
 /// `NoMemory` where memory was refused for the text. The clerk is then as after a reply to the line, a part of which may have been appended.
-pub fn append_answer<K: Keeper, L: Ledger>(
+pub fn append_answer<K: Keeper>(
     alloc: Global,
     clerk: &mut Clerk<K>,
     records: &mut RecordReader,
     list: &mut Findings,
-    steps: &mut Steps<L>,
     line: &[u8],
     text: &mut String,
 ) -> Result<(), NoMemory>
@@ -59,10 +56,10 @@ pub fn append_answer<K: Keeper, L: Ledger>(
         return Ok(());
     }
     if let Some(query) = question(line) {
-        return ask(alloc, clerk, list, steps, &query, text);
+        return ask(alloc, clerk, list, &query, text);
     }
     match records.record(line) {
-        Ok(request) => fulfil(alloc, clerk, list, steps, &request, text),
+        Ok(request) => fulfil(alloc, clerk, list, &request, text),
         Err(ReadRefusal::Malformed { field }) => {
             append_reply(text, &Reply::Refused(Refusal::Malformed { field }))
         }
@@ -84,12 +81,9 @@ fn append_too_long<K: Keeper>(text: &mut String) -> Result<(), NoMemory>
     append_reply(text, &Reply::Refused(Refusal::Malformed { field: 0 }))
 }
 
-impl<K: Keeper, L: Ledger> LineDesk<K, L> {
-    /// A desk over this clerk, whose steps are counted in the ledger that `blank` opens. It allocates nothing.
-    pub fn over(alloc: Global, clerk: Clerk<K>, blank: Blank) -> LineDesk<K, L>
-        requires name { blank.name ≡ L.name }
-        requires parts { blank.parts ≡ L.parts }
-        requires some { 0 < L.parts }
+impl<K: Keeper> LineDesk<K> {
+    /// A desk over this clerk. It allocates nothing.
+    pub fn over(alloc: Global, clerk: Clerk<K>) -> LineDesk<K>
         ensures { result ≡ serving clerk }
     {
         LineDesk {
@@ -97,7 +91,6 @@ impl<K: Keeper, L: Ledger> LineDesk<K, L> {
             clerk,
             records: RecordReader::new(alloc),
             list: Findings::new(alloc),
-            steps: Steps::new(blank),
         }
     }
 
@@ -109,19 +102,16 @@ impl<K: Keeper, L: Ledger> LineDesk<K, L> {
     }
 }
 
-impl<L: Ledger> LineDesk<NoKeeper, L> {
-    /// An empty desk that is not stored, whose steps are counted in the ledger that `blank` opens. It allocates nothing.
-    pub fn new(alloc: Global, blank: Blank) -> LineDesk<NoKeeper, L>
-        requires name { blank.name ≡ L.name }
-        requires parts { blank.parts ≡ L.parts }
-        requires some { 0 < L.parts }
+impl LineDesk<NoKeeper> {
+    /// An empty desk that is not stored. It allocates nothing.
+    pub fn new(alloc: Global) -> LineDesk<NoKeeper>
         ensures { result.state ≡ empty }
     {
-        LineDesk::over(alloc, Clerk::unkept(alloc), blank)
+        LineDesk::over(alloc, Clerk::unkept(alloc))
     }
 }
 
-impl<K: Keeper, L: Ledger> Answering for LineDesk<K, L> {
+impl<K: Keeper> Answering for LineDesk<K> {
     ghost use Rattle.line_desk.specs.Desk.{StepOver};
 
     ghost step = { StepOver K.Tells K.IsSteady K.faults };
@@ -132,7 +122,6 @@ impl<K: Keeper, L: Ledger> Answering for LineDesk<K, L> {
             &mut self.clerk,
             &mut self.records,
             &mut self.list,
-            &mut self.steps,
             line,
             text,
         );

@@ -7,21 +7,19 @@ ghost use Rattle.wire_requests.specs.declared.request.Request.TheVariants as req
 ghost use Rattle.wire_requests.specs.declared.request.Query.TheVariants as queries;
 
 use airfields::Filing;
-use desk_queries::reply;
+use desk_queries::{reply, screen};
 use filing_desk::{Answer, Clerk};
-use grid_exact::{NoMemory, Steps};
+use grid_exact::NoMemory;
 use oe_findings::Findings;
 use oe_keeper::Keeper;
 use oe_wire::{Change, Query, Refusal, Reply, Request, append_found, append_reply};
 use std::alloc::Global;
-use std::sync::ledger::Ledger;
 
 /// Appends the reply with the findings of a structure. `list` is a buffer that is reused.
-fn append_findings<K: Keeper, L: Ledger>(
+fn append_findings<K: Keeper>(
     alloc: Global,
     clerk: &Clerk<K>,
     list: &mut Findings,
-    steps: &mut Steps<L>,
     filing: &Filing,
     text: &mut String,
 ) -> Result<(), NoMemory>
@@ -32,7 +30,7 @@ fn append_findings<K: Keeper, L: Ledger>(
         (requests.Query (queries.Screen filing.now)) (serving clerk.now)) }
     ensures part { OnErr result (Extends (string_bytes text.old) (string_bytes text.new)) }
 {
-    if clerk.sky().find(alloc, list, filing, steps).is_err() {
+    if screen(alloc, clerk.sky(), list, filing).is_err() {
         return append_reply(text, &Reply::Refused(Refusal::NoMemory));
     }
     append_found(text, clerk.accepted(), list.as_slice())
@@ -71,11 +69,10 @@ fn make_change<K: Keeper>(
 }
 
 /// Appends the reply to a query.
-pub(crate) fn ask<K: Keeper, L: Ledger>(
+pub(crate) fn ask<K: Keeper>(
     alloc: Global,
     clerk: &Clerk<K>,
     list: &mut Findings,
-    steps: &mut Steps<L>,
     query: &Query,
     text: &mut String,
 ) -> Result<(), NoMemory>
@@ -87,17 +84,16 @@ pub(crate) fn ask<K: Keeper, L: Ledger>(
     ensures part { OnErr result (Extends (string_bytes text.old) (string_bytes text.new)) }
 {
     if let Query::Screen(filing) = query {
-        return append_findings(alloc, clerk, list, steps, filing, text);
+        return append_findings(alloc, clerk, list, filing, text);
     }
-    append_reply(text, &reply(alloc, clerk, steps, query))
+    append_reply(text, &reply(alloc, clerk, query))
 }
 
 /// Carries out a request, and appends the reply.
-pub(crate) fn fulfil<K: Keeper, L: Ledger>(
+pub(crate) fn fulfil<K: Keeper>(
     alloc: Global,
     clerk: &mut Clerk<K>,
     list: &mut Findings,
-    steps: &mut Steps<L>,
     request: &Request,
     text: &mut String,
 ) -> Result<(), NoMemory>
@@ -109,7 +105,7 @@ pub(crate) fn fulfil<K: Keeper, L: Ledger>(
     ensures part { OnErr result (Extends (string_bytes text.old) (string_bytes text.new)) }
 {
     match request {
-        Request::Query(query) => ask(alloc, clerk, list, steps, query, text),
+        Request::Query(query) => ask(alloc, clerk, list, query, text),
         Request::Change(change) => make_change(alloc, clerk, change, text),
     }
 }

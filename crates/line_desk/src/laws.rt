@@ -1,7 +1,7 @@
 //! Laws of desks whose keeper never fails.
 
 ghost use Rattle.std.specs.Prelude.{List, ℕ, Option};
-ghost use Rattle.line_session.specs.Session.{Answered, AnsweredFront, AnsweredRead, Begun};
+ghost use Rattle.oe_http.specs.Session.{Answered, AnsweredFront, AnsweredRead, Begun};
 ghost use Rattle.line_desk.specs.Desk.{Plain, Serving, StepOver};
 
 use oe_keeper::Keeper;

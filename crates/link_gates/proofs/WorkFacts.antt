@@ -3,7 +3,7 @@ use Rattle.std.proofs.Common.{◌≡◌, ◌∙◌, ◌≤◌, ◌<◌, ◌+◌,
 use Rattle.std.specs.Prelude.{IfSome}
 use Rattle.std.proofs.lemmas.Bool.{cases_lt}
 use Rattle.std.proofs.lemmas.Option.{none-some, same_Some}
-use Rattle.line_session.specs.declared.session.Ended.{Ended}
+use Rattle.oe_http.specs.declared.session.Ended.{Ended}
 use Rattle.link_gates.specs.Ports.{ahead, behind, NoneLeft}
 use Rattle.link_gates.specs.Serving.{Meets, Serves, WorksOff}
 

@@ -1,4 +1,5 @@
+pub mod Fakes
+pub mod Loopback
 pub mod Ports
 pub mod Serving
 pub mod Teams
-pub mod Fakes

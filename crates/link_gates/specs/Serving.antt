@@ -1,7 +1,7 @@
 -- What a worker does.
 use Rattle.std.specs.Prelude.{ℕ, ◌≡◌, List, [], ◌∷◌, length, Option}
-use Rattle.line_session.specs.Session.{HasCauses}
-use Rattle.line_session.specs.declared.session.Ended.{Ended}
+use Rattle.oe_http.specs.Session.{HasCauses}
+use Rattle.oe_http.specs.declared.session.Ended.{Ended}
 use Rattle.http_session.specs.Machine.{Step}
 use Rattle.http_session.specs.Endings.{CarriesOut, EndsSo}
 use Rattle.link_gates.specs.Ports.{ahead, behind}

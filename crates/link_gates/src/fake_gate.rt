@@ -2,12 +2,11 @@
 
 ghost use Rattle.std.specs.Prelude.{◌≡◌, ◌≤◌, ◌+◌, ◌↔◌, if◌then◌else◌, true, false, [], ◌∷◌, Some, None, IfOk, IfSome, IfNone, IsErr, OnErr, IsErrOf, is_err, vec_len, vec_capacity};
 ghost use Rattle.oe_http.specs.Causes.{Rose, HasCause};
-ghost use Rattle.line_session.specs.declared.session.Ended.{Ended};
+ghost use Rattle.oe_http.specs.declared.session.Ended.{Ended};
 ghost use Rattle.link_gates.specs.Ports.{ahead, behind, NoneLeft, TakesList};
 
 use crate::{Gate, GateErr, Port};
-use line_session::Ended;
-use oe_http::{Failed, TwoWay};
+use oe_http::{Ended, Failed, TwoWay};
 use std::alloc::Global;
 
 /// Takes the first item of a list.

@@ -2,11 +2,10 @@
 
 ghost use Rattle.std.specs.Prelude.{◌≡◌, ◌≤◌, Bool, true, false, List, ℕ, [], ◌∷◌, Option, IfOk, IfSome, IfNone, OnErr, IsErrOf};
 ghost use Rattle.oe_http.specs.Causes.{Rose, HasCause};
-ghost use Rattle.line_session.specs.declared.session.Ended.{Ended};
+ghost use Rattle.oe_http.specs.declared.session.Ended.{Ended};
 ghost use Rattle.link_gates.specs.Ports.{ahead, behind, NoneLeft, TakesList};
 
-use line_session::Ended;
-use oe_http::{Failed, TwoWay};
+use oe_http::{Ended, Failed, TwoWay};
 use std::alloc::Global;
 
 /// Hands out links, one after another, and takes each back with how its session ended.

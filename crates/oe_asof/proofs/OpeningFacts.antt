@@ -2,9 +2,9 @@
 use Rattle.std.proofs.Common.{◌≡◌, ◌⊎◌, refl, inl, inr, ℕ, List, [], ◌∷◌, Option, Some, None}
 use Rattle.std.specs.Str.Lines.{lines}
 use Rattle.oe_http.proofs.SentFacts.{appends_none}
-use Rattle.line_session.specs.Machine.{Step, Starts}
-use Rattle.line_session.specs.Session.{AnsweredFront, Begun}
-use Rattle.line_session.specs.declared.session.Ended.TheVariants as endings
+use Rattle.oe_http.specs.Machine.{Step, Starts}
+use Rattle.oe_http.specs.Session.{AnsweredFront, Begun}
+use Rattle.oe_http.specs.declared.session.Ended.TheVariants as endings
 use Rattle.oe_asof.specs.Sessions.{SessionOf}
 
 no_fault : (endings.NoMemory ≡ endings.ReadFault) ⊎ (endings.NoMemory ≡ endings.Long) → ⊥

@@ -4,7 +4,7 @@ use Rattle.airfields.specs.declared.airfield.Airfield.{Airfield}
 use Rattle.desk_machine.specs.States.{State, last_number}
 use Rattle.grid_exact.specs.declared.text.TheConstants.{LINE_LIMIT}
 use Rattle.oe_keeper.specs.Kept.{Kept}
-use Rattle.filing_desk.specs.Handed.{Told as ToldRows}
+use Rattle.desk_receipts.specs.Handed.{Told as ToldRows}
 use Rattle.line_desk.specs.Desk.{Answers, Serving, Step}
 use Rattle.line_desk.proofs.StepFacts.{after_wanting, blank, refused_long}
 use Rattle.oe_asof.specs.Lines.{Long, asks}

@@ -4,10 +4,10 @@ use Rattle.airfields.specs.declared.airfield.Airfield.{Airfield}
 use Rattle.oe_keeper.specs.Kept.{Kept}
 use Rattle.desk_machine.specs.States.{State, last_number}
 use Rattle.line_desk.specs.Desk.{Plain, Serving, StepOver}
-use Rattle.line_session.specs.Machine.{Step}
-use Rattle.line_session.specs.Session.{Answered, Begun, WritesWhole}
-use Rattle.line_session.specs.declared.session.Ended.{Ended}
-use Rattle.line_session.specs.declared.session.Ended.TheVariants as endings
+use Rattle.oe_http.specs.Machine.{Step}
+use Rattle.oe_http.specs.Session.{Answered, Begun, WritesWhole}
+use Rattle.oe_http.specs.declared.session.Ended.{Ended}
+use Rattle.oe_http.specs.declared.session.Ended.TheVariants as endings
 use Rattle.oe_asof.specs.Lines.{asks}
 use Rattle.oe_asof.specs.Replies.{IsToldOf}
 

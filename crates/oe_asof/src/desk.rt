@@ -14,20 +14,19 @@ use crate::question::asks_as_of;
 use crate::told::append_refused;
 use csv::ByteRecord;
 use filing_desk::Clerk;
-use grid_exact::{LINE_LIMIT, NoMemory, Steps};
+use grid_exact::{LINE_LIMIT, NoMemory};
 use line_desk::append_answer;
-use line_session::Answering;
 use oe_findings::Findings;
+use oe_http::Answering;
 use oe_keeper::Keeper;
 use std::alloc::Global;
 use std::marker::Model;
 use std::sync::Arc;
-use std::sync::ledger::{Blank, Ledger};
 use wire_requests::{ReadRefusal, RecordReader};
 
 /// A desk with the versions of the airfields since it opened; seen as all that it holds, its keeper, and its opening.
 #[derive(Drop)]
-pub struct DatedDesk<K: Keeper, L: Ledger> {
+pub struct DatedDesk<K: Keeper> {
     alloc: Global,
     clerk: Clerk<K>,
     history: History,
@@ -36,10 +35,9 @@ pub struct DatedDesk<K: Keeper, L: Ledger> {
     records: RecordReader,
     list: Findings,
     row: ByteRecord,
-    steps: Steps<L>,
 }
 
-impl<K: Keeper, L: Ledger> Model for DatedDesk<K, L> {
+impl<K: Keeper> Model for DatedDesk<K> {
     ghost use Rattle.std.specs.Prelude.{◌≡◌, true};
     ghost use Rattle.line_desk.specs.Desk.{Serving, serving};
     ghost use Rattle.oe_asof.specs.Histories.{HasAll, base_in, opening_in};
@@ -90,13 +88,12 @@ pub(crate) fn history_from<K: Keeper>(alloc: Global, clerk: &Clerk<K>) -> Result
 }
 
 /// Appends the reply to a line that asks for no earlier list, and keeps the version that it leads to.
-fn serve<K: Keeper, L: Ledger>(
+fn serve<K: Keeper>(
     alloc: Global,
     clerk: &mut Clerk<K>,
     history: &mut History,
     records: &mut RecordReader,
     list: &mut Findings,
-    steps: &mut Steps<L>,
     line: &[u8],
     text: &mut String,
 ) -> Result<(), NoMemory>
@@ -117,19 +114,16 @@ fn serve<K: Keeper, L: Ledger>(
         Ok(()) => {}
         Err(_) => return append_refused(text, ReadRefusal::NoMemory),
     }
-    append_answer(alloc, clerk, records, list, steps, line, text)?;
+    append_answer(alloc, clerk, records, list, line, text)?;
     keep_version(alloc, clerk, history)
 }
 
-impl<K: Keeper, L: Ledger> DatedDesk<K, L> {
-    /// A desk over this clerk, with a history that begins with its airfields. Its steps are counted in the ledger that `blank` opens. It
-    /// allocates nothing.
-    pub fn over(alloc: Global, clerk: Clerk<K>, history: History, blank: Blank) -> DatedDesk<K, L>
+impl<K: Keeper> DatedDesk<K> {
+    /// A desk over this clerk, with a history that begins with its airfields. It allocates
+    /// nothing.
+    pub fn over(alloc: Global, clerk: Clerk<K>, history: History) -> DatedDesk<K>
         requires begins { IsCurrent (last_number clerk.state) clerk.state.register
             clerk.state history.versions }
-        requires name { blank.name ≡ L.name }
-        requires parts { blank.parts ≡ L.parts }
-        requires some { 0 < L.parts }
         ensures { result ≡ opened_over (serving clerk) }
     {
         DatedDesk {
@@ -140,12 +134,11 @@ impl<K: Keeper, L: Ledger> DatedDesk<K, L> {
             records: RecordReader::new(alloc),
             list: Findings::new(alloc),
             row: ByteRecord::new(alloc),
-            steps: Steps::new(blank),
         }
     }
 }
 
-impl<K: Keeper, L: Ledger> Answering for DatedDesk<K, L> {
+impl<K: Keeper> Answering for DatedDesk<K> {
     ghost use Rattle.oe_asof.specs.Sessions.{DatedOver};
 
     ghost step = { DatedOver K.Tells K.IsSteady K.faults };
@@ -157,14 +150,7 @@ impl<K: Keeper, L: Ledger> Answering for DatedDesk<K, L> {
             return Err(NoMemory);
         }
         if asks_as_of(line) {
-            return append_told(
-                self.alloc,
-                &self.history,
-                &mut self.row,
-                &mut self.steps,
-                line,
-                text,
-            );
+            return append_told(self.alloc, &self.history, &mut self.row, line, text);
         }
         self.whole = false;
         let served = serve(
@@ -173,7 +159,6 @@ impl<K: Keeper, L: Ledger> Answering for DatedDesk<K, L> {
             &mut self.history,
             &mut self.records,
             &mut self.list,
-            &mut self.steps,
             line,
             text,
         );

@@ -1,8 +1,8 @@
 //! The session of a desk that keeps what the airfields were.
 
-ghost use Rattle.std.specs.Prelude.{◌≡◌, ◌<◌};
+ghost use Rattle.std.specs.Prelude.{◌≡◌};
 ghost use Rattle.line_desk.specs.Desk.{serving};
-ghost use Rattle.line_session.specs.Session.{HasCauses, IsOfLines};
+ghost use Rattle.oe_http.specs.Session.{HasCauses, IsOfLines};
 ghost use Rattle.desk_machine.specs.States.{last_number};
 ghost use Rattle.oe_asof.specs.Histories.{IsCurrent};
 ghost use Rattle.oe_asof.specs.Sessions.{DatedSession};
@@ -10,27 +10,20 @@ ghost use Rattle.oe_asof.specs.Sessions.{DatedSession};
 use crate::desk::{DatedDesk, history_from};
 use crate::history::History;
 use filing_desk::Clerk;
-use line_session::{Ended, records};
-use oe_http::{Sink, Source};
+use oe_http::{Ended, Sink, Source, records};
 use oe_keeper::Keeper;
 use std::alloc::Global;
-use std::marker::Brand;
-use std::sync::ledger::{Blank, Ledger};
 
-/// Runs the session of a desk with this history, whose steps are counted in the ledger that `blank` opens.
-fn session<K: Keeper + Drop, L: Ledger, S: Source, O: Sink>(
+/// Runs the session of a desk with this history.
+fn session<K: Keeper + Drop, S: Source, O: Sink>(
     alloc: Global,
     clerk: Clerk<K>,
     history: History,
-    blank: Blank,
     input: &mut S,
     output: &mut O,
 ) -> Ended
     requires begins { IsCurrent (last_number clerk.state) clerk.state.register
         clerk.state history.versions }
-    requires name { blank.name ≡ L.name }
-    requires parts { blank.parts ≡ L.parts }
-    requires some { 0 < L.parts }
     ensures told { DatedSession K.Tells K.IsSteady K.faults (serving clerk) result
         (S.left input.old) (S.left input.new) (O.held output.old) (O.held output.new) }
     ensures lines { IsOfLines result }
@@ -39,7 +32,7 @@ fn session<K: Keeper + Drop, L: Ledger, S: Source, O: Sink>(
 {
     records(
         alloc,
-        &mut DatedDesk::<K, L>::over(alloc, clerk, history, blank),
+        &mut DatedDesk::over(alloc, clerk, history),
         input,
         output,
     )
@@ -64,9 +57,7 @@ pub fn dated_records<K: Keeper + Drop, S: Source, O: Sink>(
         (S.faults input.old) (S.faults input.new) (O.faults output.old) (O.faults output.new) }
 {
     match history_from(alloc, &clerk) {
-        Ok(history) => {
-            session::<K, Brand, S, O>(alloc, clerk, history, Blank::new(1), input, output)
-        }
+        Ok(history) => session(alloc, clerk, history, input, output),
         Err(_) => Ended::NoMemory,
     }
 }

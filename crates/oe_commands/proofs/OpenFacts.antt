@@ -4,8 +4,8 @@ use Rattle.oe_keeper.specs.Kept.{Kept, place}
 use Rattle.oe_keeper.specs.declared.change.Table.{Table}
 use Rattle.desk_tables.specs.Opening.{IsFirstBad}
 use Rattle.filing_desk.specs.Loads.{HasOpenCause}
-use Rattle.filing_desk.specs.declared.opening.OpenRefusal.{OpenRefusal}
-use Rattle.filing_desk.specs.declared.opening.OpenRefusal.TheVariants as refusals
+use Rattle.desk_receipts.specs.declared.renewal.OpenRefusal.{OpenRefusal}
+use Rattle.desk_receipts.specs.declared.renewal.OpenRefusal.TheVariants as refusals
 use Rattle.oe_commands.specs.Runs.{IsUnopened, RunCauses}
 use Rattle.oe_commands.specs.Statuses.{refused_by}
 use Rattle.oe_commands.specs.declared.status.Status.TheVariants as statuses

@@ -1,14 +1,14 @@
 -- What the end of a session says of the status.
 use Rattle.std.proofs.Common.{ℕ, List, [], Option, refl, subst, sym, ap, ◌≡◌, ◌≢◌, ◌∙◌, ◌⊎◌, inl, inr}
-use Rattle.line_session.specs.Session.{Answered, Begun, HasCauses, IsOfLines, WritesWhole}
-use Rattle.line_session.specs.declared.session.Ended.{Ended}
-use Rattle.line_session.specs.declared.session.Ended.TheVariants as endings
+use Rattle.oe_http.specs.Session.{Answered, Begun, HasCauses, IsOfLines, WritesWhole}
+use Rattle.oe_http.specs.declared.session.Ended.{Ended}
+use Rattle.oe_http.specs.declared.session.Ended.TheVariants as endings
 use Rattle.oe_commands.specs.declared.status.Status.{Status}
 use Rattle.oe_commands.specs.declared.status.Status.TheVariants as statuses
 use Rattle.oe_commands.specs.Statuses.{status_of}
 use Rattle.command_words.specs.declared.commands.Service.{Service}
 use Rattle.command_words.specs.declared.commands.Service.TheVariants as services
-use Rattle.line_session.specs.Machine.{Step}
+use Rattle.oe_http.specs.Machine.{Step}
 use Rattle.oe_keeper.specs.Kept.{Kept}
 use Rattle.oe_keeper.specs.declared.change.Table.{Table}
 use Rattle.line_desk.specs.Desk.{Plain, Serving, StepOver}

@@ -6,8 +6,8 @@ use Rattle.std.specs.Str.Lines.{lines}
 use Rattle.oe_keeper.specs.Kept.{Key, Kept, key_cmp, place}
 use Rattle.oe_keeper.specs.declared.change.Table.{Table}
 use Rattle.oe_keeper.specs.declared.change.Table.TheVariants as tables
-use Rattle.line_session.specs.Machine.{Step, Starts}
-use Rattle.line_session.specs.Session.{AnsweredFront, Begun}
+use Rattle.oe_http.specs.Machine.{Step, Starts}
+use Rattle.oe_http.specs.Session.{AnsweredFront, Begun}
 use Rattle.desk_machine.specs.States.{State, empty, last_number}
 use Rattle.desk_tables.specs.Opening.{Opens, IsFirstBad, count_of, is_in, renewed, with_format, with_today, with_wanting}
 use Rattle.desk_tables.proofs.RowsRead.{none_renewed}

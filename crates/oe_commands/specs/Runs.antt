@@ -3,11 +3,11 @@ use Rattle.std.specs.Prelude.{ℕ, List, [], ◌≡◌, ◌⊎◌, Option}
 use Rattle.oe_http.specs.Causes.{Rose}
 use Rattle.oe_http.specs.declared.lines.TheConstants.{INPUT_LIMIT}
 use Rattle.oe_keeper.specs.Kept.{Key, Kept, place}
-use Rattle.line_session.specs.Machine.{Step}
-use Rattle.line_session.specs.Session.{Answered, AnsweredFront, AnsweredRead, Begun, ReadToEnd, TookAtLeast}
+use Rattle.oe_http.specs.Machine.{Step}
+use Rattle.oe_http.specs.Session.{Answered, AnsweredFront, AnsweredRead, Begun, ReadToEnd, TookAtLeast}
 use Rattle.desk_tables.specs.Opening.{Opens, IsFirstBad}
-use Rattle.filing_desk.specs.Keepers.{IsLater}
-use Rattle.filing_desk.specs.Handed.{Told}
+use Rattle.desk_receipts.specs.Keepers.{IsLater}
+use Rattle.desk_receipts.specs.Handed.{Told}
 use Rattle.line_desk.specs.Desk.{Plain, Serving, StepOver}
 use Rattle.desk_machine.specs.States.{State, last_number}
 use Rattle.site_questions.specs.Charts.{chart}

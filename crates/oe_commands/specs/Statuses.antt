@@ -2,12 +2,12 @@
 use Rattle.std.specs.Prelude.{ℕ, List, ◌++◌, codes}
 use Rattle.oe_keeper.specs.declared.change.Table.{Table}
 use Rattle.oe_keeper.specs.declared.change.Table.TheVariants as tables
-use Rattle.line_session.specs.declared.session.Ended.{Ended}
-use Rattle.line_session.specs.declared.session.Ended.TheVariants as endings
+use Rattle.oe_http.specs.declared.session.Ended.{Ended}
+use Rattle.oe_http.specs.declared.session.Ended.TheVariants as endings
 use Rattle.desk_service.specs.declared.service.ServiceEnd.{ServiceEnd}
 use Rattle.desk_service.specs.declared.service.ServiceEnd.TheVariants as ends
-use Rattle.filing_desk.specs.declared.opening.OpenRefusal.{OpenRefusal}
-use Rattle.filing_desk.specs.declared.opening.OpenRefusal.TheVariants as refusals
+use Rattle.desk_receipts.specs.declared.renewal.OpenRefusal.{OpenRefusal}
+use Rattle.desk_receipts.specs.declared.renewal.OpenRefusal.TheVariants as refusals
 use Rattle.oe_commands.specs.declared.status.Status.{Status}
 use Rattle.oe_commands.specs.declared.status.Status.TheVariants as statuses
 

@@ -3,7 +3,7 @@
 ghost use Rattle.std.specs.Prelude.{◌≡◌, ◌≢◌, List, ℕ, Option};
 ghost use Rattle.oe_keeper.specs.declared.change.Table.{Table};
 ghost use Rattle.desk_machine.specs.States.{empty};
-ghost use Rattle.line_session.specs.Session.{Unfailed};
+ghost use Rattle.oe_http.specs.Session.{Unfailed};
 ghost use Rattle.command_words.specs.Commands.{AskFor, IsCommand};
 ghost use Rattle.oe_commands.specs.Commands.{AsksForGate};
 ghost use Rattle.oe_commands.specs.Runs.{IsComplete, PlainRun};

@@ -4,8 +4,8 @@ ghost use Rattle.std.specs.Prelude.{◌≡◌, ◌≢◌, ◌<◌, ◌≤◌, �
 ghost use Rattle.oe_keeper.specs.Kept.{Kept, place};
 ghost use Rattle.oe_keeper.specs.declared.change.Table.{Table};
 ghost use Rattle.desk_tables.specs.Opening.{IsFirstBad};
-ghost use Rattle.line_session.specs.Session.{Answered, Begun, HasCauses, IsOfLines, Unfailed, WritesWhole};
-ghost use Rattle.filing_desk.specs.Handed.{Told};
+ghost use Rattle.oe_http.specs.Session.{Answered, Begun, HasCauses, IsOfLines, Unfailed, WritesWhole};
+ghost use Rattle.desk_receipts.specs.Handed.{Told};
 ghost use Rattle.line_desk.specs.Desk.{Serving, StepOver, serving};
 ghost use Rattle.desk_machine.specs.States.{last_number};
 ghost use Rattle.site_questions.specs.Questions.{QuestionSession};
@@ -24,29 +24,22 @@ use command_words::{Command, Service, Words};
 use desk_service::Plan;
 use filing_desk::Clerk;
 use line_desk::LineDesk;
-use line_session::{Ended, records};
 use link_gates::Gate;
 use oe_asof::dated_records;
-use oe_http::{Sink, Source};
+use oe_http::{Ended, Sink, Source, records};
 use oe_keeper::Keeper;
 use site_questions::{Question, questions};
 use std::alloc::Global;
-use std::marker::Brand;
 use std::sync::Wait;
-use std::sync::ledger::{Blank, Ledger};
 use std::thread::Threads;
 
-/// Runs the session of a desk over this clerk, whose steps are counted in the ledger that `blank` opens.
-fn session<K: Keeper + Drop, L: Ledger, S: Source, O: Sink>(
+/// Runs the session of a desk over this clerk.
+fn session<K: Keeper + Drop, S: Source, O: Sink>(
     alloc: Global,
     clerk: Clerk<K>,
-    blank: Blank,
     input: &mut S,
     output: &mut O,
 ) -> Ended
-    requires name { blank.name ≡ L.name }
-    requires parts { blank.parts ≡ L.parts }
-    requires some { 0 < L.parts }
     ensures closed { result ≡ Ended.Closed
         → (after : Serving K) × Answered (StepOver K.Tells K.IsSteady K.faults) (serving clerk)
         after (S.left input.old) (O.held output.old) (O.held output.new) }
@@ -59,12 +52,7 @@ fn session<K: Keeper + Drop, L: Ledger, S: Source, O: Sink>(
     ensures causes { HasCauses result (S.left input.old) (S.left input.new)
         (S.faults input.old) (S.faults input.new) (O.faults output.old) (O.faults output.new) }
 {
-    records(
-        alloc,
-        &mut LineDesk::<K, L>::over(alloc, clerk, blank),
-        input,
-        output,
-    )
+    records(alloc, &mut LineDesk::over(alloc, clerk), input, output)
 }
 
 /// Replies to questions over the airfields of this clerk.
@@ -106,9 +94,7 @@ fn serve<K: Keeper + Drop, S: Source, O: Sink>(
     // what the keeper tells are the rows of the clerk
     clerk.keeper();
     match service {
-        Service::Desk => {
-            ended_status(session::<K, Brand, S, O>(alloc, clerk, Blank::new(1), input, output))
-        }
+        Service::Desk => { ended_status(session(alloc, clerk, input, output)) }
         Service::AsOf => ended_status(dated_records(alloc, clerk, input, output)),
         Service::Ceiling => ended_status(ask(alloc, &clerk, Question::Ceilings, input, output)),
         Service::Stations => ended_status(ask(alloc, &clerk, Question::Ways, input, output)),

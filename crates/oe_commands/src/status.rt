@@ -6,7 +6,7 @@ ghost use Rattle.oe_commands.specs.Statuses.{number_of, refused_by, served_statu
 use desk_service::ServiceEnd;
 use filing_desk::OpenRefusal;
 use grid_exact::Text;
-use line_session::Ended;
+use oe_http::Ended;
 use oe_keeper::Table;
 use std::fmt;
 

@@ -1,6 +1,9 @@
 pub mod Causes
 pub mod Fakes
 pub mod Lines
+pub mod Machine
 pub mod Pending
 pub mod Pieces
+pub mod Replies
+pub mod Session
 pub mod Written

@@ -3,10 +3,10 @@ use Rattle.std.proofs.Common.{◌≡◌, inl, inr, ⊎_elim, ℕ, ◌+◌, Bool,
 use Rattle.std.proofs.lemmas.List.{drop-drop}
 use Rattle.crash_disks.specs.Bytes.{Holds}
 use Rattle.crash_disks.specs.Crash.{Passes}
-use Rattle.change_frames.specs.Spelling.{spelled, block}
+use Rattle.oe_journal.specs.Spelling.{spelled, block}
 use Rattle.oe_keeper.specs.Kept.{Kept, rows_after_changes}
 use Rattle.oe_keeper.specs.declared.change.RowChange.{RowChange}
-use Rattle.change_frames.specs.Frames.{rows_of}
+use Rattle.oe_journal.specs.Frames.{rows_of}
 use Rattle.oe_journal.proofs.Moments.{passes_as, passes_then}
 use Rattle.oe_journal.specs.Standing.{acknowledged, MayStand, MayStandWith, StaysReady, IsUnappended, IsAppended, IsBlock, IsFrame}
 

@@ -7,10 +7,10 @@ use Rattle.oe_keeper.specs.Kept.{Kept, rows_after_changes}
 use Rattle.oe_keeper.specs.declared.change.RowChange.{RowChange}
 use Rattle.crash_disks.specs.Bytes.{Holds, Torn}
 use Rattle.crash_disks.specs.Crash.{Only, After, Follows}
-use Rattle.change_frames.specs.Spelling.{spelled, block}
-use Rattle.change_frames.specs.Frames.{counts, extent, rows_of}
-use Rattle.change_frames.proofs.Runs.{closed_gate, extent_within}
-use Rattle.change_frames.proofs.Meaning.{IsSame, same_rows, IsOpen, block_open, HasMore}
+use Rattle.oe_journal.specs.Spelling.{spelled, block}
+use Rattle.oe_journal.specs.Frames.{counts, extent, rows_of}
+use Rattle.oe_journal.proofs.FrameRuns.{closed_gate, extent_within}
+use Rattle.oe_journal.proofs.Meaning.{IsSame, same_rows, IsOpen, block_open, HasMore}
 use Rattle.oe_journal.specs.Standing.{gated, closed_at, acknowledged, MayStand, MayStandWith, IsReady, StaysReady, IsUnappended, IsAppended, IsStagedAt, IsBlock}
 use Rattle.oe_journal.proofs.Images.{gated-take, gated-drop, gated-behind, gated-length, gated-gate, gated-gated, torn_gate, holds_gate, closed_rows, open_rows, torn_front, torn_behind-gate, staged}
 

@@ -3,10 +3,10 @@ use Rattle.std.proofs.Common.{◌≡◌, ◌≢◌, ℕ, ◌+◌, ◌<◌, ◌�
 use Rattle.std.proofs.lemmas.List.{take_at, drop_at, drop_more, take-take, drop-drop, get_or-drop, get_or_at, get_or-take}
 use Rattle.oe_keeper.specs.declared.change.RowChange.{RowChange}
 use Rattle.crash_disks.specs.Bytes.{Holds, Torn}
-use Rattle.change_frames.specs.Spelling.{spelled, block, AreChanges}
-use Rattle.change_frames.specs.Frames.{counts, extent}
-use Rattle.change_frames.proofs.Runs.{closed_gate}
-use Rattle.change_frames.proofs.Meaning.{IsSame, same_rows, HasMore, one_more}
+use Rattle.oe_journal.specs.Spelling.{spelled, block, AreChanges}
+use Rattle.oe_journal.specs.Frames.{counts, extent}
+use Rattle.oe_journal.proofs.FrameRuns.{closed_gate}
+use Rattle.oe_journal.proofs.Meaning.{IsSame, same_rows, HasMore, one_more}
 use Rattle.oe_journal.specs.Standing.{gated, closed_at}
 
 pub torn_front : (at n : ℕ) (old new : List ℕ) → at ≤ length old → Torn at n old new → take at new ≡ take at old

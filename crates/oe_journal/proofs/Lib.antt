@@ -1,3 +1,10 @@
+pub mod FrameRuns
+pub mod Meaning
+pub mod ReadingLoop
+pub mod Again
+pub mod Takes
+pub mod FileLoop
+pub mod Spelled
 pub mod Images
 pub mod Moments
 pub mod Gates

@@ -4,9 +4,9 @@ use Rattle.std.proofs.lemmas.Bool.{eqb-true, cases_lt}
 use Rattle.std.proofs.lemmas.List.{take_at, drop_at, take_all, drop_all, take-take, append-nil, get_or_at, nil_from_length}
 use Rattle.crash_disks.specs.Bytes.{Holds, Torn, Cut}
 use Rattle.crash_disks.specs.Crash.{Only, After}
-use Rattle.change_frames.specs.Frames.{counts, extent, rows_of}
-use Rattle.change_frames.proofs.Runs.{closed_gate, short_file, extent_within, extent_closed, counts_nil}
-use Rattle.change_frames.proofs.Meaning.{IsSame, same_rows, cut_rows}
+use Rattle.oe_journal.specs.Frames.{counts, extent, rows_of}
+use Rattle.oe_journal.proofs.FrameRuns.{closed_gate, short_file, extent_within, extent_closed, counts_nil}
+use Rattle.oe_journal.proofs.Meaning.{IsSame, same_rows, cut_rows}
 use Rattle.oe_journal.specs.Standing.{closed_at, IsMended}
 use Rattle.oe_journal.proofs.Images.{torn_front}
 

@@ -3,7 +3,7 @@ use Rattle.std.specs.Prelude.{◌≡◌, ◌≤◌, ℕ, ◌^◌, Bool, true, fa
 use Rattle.crash_disks.specs.Crash.{Passes}
 use Rattle.oe_keeper.specs.Kept.{Kept}
 use Rattle.oe_keeper.specs.declared.change.RowChange.{RowChange}
-use Rattle.change_frames.specs.Frames.{extent, rows_of}
+use Rattle.oe_journal.specs.Frames.{extent, rows_of}
 use Rattle.oe_journal.specs.declared.journal.JournalKeeper.{JournalKeeper}
 use Rattle.oe_journal.specs.Standing.{acknowledged, closed_at, MayStand, MayStandWith, IsReady}
 

@@ -1,3 +1,6 @@
+pub mod Spelling
+pub mod Reading
+pub mod Frames
 pub mod Standing
 pub mod Journal
 pub mod Results

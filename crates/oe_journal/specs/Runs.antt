@@ -1,7 +1,7 @@
 -- What a run of calls of a journal comes to: the rows that stand after each call, and those that a crash leaves at a moment of it.
 use Rattle.std.specs.Prelude.{◌≡◌, ◌⊎◌, ℕ, ◌≤◌, Bool, true, false, List, [], ◌∷◌}
 use Rattle.crash_disks.specs.Crash.{Rose, LeavesDuring}
-use Rattle.change_frames.specs.Frames.{rows_of}
+use Rattle.oe_journal.specs.Frames.{rows_of}
 use Rattle.oe_keeper.specs.Kept.{Kept, rows_after_changes}
 use Rattle.oe_keeper.specs.declared.change.RowChange.{RowChange}
 use Rattle.oe_journal.specs.declared.journal.JournalKeeper.{JournalKeeper}

@@ -3,8 +3,8 @@ use Rattle.std.specs.Prelude.{◌≡◌, ◌≢◌, ◌⊎◌, ℕ, ◌+◌, ◌
 use Rattle.crash_disks.specs.Bytes.{Holds}
 use Rattle.oe_keeper.specs.Kept.{Kept, rows_after_changes}
 use Rattle.oe_keeper.specs.declared.change.RowChange.{RowChange}
-use Rattle.change_frames.specs.Spelling.{spelled, block, AreChanges}
-use Rattle.change_frames.specs.Frames.{extent, rows_of}
+use Rattle.oe_journal.specs.Spelling.{spelled, block, AreChanges}
+use Rattle.oe_journal.specs.Frames.{extent, rows_of}
 
 -- the file with this byte at this place
 abbrev pub gated : ℕ → ℕ → List ℕ → List ℕ

@@ -2,7 +2,7 @@
 
 ghost use Rattle.std.specs.Prelude.{◌≡◌, ◌≤◌, ◌<◌, ◌^◌, true, false, List, IfOk, OnOk, OnErr, length, option_copied};
 ghost use Rattle.crash_disks.specs.Crash.{LeavesDuring, HasCause};
-ghost use Rattle.change_frames.specs.Frames.{rows_of};
+ghost use Rattle.oe_journal.specs.Frames.{rows_of};
 ghost use Rattle.oe_keeper.specs.declared.change.RowChange.{RowChange as Change};
 ghost use Rattle.std.proofs.Common.{◌∙◌, sym};
 ghost use Rattle.oe_keeper.specs.Kept.{Kept, rows_after_changes};
@@ -12,10 +12,11 @@ ghost use Rattle.oe_journal.specs.Journal.{IsTelling, TellsNothing, IsLoadedOver
 ghost use Rattle.oe_journal.specs.Journal.{FindsOver, CutsOver, acknowledged_by, MayStandIn, MayStandAfter};
 ghost use Rattle.oe_journal.specs.Standing.{IsReady, IsUnappended, IsAppended, IsWritten, IsFrame};
 
+use crate::marks::OPEN_GATE;
 use crate::mending::mend;
 use crate::reading::read_rows;
 use crate::steps::{settle, stage};
-use change_frames::{OPEN_GATE, frame_of};
+use crate::writing::frame_of;
 use crash_disks::{Disk, Failed, write_synced};
 use oe_keeper::{KeepErr, Keeper, RowChange, Tables};
 use std::alloc::Global;

@@ -3,10 +3,10 @@
 
 ghost use Rattle.std.specs.Prelude.{◌≡◌, ◌≤◌, ◌<◌, ◌+◌, ◌^◌, List, ℕ, OnOk, length, take, nat_eq};
 ghost use Rattle.crash_disks.specs.Crash.{Only, LeavesDuring, HasCause};
-ghost use Rattle.change_frames.specs.Frames.{rows_of, extent};
+ghost use Rattle.oe_journal.specs.Frames.{rows_of, extent};
 ghost use Rattle.oe_journal.specs.Standing.{IsMended};
 
-use change_frames::CLOSED_GATE;
+use crate::marks::CLOSED_GATE;
 use crash_disks::{Disk, Failed, cut_synced, write_synced};
 
 /// Cuts the file behind the first gate that does not count, unless it is empty.

@@ -3,10 +3,10 @@
 ghost use Rattle.std.specs.Prelude.{◌≡◌, ◌≤◌, ◌<◌, ◌^◌, IfOk, OnOk, length, take, nat_eq};
 ghost use Rattle.crash_disks.specs.Crash.{Only, Stays, LeavesDuring};
 ghost use Rattle.oe_keeper.specs.Keeping.{HasCause};
-ghost use Rattle.change_frames.specs.Frames.{rows_of, extent};
+ghost use Rattle.oe_journal.specs.Frames.{rows_of, extent};
 ghost use Rattle.oe_journal.specs.Results.{UnlessFailed};
 
-use change_frames::rows_in;
+use crate::frames::rows_in;
 use crash_disks::Disk;
 use oe_keeper::{KeepErr, Tables};
 use std::alloc::Global;

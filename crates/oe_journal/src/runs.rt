@@ -2,7 +2,7 @@
 
 ghost use Rattle.std.specs.Prelude.{◌≡◌, true, List, Vec, IfOk, OnErr, length};
 ghost use Rattle.crash_disks.specs.Crash.{LeavesDuring};
-ghost use Rattle.change_frames.specs.Frames.{rows_of};
+ghost use Rattle.oe_journal.specs.Frames.{rows_of};
 ghost use Rattle.std.specs.declared.alloc.Global.{Global as OfMemory};
 ghost use Rattle.oe_keeper.specs.Kept.{Kept};
 ghost use Rattle.oe_keeper.specs.declared.change.RowChange.{RowChange as Change};

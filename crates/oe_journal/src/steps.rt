@@ -2,10 +2,10 @@
 
 ghost use Rattle.std.specs.Prelude.{◌≡◌, ◌≤◌, ◌+◌, ◌^◌, ◌<◌, true, false, OnOk, OnErr, length, drop};
 ghost use Rattle.crash_disks.specs.Crash.{LeavesDuring, HasCause};
-ghost use Rattle.change_frames.specs.Frames.{rows_of};
+ghost use Rattle.oe_journal.specs.Frames.{rows_of};
 ghost use Rattle.oe_journal.specs.Standing.{MayStand, IsReady, StaysReady, IsStagedAt};
 
-use change_frames::CLOSED_GATE;
+use crate::marks::CLOSED_GATE;
 use crash_disks::{Disk, Failed, write_synced};
 
 /// Closes the gate where an earlier call may have opened it.

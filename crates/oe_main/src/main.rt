@@ -4,7 +4,7 @@
 #![tactic(auto)]
 
 use crash_disks::FileDisk;
-use loopback_gate::TcpGate;
+use link_gates::TcpGate;
 use oe_commands::run::run;
 use oe_commands::{Status, Words};
 use oe_http::{ReadSource, WriteSink};

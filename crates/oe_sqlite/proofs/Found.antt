@@ -14,9 +14,9 @@ use Rattle.sqlite.specs.State.{State, HasCleanDisk, Opens, IsLive}
 use Rattle.sqlite.specs.Files.{HoldsDatabase, AreFoundIn}
 use Rattle.sqlite.proofs.ListingLemmas.{empty_is_sound}
 use Rattle.oe_keeper.specs.Kept.{Kept}
-use Rattle.keeper_table.specs.Model.{Holds, tables_in}
-use Rattle.keeper_table.specs.Shape.{kept_schema, no_schema}
-use Rattle.oe_sqlite.specs.FileRows.{HoldsNone, HoldsRows, GiveRows, LoadsAs}
+use Rattle.oe_sqlite.specs.Model.{Holds, tables_in}
+use Rattle.oe_sqlite.specs.Shape.{kept_schema, no_schema}
+use Rattle.oe_sqlite.specs.FileRows.{HoldsNone, HoldsRows, GiveRows}
 use Rattle.oe_sqlite.proofs.Blank.{nothing_is_empty}
 
 abbrev FindsAll : Image → State → Type 0
@@ -44,7 +44,7 @@ module _ (image : Image) (s t : State) (is_told : Bool) (tables rows : Kept) (op
     (reads : HasCleanDisk s → AreFoundIn image s.committed.trees) (clean : doubt s.is_clean ≤ doubt t.is_clean) (told : HasCleanDisk t → IsTrue t.is_open → IsTrue is_told → Holds t tables)
     (shaped : s.now.schema ≡ kept_schema → s.now ≡ s.committed → HasCleanDisk t → IsTrue t.is_open → IsTrue is_told × (tables_in (s.now.trees 0) ≡ tables))
     (blank : s.now.schema ≡ no_schema → IsTrue is_told) (none : s.now.schema ≡ no_schema → HasCleanDisk t → tables ≡ maps.empty) where
-  pub loads : GiveRows image rows → LoadsAs t is_told tables rows
+  pub loads : GiveRows image rows → HasCleanDisk t → IsTrue t.is_open → IsTrue is_told × (tables ≡ rows) × Holds t rows
   loads held sure up =
       let early : HasCleanDisk s = omega arith in
       let it : IsTrue is_told × (tables ≡ rows) = elim held [

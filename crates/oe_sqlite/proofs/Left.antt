@@ -17,9 +17,9 @@ use Rattle.sqlite.specs.State.{IsLive}
 use Rattle.sqlite.specs.Files.{file_state, HoldsDatabase}
 use Rattle.sqlite.proofs.Theorems.{opens_again}
 use Rattle.oe_keeper.specs.Kept.{Kept}
-use Rattle.keeper_table.specs.Model.{AreRows, TellsIn}
-use Rattle.keeper_table.specs.Shape.{kept_schema}
-use Rattle.keeper_table.proofs.Crash.{crash_rows}
+use Rattle.oe_sqlite.specs.Model.{AreRows, TellsIn}
+use Rattle.oe_sqlite.specs.Shape.{kept_schema}
+use Rattle.oe_sqlite.proofs.Crash.{crash_rows}
 use Rattle.oe_sqlite.specs.FileRows.{HoldsRows}
 
 -- each image that the disk may leave holds a database that the store allows
@@ -37,7 +37,3 @@ crash_files c it rows stays tells live settled some clean numbered image may =
     let same = λ (db : Trees) (found : recovers it db). settled_at c.store stays db tells.1 (some db found) in
     let left = left_database it clean numbered (λ db found. (kept_schema, (last db (same db found)).sound)) image may in
     ((file_state c).committed.trees, ∥∥₁_map left (λ one. subst (HoldsDatabase image) (same one.0 one.1) one.2), last _ refl)
-
-pub either_rows : (image : Image) (db : Trees) (a b : Kept) → HoldsDatabase image db → AreRows db a ⊎ AreRows db b → HoldsRows image a ⊎ HoldsRows image b
-either_rows image db a b held (inl old) = inl (db, ∣ held ∣₁, old)
-either_rows image db a b held (inr new) = inr (db, ∣ held ∣₁, new)

@@ -12,7 +12,7 @@ use Rattle.sqlite_trees.specs.declared.memory.MemStore.{MemStore}
 use Rattle.sqlite.specs.Held.{Held, state}
 use Rattle.sqlite.specs.State.{HasCleanDisk}
 use Rattle.sqlite.specs.Steps.{over_memory}
-use Rattle.keeper_table.specs.Model.{Holds, IsHeld, TellsIn, StaysIn}
+use Rattle.oe_sqlite.specs.Model.{Holds, IsHeld, TellsIn, StaysIn}
 use Rattle.oe_sqlite.specs.Places.{TellsAt, IsHeldAt, IsCleanAt, IsInMemory, IsPlacedBy, IsStore, StaysAt, TellsWith}
 use Rattle.oe_sqlite.specs.declared.place.Place.{Place}
 use Rattle.oe_sqlite.specs.declared.place.Place.TheVariants.{Nowhere, Memory, File}

@@ -1,12 +1,11 @@
 -- The contents of a store's two files, and the rows that the next load of them gives.
-use Rattle.std.specs.Prelude.{◌≡◌, ◌⊎◌, Bool, IsTrue}
+use Rattle.std.specs.Prelude.{◌≡◌, ◌⊎◌}
 use Rattle.std.specs.FinMap as maps
 use Rattle.sqlite_wal.specs.Recovery.{Image}
 use Rattle.sqlite_trees.specs.Tree.{Trees}
 use Rattle.sqlite.specs.Files.{HoldsDatabase, IsNothing, IsEmpty}
-use Rattle.sqlite.specs.State.{State, HasCleanDisk}
 use Rattle.oe_keeper.specs.Kept.{Kept}
-use Rattle.keeper_table.specs.Model.{Holds, AreRows}
+use Rattle.oe_sqlite.specs.Model.{AreRows}
 
 -- the log and the database file hold the one table, with these rows
 abbrev pub HoldsRows : Image → Kept → Type 0
@@ -19,7 +18,3 @@ HoldsNone image = IsNothing image ⊎ ∥ ((db : Trees) × HoldsDatabase image d
 -- the rows that a load of the files gives
 abbrev pub GiveRows : Image → Kept → Type 0
 GiveRows image rows = HoldsRows image rows ⊎ (HoldsNone image × (rows ≡ maps.empty))
-
--- after a load the known rows are those that it loaded, while the store is clean and open
-abbrev pub LoadsAs : State → Bool → Kept → Kept → Type 0
-LoadsAs s is_told loaded rows = HasCleanDisk s → IsTrue s.is_open → IsTrue is_told × (loaded ≡ rows) × Holds s rows

@@ -11,8 +11,8 @@ use Rattle.sqlite.specs.State.{HasCleanDisk}
 use Rattle.sqlite.specs.Steps.{over_memory}
 use Rattle.oe_keeper.specs.Kept.{Kept}
 use Rattle.oe_sqlite.specs.FileRows.{GiveRows}
-use Rattle.keeper_table.specs.Model.{IsHeld, TellsIn}
-use Rattle.keeper_table.specs.Shape.{kept_schema, no_schema}
+use Rattle.oe_sqlite.specs.Model.{IsHeld, TellsIn}
+use Rattle.oe_sqlite.specs.Shape.{kept_schema, no_schema}
 use Rattle.oe_sqlite.specs.declared.place.Place.{Place}
 use Rattle.oe_sqlite.specs.declared.place.Place.TheVariants.{Nowhere, Memory, File}
 

@@ -8,7 +8,7 @@ ghost use Rattle.sqlite_trees.specs.View.{IsClean};
 ghost use Rattle.sqlite_trees.specs.Tree.{Trees};
 ghost use Rattle.sqlite.specs.Files.{HoldsDatabase};
 ghost use Rattle.oe_keeper.specs.Kept.{Kept, rows_after_changes};
-ghost use Rattle.keeper_table.specs.Model.{AreRows};
+ghost use Rattle.oe_sqlite.specs.Model.{AreRows};
 ghost use Rattle.oe_sqlite.specs.FileRows.{HoldsRows};
 ghost use Rattle.oe_keeper.specs.Keeping.{HasCause, IfFailed, Stays, StaysSilent, HasAll};
 ghost use Rattle.oe_sqlite.specs.declared.place.Place.TheVariants.{Nowhere};
@@ -17,7 +17,7 @@ ghost use Rattle.oe_sqlite.specs.Places.{IsInMemory, IsPlacedBy, IsStore, StaysA
 
 use crate::opens::{HostFiles, Opens};
 use crate::place::Place;
-use keeper_table::Stop;
+use crate::stop::Stop;
 use oe_keeper::{KeepErr, Keeper, RowChange, Tables};
 use sqlite::{Connection, FileStore};
 use std::alloc::Global;

@@ -1,18 +1,21 @@
-//! A keeper over SQLite, in a file or in memory: its one table over two files, the state of the files when a store with known rows ends,
-//! by a close or a crash, and that the next store over them loads the same rows.
+//! A keeper over SQLite, in a file or in memory: its one table `kept`, which holds the rows of all five tables, the four SQL texts that run
+//! over it, the state of the two files when a store with known rows ends, by a close or a crash, and that the next store over them loads
+//! the same rows. Column `t` is the table's index from 0 to 4, `k` the key, `v` the row.
 #![tactic(auto)]
 
 mod keeper;
 mod laws;
 mod leave;
-mod load;
-mod next;
 mod opens;
 mod place;
+mod reopened;
+mod rows;
+mod schema;
+mod stop;
+mod store;
+mod told;
+mod transaction;
 
 pub use keeper::{SqliteKeeper, StoreKeeper};
 pub use laws::{told_after_crash, told_again};
-pub use leave::{change_and_leave, close_rows, is_settled, leave_rows};
-pub use load::{load_files, load_path};
-pub use next::load_next;
 pub use opens::{HostFiles, Opens, StartFiles};

@@ -13,7 +13,7 @@ use Rattle.desk_machine.specs.Machine.{Answer as Decided, decide}
 use Rattle.filing_desk.specs.declared.answer.Answer.{Answer}
 use Rattle.filing_desk.specs.declared.answer.Answer.TheVariants as answers
 use Rattle.filing_desk.specs.Clerks.{Clerking, IsReplay, Advances}
-use Rattle.filing_desk.specs.Handed.{HasCause}
+use Rattle.filing_desk.specs.Served.{HasCause}
 use Rattle.desk_tables.specs.Reachable.{IsDesk}
 use Rattle.tree_versions.specs.Fronts.{Edition}
 use Rattle.tree_versions.proofs.Prefixes.{prefix_length}

@@ -11,7 +11,7 @@ use Rattle.desk_machine.specs.Machine.{Answer as Decided, Kept, No, Done, decide
 use Rattle.filing_desk.specs.declared.answer.Answer.{Answer}
 use Rattle.filing_desk.specs.declared.answer.Answer.TheVariants as answers
 use Rattle.filing_desk.specs.Clerks.{Clerking, Advances}
-use Rattle.filing_desk.specs.Handed.{HasCause}
+use Rattle.filing_desk.specs.Served.{HasCause}
 use Rattle.publishing_clerk.specs.Publishing.{GoesOn}
 
 -- a request with its reply and a note: the number of the last entry published before, the list that was given, and the clerk before and after

@@ -3,7 +3,7 @@
 ghost use Rattle.std.specs.Prelude.{◌≡◌, ◌≤◌, Some, option_copied};
 ghost use mathlib.Core.List.{IsPrefix};
 ghost use Rattle.publishing_clerk.specs.Evaluations.{given_in};
-ghost use Rattle.filing_desk.specs.Handed.{Told};
+ghost use Rattle.desk_receipts.specs.Handed.{Told};
 ghost use Rattle.publishing_clerk.specs.Publishing.{GoesOn};
 ghost use Rattle.publishing_clerk.specs.Rulings.{IsRuled};
 ghost use Rattle.publishing_clerk.specs.Fronts.{HasRuled, IsCounted, IsFilingOf, IsReplied, WasAsked};
@@ -16,13 +16,11 @@ use crate::front::Front;
 use crate::opening::Opening;
 use crate::ruling::Ruling;
 use desk_machine::Entry;
-use grid_exact::Steps;
 use oe_findings::Sky;
 use oe_keeper::Keeper;
 use oe_wire::{Change, Query};
 use std::alloc::Global;
 use std::sync::Wait;
-use std::sync::ledger::Ledger;
 use tree_versions::Note;
 
 /// Holds the clerk of one session, and tells it. Its faults are those of its keeper. Use it up by `into_clerk`.
@@ -85,19 +83,13 @@ impl<K: Keeper, J: Opening> Front<J> for Alone<K, J> {
         self.clerk.apply(rt, alloc, c, evaluated)
     }
 
-    fn answer<R: Wait, L: Ledger>(
-        &mut self,
-        _rt: &R,
-        alloc: Global,
-        q: &Query,
-        steps: &mut Steps<L>,
-    ) -> Answered<K, J>
+    fn answer<R: Wait>(&mut self, _rt: &R, alloc: Global, q: &Query) -> Answered<K, J>
         ensures query { result.query ≡ q.now }
         ensures replied { IsReplied J.opening result }
         ensures told { WasAsked (Some self.old.clerk) result }
         ensures same { self.new.clerk ≡ self.old.clerk }
     {
-        ask(alloc, &mut self.clerk, steps, q)
+        ask(alloc, &mut self.clerk, q)
     }
 
     fn note<R: Wait>(&mut self, _rt: &R) -> Note<Entry, Sky, J>

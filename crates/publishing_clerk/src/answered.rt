@@ -8,14 +8,12 @@ use crate::opening::Opening;
 use desk_machine::Entry;
 use desk_queries::reply;
 use filing_desk::Clerk;
-use grid_exact::Steps;
 use oe_findings::Sky;
 use oe_keeper::Keeper;
 use oe_wire::{Query, Reply};
 use std::alloc::Global;
 use std::marker::Model;
 use std::snapshot::Snapshot;
-use std::sync::ledger::Ledger;
 use tree_versions::Note;
 
 /// A query, its reply, and a note of what is published. It cannot be copied, and only a clerk that is asked makes one. Contracts also see
@@ -70,10 +68,9 @@ impl<K: Keeper, J: Opening> Answered<K, J> {
 }
 
 /// Asks a clerk.
-pub(crate) fn ask<K: Keeper, J: Opening, L: Ledger>(
+pub(crate) fn ask<K: Keeper, J: Opening>(
     alloc: Global,
     clerk: &mut PublishingClerk<K, J>,
-    steps: &mut Steps<L>,
     query: &Query,
 ) -> Answered<K, J>
     ensures query { result.query ≡ query.now }
@@ -87,7 +84,7 @@ pub(crate) fn ask<K: Keeper, J: Opening, L: Ledger>(
     Answered {
         query: Snapshot::of(query),
         clerk: Snapshot::of(clerk.clerk()),
-        reply: reply(alloc, clerk.clerk(), steps, query),
+        reply: reply(alloc, clerk.clerk(), query),
         note,
     }
 }

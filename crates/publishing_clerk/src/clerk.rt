@@ -4,7 +4,7 @@ ghost use Rattle.std.specs.Prelude.{◌≡◌, ◌+◌, ◌<◌, ◌≤◌, ◌^
 ghost use mathlib.Core.List.{IsPrefix};
 ghost use Rattle.desk_machine.specs.States.{case_at, last_number};
 ghost use Rattle.desk_machine.specs.Evaluations.{site_of};
-ghost use Rattle.filing_desk.specs.Handed.{Told};
+ghost use Rattle.desk_receipts.specs.Handed.{Told};
 ghost use Rattle.desk_tables.specs.Reachable.{IsDesk};
 ghost use Rattle.publishing_clerk.specs.Evaluations.{given_in};
 ghost use Rattle.publishing_clerk.specs.Publishing.{GoesOn, IsOpening, Publishing};

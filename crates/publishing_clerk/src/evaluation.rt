@@ -1,6 +1,6 @@
 //! Lists of findings that are evaluated over a version that a seat showed.
 
-ghost use Rattle.std.specs.Prelude.{◌≡◌, ◌+◌, ◌≤◌, ℕ, Some, IfOk, length};
+ghost use Rattle.std.specs.Prelude.{◌≡◌, ◌+◌, ◌<◌, ◌≤◌, ℕ, Some, IfOk, length};
 ghost use Rattle.std.specs.Arc.{arc_value};
 ghost use Rattle.surface_tree.specs.declared.square.TheConstants.{TOP_LEVEL};
 ghost use Rattle.oe_findings.specs.List.{findings_of};
@@ -17,8 +17,8 @@ use finding_lists::Findings;
 use grid_exact::{NoMemory, Steps};
 use oe_findings::Sky;
 use std::alloc::Global;
-use std::marker::Model;
-use std::sync::ledger::Ledger;
+use std::marker::{Brand, Model};
+use std::sync::ledger::{Blank, Ledger};
 use tree_versions::{Front, Snapshot};
 
 /// The list of findings of a structure over a version that a seat showed. Contracts see both, and the front of the version.
@@ -40,7 +40,45 @@ impl<J: Opening> Model for Evaluation<J> {
         (record { filing = e.filing; front = e.front; list = e.list }) };
 }
 
+/// As `Evaluation::over`; the steps are counted in the ledger that `blank` opens.
+fn counted_evaluation<J: Opening, L: Ledger>(
+    alloc: Global,
+    snapshot: &Snapshot<Entry, Sky, J>,
+    filing: &Filing,
+    blank: Blank,
+) -> Result<Evaluation<J>, NoMemory>
+    requires name { blank.name ≡ L.name }
+    requires parts { blank.parts ≡ L.parts }
+    requires some { 0 < L.parts }
+    ensures list { IfOk result (λ e. e ≡ record {
+      filing = filing.now;
+      front = snapshot.now.front;
+      list = findings_of (arc_value snapshot.now.value) filing.now;
+    }) }
+{
+    Evaluation::of(alloc, snapshot, filing, &mut Steps::<L>::new(blank))
+}
+
 impl<J: Opening> Evaluation<J> {
+    /// Evaluates a structure over the version of a snapshot, in steps that nobody counts.
+    ///
+    /// # Errors
+    ///
+    /// `NoMemory` if memory was refused.
+    pub fn over(
+        alloc: Global,
+        snapshot: &Snapshot<Entry, Sky, J>,
+        filing: &Filing,
+    ) -> Result<Evaluation<J>, NoMemory>
+        ensures list { IfOk result (λ e. e ≡ record {
+          filing = filing.now;
+          front = snapshot.now.front;
+          list = findings_of (arc_value snapshot.now.value) filing.now;
+        }) }
+    {
+        counted_evaluation::<J, Brand>(alloc, snapshot, filing, Blank::new(1))
+    }
+
     /// Evaluates a structure over the version of a snapshot.
     ///
     /// # Errors

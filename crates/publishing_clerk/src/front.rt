@@ -3,7 +3,7 @@
 ghost use Rattle.std.specs.Prelude.{◌≡◌, ◌≤◌, ℕ, Option, IfSome, option_copied};
 ghost use mathlib.Core.List.{IsPrefix};
 ghost use Rattle.publishing_clerk.specs.Evaluations.{given_in};
-ghost use Rattle.filing_desk.specs.Handed.{Told};
+ghost use Rattle.desk_receipts.specs.Handed.{Told};
 ghost use Rattle.publishing_clerk.specs.Publishing.{GoesOn, Publishing};
 ghost use Rattle.publishing_clerk.specs.Rulings.{IsRuled};
 ghost use Rattle.publishing_clerk.specs.Fronts.{HasRuled, IsCounted, IsFilingOf, IsReplied, WasAsked};
@@ -14,13 +14,11 @@ use crate::evaluation::Evaluation;
 use crate::opening::Opening;
 use crate::ruling::Ruling;
 use desk_machine::Entry;
-use grid_exact::Steps;
 use oe_findings::Sky;
 use oe_keeper::Keeper;
 use oe_wire::{Change, Query};
 use std::alloc::Global;
 use std::sync::Wait;
-use std::sync::ledger::Ledger;
 use tree_versions::Note;
 
 /// Asks the clerk of the opening that the name says, for one session. Where it tells its clerk, each call is the clerk's own.
@@ -63,13 +61,7 @@ pub trait Front<J: Opening> {
         ensures later { faults self.old ≤ faults self.new };
 
     /// Has a query answered over the present state. Nothing changes.
-    fn answer<R: Wait, L: Ledger>(
-        &mut self,
-        rt: &R,
-        alloc: Global,
-        q: &Query,
-        steps: &mut Steps<L>,
-    ) -> Answered<Self::Keeper, J>
+    fn answer<R: Wait>(&mut self, rt: &R, alloc: Global, q: &Query) -> Answered<Self::Keeper, J>
         ensures query { result.query ≡ q.now }
         ensures replied { IsReplied J.opening result }
         ensures told { WasAsked (clerk self.old) result }

@@ -13,12 +13,10 @@ use crate::front::Front;
 use crate::opening::Opening;
 use crate::ruling::Ruling;
 use desk_machine::Entry;
-use grid_exact::Steps;
 use oe_findings::Sky;
 use oe_keeper::Keeper;
 use oe_wire::{Change, Query, Refusal, Reply};
 use std::alloc::Global;
-use std::sync::ledger::Ledger;
 use std::sync::{Mutex, Wait};
 use tree_versions::Note;
 
@@ -86,19 +84,13 @@ impl<'a, K: Keeper, J: Opening> Front<J> for Locked<'a, K, J> {
         ruling
     }
 
-    fn answer<R: Wait, L: Ledger>(
-        &mut self,
-        rt: &R,
-        alloc: Global,
-        q: &Query,
-        steps: &mut Steps<L>,
-    ) -> Answered<K, J>
+    fn answer<R: Wait>(&mut self, rt: &R, alloc: Global, q: &Query) -> Answered<K, J>
         ensures query { result.query ≡ q.now }
         ensures replied { IsReplied J.opening result }
         ensures faults { self.new.faults ≡ self.old.faults }
     {
         let mut clerk = self.clerk.lock(rt);
-        ask(alloc, &mut clerk, steps, q)
+        ask(alloc, &mut clerk, q)
     }
 
     fn note<R: Wait>(&mut self, rt: &R) -> Note<Entry, Sky, J>

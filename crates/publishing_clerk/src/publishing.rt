@@ -7,7 +7,7 @@ ghost use Rattle.wire_requests.specs.Changes.{Asked};
 ghost use Rattle.desk_machine.specs.States.{last_number};
 ghost use Rattle.desk_machine.specs.Machine.{decide};
 ghost use Rattle.filing_desk.specs.Clerks.{Advances};
-ghost use Rattle.filing_desk.specs.Handed.{HasCause};
+ghost use Rattle.filing_desk.specs.Served.{HasCause};
 ghost use Rattle.publishing_clerk.specs.Evaluations.{given_in};
 ghost use Rattle.publishing_clerk.specs.Publishing.{IsPublishing, IsSameOffer, offered};
 

@@ -13,11 +13,11 @@ use Rattle.oe_keeper.specs.Keeping.{StaysSilent}
 use Rattle.desk_tables.specs.Rows.{AreRows}
 use Rattle.desk_tables.specs.Opening.{Opens, IsFirstBad}
 use Rattle.filing_desk.specs.Clerks.{Clerking}
-use Rattle.filing_desk.specs.Handed.{Told}
-use Rattle.filing_desk.specs.Keepers.{HasLoaded}
+use Rattle.desk_receipts.specs.Handed.{Told}
+use Rattle.desk_receipts.specs.Keepers.{HasLoaded}
 use Rattle.filing_desk.specs.Loads.{IsOpened, HasOpenCause}
-use Rattle.filing_desk.specs.declared.opening.OpenRefusal.{OpenRefusal}
-use Rattle.filing_desk.specs.declared.opening.OpenRefusal.TheVariants as refusals
+use Rattle.desk_receipts.specs.declared.renewal.OpenRefusal.{OpenRefusal}
+use Rattle.desk_receipts.specs.declared.renewal.OpenRefusal.TheVariants as refusals
 use Rattle.reopening_laws.specs.Refusals.{IsNoBadRow, StillTells}
 
 state_code : Coded State

@@ -1,9 +1,9 @@
 -- Reopening a clerk, and its errors.
 use Rattle.std.specs.Prelude.{◌⊎◌, ℕ, List, Option}
 use Rattle.oe_keeper.specs.Kept.{Kept}
-use Rattle.filing_desk.specs.Keepers.{HasLoaded}
-use Rattle.filing_desk.specs.declared.opening.OpenRefusal.{OpenRefusal}
-use Rattle.filing_desk.specs.declared.opening.OpenRefusal.TheVariants.{KeeperFault, BadRow, NoMemory}
+use Rattle.desk_receipts.specs.Keepers.{HasLoaded}
+use Rattle.desk_receipts.specs.declared.renewal.OpenRefusal.{OpenRefusal}
+use Rattle.desk_receipts.specs.declared.renewal.OpenRefusal.TheVariants.{KeeperFault, BadRow, NoMemory}
 
 -- the rows that a load finds are those of the keeper: it can find no others, or its rows are known before the load and after it
 abbrev pub StillTells : {K : Type 0} → (K → Kept → Type 0) → (K → Option (List ℕ) → Kept → Type 0) → K → Option (List ℕ) → K → Type 0

@@ -4,10 +4,10 @@ use Rattle.std.specs.Io.KnownBytes.{Appends}
 use Rattle.std.specs.Result.{OnOk, is_err}
 use Rattle.std.specs.Str.Lines.{lines}
 use Rattle.oe_http.proofs.SentFacts.{appends_on, appends_none}
-use Rattle.line_session.specs.Machine.{Runs, Starts}
-use Rattle.line_session.specs.Session.{Answered, AnsweredFront, Begun}
-use Rattle.line_session.specs.declared.session.Ended.{Ended}
-use Rattle.line_session.specs.declared.session.Ended.TheVariants as endings
+use Rattle.oe_http.specs.Machine.{Runs, Starts}
+use Rattle.oe_http.specs.Session.{Answered, AnsweredFront, Begun}
+use Rattle.oe_http.specs.declared.session.Ended.{Ended}
+use Rattle.oe_http.specs.declared.session.Ended.TheVariants as endings
 use Rattle.oe_http.specs.Written.{Sent}
 use Rattle.airfields.specs.Sites.{Site}
 use Rattle.site_questions.specs.Ways.{Survey, WayStep, way_end}

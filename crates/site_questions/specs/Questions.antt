@@ -1,9 +1,9 @@
 -- The bytes that a session of questions has read and written, by how it ended.
 use Rattle.std.specs.Prelude.{ℕ, List, [], ◌≡◌, Option}
 use Rattle.airfields.specs.declared.airfield.Airfield.{Airfield}
-use Rattle.line_session.specs.Session.{Answered, Begun, WritesWhole}
-use Rattle.line_session.specs.declared.session.Ended.{Ended}
-use Rattle.line_session.specs.declared.session.Ended.TheVariants as endings
+use Rattle.oe_http.specs.Session.{Answered, Begun, WritesWhole}
+use Rattle.oe_http.specs.declared.session.Ended.{Ended}
+use Rattle.oe_http.specs.declared.session.Ended.TheVariants as endings
 use Rattle.site_questions.specs.Charts.{Chart, chart}
 use Rattle.site_questions.specs.Ceilings.{CeilingStep}
 use Rattle.site_questions.specs.Ways.{Survey, WayStep, survey}

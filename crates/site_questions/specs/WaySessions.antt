@@ -4,9 +4,9 @@ use Rattle.std.specs.Prelude.{ℕ, List, [], ◌∷◌, ◌++◌, ◌≡◌, ◌
 use Rattle.std.specs.Io.KnownBytes.{Appends}
 use Rattle.std.specs.Str.Lines.{lines}
 use Rattle.airfields.specs.Sites.{Site}
-use Rattle.line_session.specs.Machine.{Runs, Starts}
-use Rattle.line_session.specs.declared.session.Ended.{Ended}
-use Rattle.line_session.specs.declared.session.Ended.TheVariants as endings
+use Rattle.oe_http.specs.Machine.{Runs, Starts}
+use Rattle.oe_http.specs.declared.session.Ended.{Ended}
+use Rattle.oe_http.specs.declared.session.Ended.TheVariants as endings
 use Rattle.site_questions.specs.Ways.{Survey, WayStep, way_end}
 
 -- what ends a way at the end of the input: the line that ends a way, where it has stations

@@ -3,7 +3,7 @@
 ghost use Rattle.std.specs.Prelude.{◌≡◌, ◌<◌, ◌≤◌, ◌++◌, List, ℕ, Option, length, OnOk, OnErr, codes, string_bytes};
 ghost use Rattle.grid_exact.specs.Texts.{Extends};
 ghost use Rattle.oe_ceiling.specs.Ceilings.{IsCeilingOf};
-ghost use Rattle.line_session.specs.Session.{Answered, Begun, HasCauses, IsOfLines, WritesWhole};
+ghost use Rattle.oe_http.specs.Session.{Answered, Begun, HasCauses, IsOfLines, WritesWhole};
 ghost use Rattle.site_questions.specs.Ceilings.{CeilingAnswers, CeilingStep, IsCeilingReply, IsRecordReply, ceiling_text, height_text};
 ghost use Rattle.site_questions.specs.Charts.{Chart, chart};
 
@@ -11,10 +11,9 @@ use crate::screens::{FORM_FIELD, append_refused, screen_of};
 use airfields::Filing;
 use finding_lists::Finding;
 use grid_exact::{LINE_LIMIT, NoMemory, Steps};
-use line_session::{Answering, Ended, records};
 use oe_ceiling::{ceiling, findings_above};
 use oe_findings::Sky;
-use oe_http::{Sink, Source};
+use oe_http::{Answering, Ended, Sink, Source, records};
 use std::alloc::Global;
 use std::marker::{Brand, Model};
 use std::sync::ledger::{Blank, Ledger};
@@ -27,15 +26,14 @@ pub const HEIGHT_FIELD: u32 = 5;
 
 /// Answers lines that ask how high a structure may be; seen as the airfields, and the number of the last accepted change.
 #[derive(Drop)]
-pub struct CeilingDesk<'a, L: Ledger> {
+pub struct CeilingDesk<'a> {
     alloc: Global,
     sky: &'a Sky,
     last: u64,
     records: RecordReader,
-    steps: Steps<L>,
 }
 
-impl<'a, L: Ledger> Model for CeilingDesk<'a, L> {
+impl<'a> Model for CeilingDesk<'a> {
     ghost use Rattle.site_questions.specs.Charts.{Chart, chart};
 
     ghost Value = { Chart };
@@ -74,12 +72,35 @@ fn append_ceiling(
     append_text(text, "\n")
 }
 
-/// Appends the ceiling of a structure, whose own height is not used.
-fn append_bound<L: Ledger>(
+/// As `append_bound`; the steps are counted in the ledger that `blank` opens.
+fn append_counted_bound<L: Ledger>(
     alloc: Global,
     sky: &Sky,
     last: u64,
-    steps: &mut Steps<L>,
+    filing: &Filing,
+    blank: Blank,
+    text: &mut String,
+) -> Result<(), NoMemory>
+    requires name { blank.name ≡ L.name }
+    requires parts { blank.parts ≡ L.parts }
+    requires some { 0 < L.parts }
+    ensures ok { OnOk result (IsCeilingReply (chart sky.now last) filing.now
+        (string_bytes text.old) (string_bytes text.new)) }
+    ensures part { OnErr result (Extends (string_bytes text.old) (string_bytes text.new)) }
+{
+    let mut steps = Steps::<L>::new(blank);
+    let height = ceiling(sky, filing, &mut steps);
+    match findings_above(alloc, sky, filing, height, &mut steps) {
+        Ok(list) => append_ceiling(text, last, height, list.as_slice()),
+        Err(_) => append_refused(text, ReadRefusal::NoMemory),
+    }
+}
+
+/// Appends the ceiling of a structure, whose own height is not used.
+fn append_bound(
+    alloc: Global,
+    sky: &Sky,
+    last: u64,
     filing: &Filing,
     text: &mut String,
 ) -> Result<(), NoMemory>
@@ -87,19 +108,14 @@ fn append_bound<L: Ledger>(
         (string_bytes text.old) (string_bytes text.new)) }
     ensures part { OnErr result (Extends (string_bytes text.old) (string_bytes text.new)) }
 {
-    let height = ceiling(sky, filing, steps);
-    match findings_above(alloc, sky, filing, height, steps) {
-        Ok(list) => append_ceiling(text, last, height, list.as_slice()),
-        Err(_) => append_refused(text, ReadRefusal::NoMemory),
-    }
+    append_counted_bound::<Brand>(alloc, sky, last, filing, Blank::new(1), text)
 }
 
 /// Appends the reply to a record.
-fn append_told<L: Ledger>(
+fn append_told(
     alloc: Global,
     sky: &Sky,
     last: u64,
-    steps: &mut Steps<L>,
     request: &Request,
     text: &mut String,
 ) -> Result<(), NoMemory>
@@ -115,16 +131,15 @@ fn append_told<L: Ledger>(
         let field = HEIGHT_FIELD;
         return append_refused(text, ReadRefusal::Malformed { field });
     }
-    append_bound(alloc, sky, last, steps, filing, text)
+    append_bound(alloc, sky, last, filing, text)
 }
 
 /// Appends the reply to a line; an empty line has none.
-fn append_answer<L: Ledger>(
+fn append_answer(
     alloc: Global,
     sky: &Sky,
     last: u64,
     records: &mut RecordReader,
-    steps: &mut Steps<L>,
     line: &[u8],
     text: &mut String,
 ) -> Result<(), NoMemory>
@@ -136,18 +151,15 @@ fn append_answer<L: Ledger>(
         return Ok(());
     }
     match records.record(line) {
-        Ok(request) => append_told(alloc, sky, last, steps, &request, text),
+        Ok(request) => append_told(alloc, sky, last, &request, text),
         Err(refusal) => append_refused(text, refusal),
     }
 }
 
-impl<'a, L: Ledger> CeilingDesk<'a, L> {
-    /// A desk over these airfields, where `last` is the number of the last accepted change. Its steps are counted in the ledger that
-    /// `blank` opens. It allocates nothing.
-    pub fn over(alloc: Global, sky: &'a Sky, last: u64, blank: Blank) -> CeilingDesk<'a, L>
-        requires name { blank.name ≡ L.name }
-        requires parts { blank.parts ≡ L.parts }
-        requires some { 0 < L.parts }
+impl<'a> CeilingDesk<'a> {
+    /// A desk over these airfields, where `last` is the number of the last accepted change. It allocates
+    /// nothing.
+    pub fn over(alloc: Global, sky: &'a Sky, last: u64) -> CeilingDesk<'a>
         ensures { result ≡ chart sky.now last }
     {
         CeilingDesk {
@@ -155,12 +167,11 @@ impl<'a, L: Ledger> CeilingDesk<'a, L> {
             sky,
             last,
             records: RecordReader::new(alloc),
-            steps: Steps::new(blank),
         }
     }
 }
 
-impl<'a, L: Ledger> Answering for CeilingDesk<'a, L> {
+impl<'a> Answering for CeilingDesk<'a> {
     ghost use Rattle.site_questions.specs.Ceilings.{CeilingStep};
 
     ghost step = { CeilingStep };
@@ -171,7 +182,6 @@ impl<'a, L: Ledger> Answering for CeilingDesk<'a, L> {
             self.sky,
             self.last,
             &mut self.records,
-            &mut self.steps,
             line,
             text,
         )
@@ -180,36 +190,6 @@ impl<'a, L: Ledger> Answering for CeilingDesk<'a, L> {
     fn answer_long(&mut self, text: &mut String) -> Result<(), NoMemory> {
         append_refused(text, ReadRefusal::Malformed { field: 0 })
     }
-}
-
-/// Runs the session, whose steps are counted in the ledger that `blank` opens.
-fn counted_ceilings<L: Ledger, S: Source, O: Sink>(
-    alloc: Global,
-    sky: &Sky,
-    last: u64,
-    blank: Blank,
-    input: &mut S,
-    output: &mut O,
-) -> Ended
-    requires name { blank.name ≡ L.name }
-    requires parts { blank.parts ≡ L.parts }
-    requires some { 0 < L.parts }
-    ensures closed { result ≡ Ended.Closed → (after : Chart) × Answered CeilingStep (chart sky.now last)
-        after (S.left input.old) (O.held output.old) (O.held output.new) }
-    ensures begun { Begun CeilingStep (chart sky.now last) (S.left input.old)
-        (O.held output.old) (O.held output.new) }
-    ensures written { (after : Chart) × WritesWhole CeilingStep (chart sky.now last) after result
-        (S.left input.old) (S.left input.new) (O.held output.old) (O.held output.new) }
-    ensures lines { IsOfLines result }
-    ensures causes { HasCauses result (S.left input.old) (S.left input.new) (S.faults input.old)
-        (S.faults input.new) (O.faults output.old) (O.faults output.new) }
-{
-    records(
-        alloc,
-        &mut CeilingDesk::<L>::over(alloc, sky, last, blank),
-        input,
-        output,
-    )
 }
 
 /// Replies to each line of the input, in order, with the ceiling of the structure that it asks about, over these airfields. `last` is the
@@ -234,5 +214,10 @@ pub fn ceilings<S: Source, O: Sink>(
     ensures causes { HasCauses result (S.left input.old) (S.left input.new) (S.faults input.old)
         (S.faults input.new) (O.faults output.old) (O.faults output.new) }
 {
-    counted_ceilings::<Brand, S, O>(alloc, sky, last, Blank::new(1), input, output)
+    records(
+        alloc,
+        &mut CeilingDesk::over(alloc, sky, last),
+        input,
+        output,
+    )
 }

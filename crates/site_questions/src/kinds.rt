@@ -1,13 +1,12 @@
 //! Both kinds of questions, behind one function.
 
-ghost use Rattle.line_session.specs.Session.{HasCauses, IsOfLines};
+ghost use Rattle.oe_http.specs.Session.{HasCauses, IsOfLines};
 ghost use Rattle.site_questions.specs.Questions.{QuestionSession};
 
 use crate::ceiling_desk::ceilings;
 use crate::way_desk::ways;
-use line_session::Ended;
 use oe_findings::Sky;
-use oe_http::{Sink, Source};
+use oe_http::{Ended, Sink, Source};
 use std::alloc::Global;
 
 /// What the lines of a session ask.

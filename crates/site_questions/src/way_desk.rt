@@ -3,7 +3,7 @@
 ghost use Rattle.std.specs.Prelude.{◌≡◌, ◌≢◌, ◌<◌, ◌≤◌, ◌++◌, [], List, ℕ, length, OnOk, OnErr, codes, string_bytes};
 ghost use Rattle.std.specs.List.{flat_map};
 ghost use Rattle.grid_exact.specs.Texts.{Extends};
-ghost use Rattle.line_session.specs.Session.{HasCauses, IsOfLines, WritesWhole};
+ghost use Rattle.oe_http.specs.Session.{HasCauses, IsOfLines, WritesWhole};
 ghost use Rattle.oe_http.specs.Causes.{Rose};
 ghost use Rattle.site_questions.specs.Charts.{chart};
 ghost use Rattle.site_questions.specs.Ways.{Survey, WayAnswers, WayStep, IsJoinReply, IsStationReply, IsWayReply, counts_text, joining_text, station_text, survey, way_text};
@@ -12,9 +12,8 @@ ghost use Rattle.site_questions.specs.WaySessions.{WaysAnswered, WaysBegun, Clos
 use crate::screens::{FORM_FIELD, append_refused, screen_of};
 use airfields::Filing;
 use grid_exact::{LINE_LIMIT, NoMemory, Steps};
-use line_session::{Answering, Ended, records};
 use oe_findings::Sky;
-use oe_http::{Sink, Source, write_whole};
+use oe_http::{Answering, Ended, Sink, Source, records, write_whole};
 use oe_stations::{Way, WayFinding, WayRefusal, way_findings};
 use std::alloc::Global;
 use std::marker::{Brand, Model};
@@ -29,16 +28,15 @@ const WAY_END: &[u8] = b"-";
 /// Answers lines that give ways station by station; seen as the airfields, the number of the last accepted change, and the stations of
 /// the way since the last one ended.
 #[derive(Drop)]
-pub struct WayDesk<'a, L: Ledger> {
+pub struct WayDesk<'a> {
     alloc: Global,
     sky: &'a Sky,
     last: u64,
     way: Way,
     records: RecordReader,
-    steps: Steps<L>,
 }
 
-impl<'a, L: Ledger> Model for WayDesk<'a, L> {
+impl<'a> Model for WayDesk<'a> {
     ghost use Rattle.site_questions.specs.Ways.{Survey, survey};
 
     ghost Value = { Survey };
@@ -91,33 +89,51 @@ fn append_way_text(
     append_text(text, "\n")
 }
 
-/// Appends the findings of a way that has stations.
-fn append_way<L: Ledger>(
+/// As `append_way`; the steps are counted in the ledger that `blank` opens.
+fn append_counted_way<L: Ledger>(
     alloc: Global,
     sky: &Sky,
     last: u64,
     way: &Way,
-    steps: &mut Steps<L>,
+    blank: Blank,
     text: &mut String,
 ) -> Result<(), NoMemory>
-    requires some { 0 < length way.now }
+    requires name { blank.name ≡ L.name }
+    requires parts { blank.parts ≡ L.parts }
+    requires some { 0 < L.parts }
+    requires stations { 0 < length way.now }
     ensures ok { OnOk result (IsWayReply (chart sky.now last) way.now
         (string_bytes text.old) (string_bytes text.new)) }
     ensures part { OnErr result (Extends (string_bytes text.old) (string_bytes text.new)) }
 {
-    match way_findings(alloc, sky, way, steps) {
+    match way_findings(alloc, sky, way, &mut Steps::<L>::new(blank)) {
         Ok(list) => append_way_text(text, last, way.len() as u64, list.as_slice()),
         Err(_) => append_refused(text, ReadRefusal::NoMemory),
     }
 }
 
+/// Appends the findings of a way that has stations.
+fn append_way(
+    alloc: Global,
+    sky: &Sky,
+    last: u64,
+    way: &Way,
+    text: &mut String,
+) -> Result<(), NoMemory>
+    requires stations { 0 < length way.now }
+    ensures ok { OnOk result (IsWayReply (chart sky.now last) way.now
+        (string_bytes text.old) (string_bytes text.new)) }
+    ensures part { OnErr result (Extends (string_bytes text.old) (string_bytes text.new)) }
+{
+    append_counted_way::<Brand>(alloc, sky, last, way, Blank::new(1), text)
+}
+
 /// Ends the way, and appends its findings; a way without stations is refused.
-fn append_end<L: Ledger>(
+fn append_end(
     alloc: Global,
     sky: &Sky,
     last: u64,
     way: &mut Way,
-    steps: &mut Steps<L>,
     text: &mut String,
 ) -> Result<(), NoMemory>
     ensures ok { OnOk result (WayAnswers (survey sky.now last way.old) WAY_END.now
@@ -129,7 +145,7 @@ fn append_end<L: Ledger>(
     if way.is_empty() {
         return append_text(text, "no,37,WayEmpty\n");
     }
-    let told = append_way(alloc, sky, last, way, steps, text);
+    let told = append_way(alloc, sky, last, way, text);
     way.clear();
     told
 }
@@ -178,13 +194,12 @@ fn append_told(way: &mut Way, request: &Request, text: &mut String) -> Result<()
 }
 
 /// Appends the reply to a line; an empty line has none.
-fn append_answer<L: Ledger>(
+fn append_answer(
     alloc: Global,
     sky: &Sky,
     last: u64,
     way: &mut Way,
     records: &mut RecordReader,
-    steps: &mut Steps<L>,
     line: &[u8],
     text: &mut String,
 ) -> Result<(), NoMemory>
@@ -198,7 +213,7 @@ fn append_answer<L: Ledger>(
         return Ok(());
     }
     if line == WAY_END {
-        return append_end(alloc, sky, last, way, steps, text);
+        return append_end(alloc, sky, last, way, text);
     }
     match records.record(line) {
         Ok(request) => append_told(way, &request, text),
@@ -206,13 +221,10 @@ fn append_answer<L: Ledger>(
     }
 }
 
-impl<'a, L: Ledger> WayDesk<'a, L> {
-    /// A desk over these airfields with a way without stations, where `last` is the number of the last accepted change. Its steps are
-    /// counted in the ledger that `blank` opens. It allocates nothing.
-    pub fn over(alloc: Global, sky: &'a Sky, last: u64, blank: Blank) -> WayDesk<'a, L>
-        requires name { blank.name ≡ L.name }
-        requires parts { blank.parts ≡ L.parts }
-        requires some { 0 < L.parts }
+impl<'a> WayDesk<'a> {
+    /// A desk over these airfields with a way without stations, where `last` is the number of the last accepted change. It allocates
+    /// nothing.
+    pub fn over(alloc: Global, sky: &'a Sky, last: u64) -> WayDesk<'a>
         ensures { result ≡ survey sky.now last [] }
     {
         WayDesk {
@@ -221,7 +233,6 @@ impl<'a, L: Ledger> WayDesk<'a, L> {
             last,
             way: Way::new(alloc),
             records: RecordReader::new(alloc),
-            steps: Steps::new(blank),
         }
     }
 
@@ -246,7 +257,7 @@ impl<'a, L: Ledger> WayDesk<'a, L> {
     }
 }
 
-impl<'a, L: Ledger> Answering for WayDesk<'a, L> {
+impl<'a> Answering for WayDesk<'a> {
     ghost use Rattle.site_questions.specs.Ways.{WayStep};
 
     ghost step = { WayStep };
@@ -258,7 +269,6 @@ impl<'a, L: Ledger> Answering for WayDesk<'a, L> {
             self.last,
             &mut self.way,
             &mut self.records,
-            &mut self.steps,
             line,
             text,
         )
@@ -266,35 +276,6 @@ impl<'a, L: Ledger> Answering for WayDesk<'a, L> {
 
     fn answer_long(&mut self, text: &mut String) -> Result<(), NoMemory> {
         append_refused(text, ReadRefusal::Malformed { field: 0 })
-    }
-}
-
-/// Runs the session, whose steps are counted in the ledger that `blank` opens.
-fn counted_ways<L: Ledger, S: Source, O: Sink>(
-    alloc: Global,
-    sky: &Sky,
-    last: u64,
-    blank: Blank,
-    input: &mut S,
-    output: &mut O,
-) -> Ended
-    requires name { blank.name ≡ L.name }
-    requires parts { blank.parts ≡ L.parts }
-    requires some { 0 < L.parts }
-    ensures closed { result ≡ Ended.Closed → WaysAnswered (survey sky.now last [])
-        (S.left input.old) (O.held output.old) (O.held output.new) }
-    ensures begun { WaysBegun (survey sky.now last []) (S.left input.old)
-        (O.held output.old) (O.held output.new) }
-    ensures written { (after : Survey) × WritesWhole WayStep (survey sky.now last []) after result
-        (S.left input.old) (S.left input.new) (O.held output.old) (O.held output.new) }
-    ensures lines { IsOfLines result }
-    ensures causes { HasCauses result (S.left input.old) (S.left input.new) (S.faults input.old)
-        (S.faults input.new) (O.faults output.old) (O.faults output.new) }
-{
-    let mut desk = WayDesk::<L>::over(alloc, sky, last, blank);
-    match records(alloc, &mut desk, input, output) {
-        Ended::Closed => desk.close(output),
-        ended => ended,
     }
 }
 
@@ -323,5 +304,9 @@ pub fn ways<S: Source, O: Sink>(
     ensures causes { HasCauses result (S.left input.old) (S.left input.new) (S.faults input.old)
         (S.faults input.new) (O.faults output.old) (O.faults output.new) }
 {
-    counted_ways::<Brand, S, O>(alloc, sky, last, Blank::new(1), input, output)
+    let mut desk = WayDesk::over(alloc, sky, last);
+    match records(alloc, &mut desk, input, output) {
+        Ended::Closed => desk.close(output),
+        ended => ended,
+    }
 }

@@ -3,10 +3,9 @@
 ghost use Rattle.std.specs.Prelude.{◌≡◌, codes, false, true};
 ghost use Rattle.http_messages.specs.Frames.{is_length};
 
-use http_heads::{HEAD_LIMIT, MOST_FIELDS};
 use http_messages::{
-    BODY_LIMIT, BODY_TOO_LARGE, HEAD_TOO_LARGE, LENGTH_WANTED, MALFORMED, NO_MEMORY,
-    NO_TRANSFER_ENCODING,
+    BODY_LIMIT, BODY_TOO_LARGE, HEAD_LIMIT, HEAD_TOO_LARGE, LENGTH_WANTED, MALFORMED, MOST_FIELDS,
+    NO_MEMORY, NO_TRANSFER_ENCODING,
 };
 use http_session::{CONFLICT, MALFORMED_RECORD, NOT_ALLOWED, NOT_FOUND, NOT_KEPT, OK};
 

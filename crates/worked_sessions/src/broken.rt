@@ -2,8 +2,7 @@
 
 use filing_desk::OpenRefusal;
 use grid_exact::NoMemory;
-use line_session::Ended;
-use oe_http::Failed;
+use oe_http::{Ended, Failed};
 use oe_keeper::KeepErr;
 use std::alloc::{AllocError, AllocFailed};
 use std::io;

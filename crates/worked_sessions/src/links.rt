@@ -5,11 +5,9 @@ use crate::signs::{take_signs, write_signs};
 use grid_exact::Bytes;
 use http_session::{Routed, session};
 use line_desk::LineDesk;
-use line_session::Ended;
-use oe_http::{FakeLink, FakeSink, FakeSource, Sink, write_whole};
+use oe_http::{Ended, FakeLink, FakeSink, FakeSource, Sink, write_whole};
 use oe_keeper::Keeper;
 use std::alloc::Global;
-use std::sync::ledger::Ledger;
 
 /// There is room for so many bytes of what is written to one link.
 const ROOM: usize = 65_536;
@@ -27,9 +25,9 @@ fn write_ended<O: Sink>(alloc: Global, ended: Ended, output: &mut O) -> Result<(
 }
 
 /// One link over the desk.
-fn answer_link<K: Keeper + Drop, L: Ledger, O: Sink>(
+fn answer_link<K: Keeper + Drop, O: Sink>(
     alloc: Global,
-    desk: &mut Routed<LineDesk<K, L>>,
+    desk: &mut Routed<LineDesk<K>>,
     bytes: &[u8],
     most: usize,
     output: &mut O,
@@ -46,9 +44,9 @@ fn answer_link<K: Keeper + Drop, L: Ledger, O: Sink>(
 }
 
 /// The links of a section, one after another over one desk.
-pub(crate) fn answer_links<K: Keeper + Drop, L: Ledger, O: Sink>(
+pub(crate) fn answer_links<K: Keeper + Drop, O: Sink>(
     alloc: Global,
-    desk: &mut Routed<LineDesk<K, L>>,
+    desk: &mut Routed<LineDesk<K>>,
     lines: &[u8],
     most: usize,
     output: &mut O,

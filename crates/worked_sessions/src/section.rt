@@ -1,7 +1,5 @@
 //! Sections, one after another.
 
-ghost use Rattle.std.specs.Prelude.{◌≡◌, ◌<◌};
-
 use crate::broken::Broken;
 use crate::desks::{kept, unkept};
 use crate::links::answer_links;
@@ -11,15 +9,13 @@ use crate::stops::{Stopping, answer_stops};
 use crate::title::Wanted;
 use crash_disks::MemoryDisk;
 use filing_desk::Clerk;
-use http_routes::Routes;
+use http_messages::Routes;
 use http_session::Routed;
 use line_desk::LineDesk;
 use oe_http::{Sink, write_whole};
 use oe_journal::JournalKeeper;
 use oe_keeper::{ByName, FailList, Keeper, MemoryKeeper, Tables};
 use std::alloc::Global;
-use std::marker::Brand;
-use std::sync::ledger::{Blank, Ledger};
 
 /// The place of a journal.
 const PLACE: &str = "x.oej";
@@ -40,22 +36,14 @@ pub(crate) struct Sections {
 }
 
 /// What such a desk writes to some links.
-fn answer_http<K: Keeper + Drop, L: Ledger, O: Sink>(
+fn answer_http<K: Keeper + Drop, O: Sink>(
     alloc: Global,
     clerk: Clerk<K>,
-    blank: Blank,
     lines: &[u8],
     most: usize,
     output: &mut O,
-) -> Result<(), Broken>
-    requires name { blank.name ≡ L.name }
-    requires parts { blank.parts ≡ L.parts }
-    requires some { 0 < L.parts }
-{
-    let mut desk = Routed::new(
-        Routes::new(alloc)?,
-        LineDesk::<K, L>::over(alloc, clerk, blank),
-    );
+) -> Result<(), Broken> {
+    let mut desk = Routed::new(Routes::new(alloc)?, LineDesk::over(alloc, clerk));
     answer_links(alloc, &mut desk, lines, most, output)
 }
 
@@ -75,14 +63,7 @@ fn linked<O: Sink>(
     output: &mut O,
 ) -> Result<(), Broken> {
     let most = if is_bytewise { 1 } else { 65_536 };
-    answer_http::<_, Brand, O>(
-        alloc,
-        Clerk::unkept(alloc),
-        Blank::new(1),
-        lines,
-        most,
-        output,
-    )
+    answer_http(alloc, Clerk::unkept(alloc), lines, most, output)
 }
 
 impl Sections {

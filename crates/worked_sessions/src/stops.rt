@@ -1,7 +1,7 @@
 //! Sections over a journal whose disk stops, at each of its calls in turn.
 
 use crate::broken::Broken;
-use crate::desks::answer_apart;
+use crate::desks::answer_lines;
 use crash_disks::MemoryDisk;
 use filing_desk::{Clerk, OpenRefusal};
 use oe_http::{FakeSink, Sink, write_whole};
@@ -48,7 +48,7 @@ fn answered<K: Keeper + Drop>(
     lines: &[u8],
 ) -> Result<Run<K>, Broken> {
     let mut replies = FakeSink::new(alloc, ROOM, Vec::new(alloc))?;
-    let clerk = answer_apart(alloc, clerk, lines, &mut replies)?;
+    let clerk = answer_lines(alloc, clerk, lines, &mut replies)?;
     Ok(Run { clerk, replies })
 }
 

@@ -1,8 +1,8 @@
 use Rattle.std.proofs.Common.{arith, refl}
 use Rattle.http_session.proofs.CarryFacts.{runs_goes, runs_out, stays}
 use Rattle.http_session.proofs.UnderwayFacts.{underway_goes, underway_sent, underway_stops}
-use Rattle.line_session.proofs.EndingFacts.{completes, rose_since}
-use Rattle.line_session.proofs.SessionFacts.{fell_more}
+use Rattle.oe_http.proofs.EndingFacts.{completes, rose_since}
+use Rattle.oe_http.proofs.SessionFacts.{fell_more}
 use Rattle.http_session.proofs.link.session.Goals as goal
 
 pub messages-preserved : goal.messages-preserved

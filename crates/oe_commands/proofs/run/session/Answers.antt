@@ -1,5 +1,5 @@
 use Rattle.std.proofs.Common.{subst}
-use Rattle.line_session.specs.Session.{Answered, WritesWhole}
+use Rattle.oe_http.specs.Session.{Answered, WritesWhole}
 use Rattle.line_desk.specs.Desk.{Serving, StepOver}
 use Rattle.oe_commands.proofs.run.session.Goals as goal
 

@@ -1,7 +1,7 @@
 use Rattle.std.proofs.Common.{◌≡◌, ◌+◌, length, arith}
 use Rattle.crash_disks.specs.Bytes.{Cut}
 use Rattle.crash_disks.specs.Crash.{After}
-use Rattle.change_frames.specs.Frames.{rows_of}
+use Rattle.oe_journal.specs.Frames.{rows_of}
 use Rattle.oe_journal.proofs.Moments.{passes_as}
 use Rattle.oe_journal.proofs.Mended.{within, cut_left, bool_some}
 use Rattle.oe_journal.proofs.mending.cut_behind.Goals as goal

@@ -1,7 +1,7 @@
 use Rattle.std.proofs.Common.{◌≡◌, ◌≤◌, length, subst, sym}
 use Rattle.crash_disks.specs.Bytes.{Torn}
 use Rattle.crash_disks.specs.Crash.{After}
-use Rattle.change_frames.specs.Frames.{rows_of}
+use Rattle.oe_journal.specs.Frames.{rows_of}
 use Rattle.oe_journal.proofs.Moments.{passes_as, passes_then, on_ok_both}
 use Rattle.oe_journal.proofs.Mended.{reach, end_left, mended}
 use Rattle.oe_journal.proofs.mending.mend.Goals as goal

@@ -1,6 +1,6 @@
 use Rattle.std.proofs.Common.{inl, inr, refl, sym, subst, ◌∙◌}
 use Rattle.crash_disks.specs.Crash.{LeavesDuring}
-use Rattle.change_frames.specs.Frames.{rows_of}
+use Rattle.oe_journal.specs.Frames.{rows_of}
 use Rattle.oe_journal.specs.declared.runs.Call.TheVariants as calls_of
 use Rattle.oe_journal.specs.Journal.{IsTelling}
 use Rattle.oe_journal.specs.Runs.{after_apply, while_applied, IsOneOf, IsAsked, StandsSo, IsMade}

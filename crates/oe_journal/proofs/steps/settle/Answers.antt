@@ -1,7 +1,7 @@
 use Rattle.std.proofs.Common.{false, subst, sym}
 use Rattle.crash_disks.specs.Bytes.{Torn}
 use Rattle.crash_disks.specs.Crash.{After}
-use Rattle.change_frames.specs.Frames.{rows_of}
+use Rattle.oe_journal.specs.Frames.{rows_of}
 use Rattle.oe_journal.specs.Standing.{MayStand, IsReady, StaysReady}
 use Rattle.oe_journal.proofs.Moments.{passes_as}
 use Rattle.oe_journal.proofs.Images.{holds_behind}

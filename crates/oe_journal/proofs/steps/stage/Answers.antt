@@ -2,7 +2,7 @@ use Rattle.std.proofs.Common.{◌+◌, ℕ, List, drop, subst}
 use Rattle.std.proofs.lemmas.List.{take_rest}
 use Rattle.crash_disks.specs.Bytes.{Holds, Torn}
 use Rattle.crash_disks.specs.Crash.{After}
-use Rattle.change_frames.specs.Frames.{rows_of}
+use Rattle.oe_journal.specs.Frames.{rows_of}
 use Rattle.oe_journal.specs.Standing.{MayStand}
 use Rattle.oe_journal.proofs.Moments.{passes_as, on_ok_both, on_err}
 use Rattle.oe_journal.proofs.Gates.{stage_image, stage_err, stage_ok}

@@ -3,7 +3,7 @@ use Rattle.std.specs.Prelude.{option_copied}
 use Rattle.desk_machine.specs.declared.entry.Entry.{Entry}
 use Rattle.desk_machine.specs.States.{last_number}
 use Rattle.desk_machine.specs.Machine.{Answer as Decided, decide}
-use Rattle.filing_desk.specs.Handed.{HasCause}
+use Rattle.filing_desk.specs.Served.{HasCause}
 use Rattle.publishing_clerk.specs.Evaluations.{given_in}
 use Rattle.publishing_clerk.specs.Publishing.{IsPublishing}
 use Rattle.publishing_clerk.proofs.Offering.{Version}

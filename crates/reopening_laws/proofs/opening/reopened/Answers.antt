@@ -1,5 +1,5 @@
 use Rattle.std.proofs.Common.{IfErr, IfOk, option_copied, subst, sym, ◌≡◌}
-use Rattle.filing_desk.specs.Handed.{Told}
+use Rattle.desk_receipts.specs.Handed.{Told}
 use Rattle.reopening_laws.specs.Refusals.{IsNoBadRow, StillTells}
 use Rattle.reopening_laws.proofs.Telling.{no_bad_row, same_state}
 use Rattle.reopening_laws.proofs.opening.reopened.Goals as goal

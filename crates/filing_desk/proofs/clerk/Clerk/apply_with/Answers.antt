@@ -2,7 +2,7 @@ use Rattle.std.proofs.Common.{◌≤◌, ℕ, option_copied, subst, arith}
 use Rattle.desk_machine.specs.States.{last_number}
 use Rattle.desk_machine.specs.Machine.{decide}
 use Rattle.filing_desk.specs.Clerks.{Advances, Clerking}
-use Rattle.filing_desk.specs.Handed.{HasCause}
+use Rattle.filing_desk.specs.Served.{HasCause}
 use Rattle.filing_desk.proofs.Deciding.{advances, desk_on, opening_on, seen, within_on}
 use Rattle.filing_desk.proofs.clerk.Clerk.apply_with.Goals as goal
 

@@ -2,7 +2,7 @@ use Rattle.std.proofs.Common.{List, option_copied, subst, Err, ◌≡◌}
 use Rattle.oe_keeper.specs.Keeping.{IfFailed, Rose}
 use Rattle.oe_keeper.specs.declared.change.RowChange.{RowChange}
 use Rattle.oe_keeper.specs.declared.keeper.KeepErr.{KeepErr}
-use Rattle.filing_desk.specs.Loads.{HasRenewed}
+use Rattle.desk_receipts.specs.Renewals.{HasRenewed}
 use Rattle.filing_desk.proofs.Deciding.{opened_now}
 use Rattle.filing_desk.proofs.Opened.{bad_found, later_twice, not_renewed, told_renewed}
 use Rattle.filing_desk.proofs.clerk.Clerk.open.Goals as goal

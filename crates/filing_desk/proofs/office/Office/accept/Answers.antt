@@ -5,7 +5,7 @@ use Rattle.desk_machine.specs.States.{State}
 use Rattle.desk_machine.specs.declared.entry.Entry.{Entry}
 use Rattle.desk_machine.specs.declared.entry.TheConstants.{MOST_CASES}
 use Rattle.desk_tables.specs.Changes.{changes, Fits}
-use Rattle.filing_desk.proofs.Unasked.{carried, not_served, served}
+use Rattle.filing_desk.proofs.Serving.{carried, not_served, served}
 use Rattle.filing_desk.proofs.office.Office.accept.Goals as goal
 
 pub returns-in-Ok-take-clause-serves : goal.returns-in-Ok-take-clause-serves

@@ -7,10 +7,10 @@ use Rattle.desk_machine.specs.Marks.{Goes, IsPresent}
 use Rattle.desk_machine.proofs.Going.{acted_goes}
 use Rattle.desk_machine.proofs.Presence.{acted_present}
 use Rattle.desk_tables.specs.Changes.{HasRoom}
-use Rattle.filing_desk.specs.Handed.{Serves}
+use Rattle.filing_desk.specs.Served.{Serves}
 use Rattle.filing_desk.proofs.Causes.{no_fault_of_act}
 use Rattle.filing_desk.proofs.Rooms.{acted_room}
-use Rattle.filing_desk.proofs.Unasked.{unasked_for, unserved}
+use Rattle.filing_desk.proofs.Serving.{unasked_for, unserved}
 use Rattle.filing_desk.proofs.Deciding.{known_as, new_as}
 use Rattle.filing_desk.proofs.office.Office.apply.Goals as goal
 

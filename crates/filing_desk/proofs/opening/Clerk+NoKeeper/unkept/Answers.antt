@@ -1,4 +1,4 @@
-use Rattle.filing_desk.proofs.Unasked.{told_by_none}
+use Rattle.filing_desk.proofs.Serving.{told_by_none}
 use Rattle.filing_desk.proofs.opening.Clerk+NoKeeper.unkept.Goals as goal
 
 pub empty-requires-clause-told : goal.empty-requires-clause-told

@@ -1,5 +1,5 @@
 use Rattle.std.proofs.Common.{inr, refl, None}
-use Rattle.http_routes.specs.declared.routes.Routed.TheVariants as routed
+use Rattle.http_messages.specs.declared.routes.Routed.TheVariants as routed
 use Rattle.http_session.specs.Statuses.{status_of}
 use Rattle.http_session.proofs.FrontFacts.{on_err}
 use Rattle.http_session.proofs.front.RoutedReplying.reply.Goals as goal

@@ -1,6 +1,6 @@
 use Rattle.std.proofs.Common.{subst}
 use Rattle.airfield_findings.proofs.EntryFacts.{where_ok}
-use Rattle.filing_desk.specs.Handed.{Told}
+use Rattle.desk_receipts.specs.Handed.{Told}
 use Rattle.line_desk.specs.Desk.{Serving}
 use Rattle.line_desk.proofs.QueryFacts.{err_shown}
 use Rattle.line_desk.proofs.desk.LineDeskAnswering.answer_long.Goals as goal

@@ -2,7 +2,7 @@ use Rattle.std.proofs.Common.{subst}
 use Rattle.airfield_findings.proofs.EntryFacts.{where_ok}
 use Rattle.line_desk.specs.Desk.{Serving}
 use Rattle.line_desk.proofs.QueryFacts.{on_err}
-use Rattle.filing_desk.specs.Handed.{Told}
+use Rattle.desk_receipts.specs.Handed.{Told}
 use Rattle.oe_asof.specs.Sessions.{Dating}
 use Rattle.oe_asof.proofs.ServeFacts.{long_refused}
 use Rattle.oe_asof.proofs.desk.DatedDeskAnswering.answer_long.Goals as goal

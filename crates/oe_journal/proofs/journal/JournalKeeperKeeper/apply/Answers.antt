@@ -1,6 +1,6 @@
 use Rattle.std.proofs.Common.{length, inr, false, refl, sym, ap, subst, ◌∙◌, arith}
 use Rattle.oe_keeper.specs.Kept.{Kept, rows_after_changes}
-use Rattle.change_frames.specs.Frames.{rows_of}
+use Rattle.oe_journal.specs.Frames.{rows_of}
 use Rattle.oe_journal.specs.Standing.{MayStand, IsReady, IsFrame}
 use Rattle.oe_journal.proofs.Loaded.{loaded_of, not_both}
 use Rattle.oe_journal.proofs.Gates.{acknowledged_now}

@@ -1,7 +1,7 @@
 use Rattle.std.proofs.Common.{◌≡◌, inl, inr, true, false, refl, sym, ap, subst, ◌∙◌}
 use Rattle.std.proofs.lemmas.Bool.{cases_Bool}
 use Rattle.crash_disks.specs.Crash.{Passes}
-use Rattle.change_frames.specs.Frames.{rows_of}
+use Rattle.oe_journal.specs.Frames.{rows_of}
 use Rattle.oe_journal.specs.Journal.{IsCutTo}
 use Rattle.oe_journal.specs.Standing.{MayStand}
 use Rattle.oe_journal.proofs.Loaded.{on_err_map, if_ok_both, if_no_memory, if_failed, not_both}

@@ -3,7 +3,7 @@ use Rattle.site_questions.proofs.WayFacts.{refused_long}
 use Rattle.site_questions.proofs.way_desk.WayDeskAnswering.answer_long.Goals as goal
 
 pub returns-clause-reply : goal.returns-clause-reply
-returns-clause-reply g c = on_ok c.append_refused.result (λ t. (_, refused_long c.args.self.now, t)) c.append_refused.ensures.ok
+returns-clause-reply c = on_ok c.append_refused.result (λ t. (_, refused_long c.args.self.now, t)) c.append_refused.ensures.ok
 
 pub returns-clause-made : goal.returns-clause-made
-returns-clause-made g c = on_err c.append_refused.result (_, refused_long c.args.self.now)
+returns-clause-made c = on_err c.append_refused.result (_, refused_long c.args.self.now)

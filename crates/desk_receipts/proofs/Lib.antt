@@ -1,0 +1,4 @@
+pub mod Unasked
+pub mod Indexing
+pub mod Renewing
+pub mod Giving

@@ -1,0 +1,4 @@
+pub mod Keepers
+pub mod Handed
+pub mod Receipts
+pub mod Renewals

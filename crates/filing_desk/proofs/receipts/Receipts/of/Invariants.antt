@@ -1,6 +1,0 @@
-use Rattle.std.proofs.Common.{take}
-use Rattle.filing_desk.specs.Receipts.{IsIndex}
-use Rattle.filing_desk.proofs.receipts.Receipts.of.Given as goal
-
-abbrev pub invariant-loop-place : goal.invariant-loop-place
-invariant-loop-place l = IsIndex l.places (take l.place l.entries.items)

@@ -1,0 +1,17 @@
+use Rattle.std.proofs.Common.{refl}
+use Rattle.matchit.proofs.OnLiterals.{matchit_on_literals}
+use Rattle.http_messages.proofs.SeekFacts.{finds_all}
+use Rattle.http_messages.proofs.routes.Routes.build.Goals as goal
+
+pub invariant_of-result : goal.invariant_of-result
+unfolding matchit_on_literals
+invariant_of-result c = record {
+  found = ∣ rw (
+    c.in_ok-insert-5.ensures.1,
+    c.in_ok-insert-4.ensures.1,
+    c.in_ok-insert-3.ensures.1,
+    c.in_ok-insert-2.ensures.1,
+    c.in_ok-insert.ensures.1,
+    c.new-router.ensures,
+  ) (finds_all _ _ _ _ _ refl refl refl refl refl) ∣₁;
+}

@@ -1,3 +1,0 @@
-pub mod EndFacts
-pub mod RouteFacts
-pub mod SeekFacts

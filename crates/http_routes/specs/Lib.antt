@@ -1,4 +1,0 @@
-pub mod Finds
-pub mod Records
-pub mod Routing
-pub mod Targets

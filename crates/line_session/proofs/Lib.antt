@@ -1,3 +1,0 @@
-pub mod SessionFacts
-pub mod WaitingFacts
-pub mod EndingFacts
