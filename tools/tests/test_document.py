@@ -1,6 +1,7 @@
 """The examples of docs/TOOLS.md and docs/FIVE-MINUTES.md, typed as they stand there, and that each tool says what it is."""
 import importlib.util
 import os
+import re
 import shutil
 import subprocess
 import unittest
@@ -22,13 +23,10 @@ class Typed:
 
 
 def examples() -> list[Typed]:
-    """The commands of the document, each with what it shows."""
+    """The commands of the document, each with what it shows, but those between fences, which docs/check-examples types."""
     out: list[Typed] = []
-    is_fenced = False  # a block of docs/check-examples, which runs it
-    for line in (stored.TOP / "docs" / "TOOLS.md").read_text().splitlines():
-        is_fenced = is_fenced != line.startswith("```")
-        if is_fenced:
-            continue
+    text = (stored.TOP / "docs" / "TOOLS.md").read_text()
+    for line in re.sub(r"^```.*?^```$", "", text, flags=re.M | re.S).splitlines():
         if line.startswith(PROMPT):
             out.append(Typed(line.removeprefix(PROMPT)))
         elif out and line.startswith(INDENT):
