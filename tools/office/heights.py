@@ -65,6 +65,11 @@ class Limit:
         return None if self.height is None else self.height / TENTHS
 
     @cached_property
+    def rules(self) -> str:
+        """What rules, as replies have it: rule, airfield and key."""
+        return "; ".join(" ".join(part for part in (entry.rule.name, entry.airfield, entry.key) if part != NONE) for entry in self.entries) or NONE
+
+    @cached_property
     def of_notice(self) -> "Limit":
         """This as a limit of notice: never, if standards alone are found."""
         return Limit(self.height, noticed(self.entries))

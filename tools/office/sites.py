@@ -134,24 +134,25 @@ def raster(a: GridPoint, b: GridPoint, step: int, ground: int) -> Raster:
     return out
 
 
-def rules_of(limit: Limit) -> str:
-    return "; ".join(" ".join(part for part in (entry.rule.name, entry.airfield, entry.key) if part != NONE) for entry in limit.entries) or NONE
+def tenths_as_feet(tenths: int) -> str:
+    return f"{tenths / TENTHS:.1f}"
 
 
-def cells_of(limit: Limit, ground: int) -> list[str]:
+def cells_of(limit: Limit, ground: int) -> tuple[str, str, str]:
     """Its height above the ground, the top, and what rules."""
     if limit.is_never:
-        return [ANY, ANY, NONE]
-    heights = [NONE, NONE] if limit.height is None else [f"{limit.height / TENTHS:.1f}", f"{(ground + limit.height) / TENTHS:.1f}"]
-    return [*heights, rules_of(limit)]
+        return ANY, ANY, NONE
+    if limit.height is None:
+        return NONE, NONE, limit.rules
+    return tenths_as_feet(limit.height), tenths_as_feet(ground + limit.height), limit.rules
 
 
 COLUMNS = ("east_ft", "north_ft", "ground_ft", "notice_ft", "notice_top_ft", "notice_rule", "standard_ft", "standard_top_ft", "standard_rule")
 
 
-def row_of(heights: Heights) -> list[str]:
+def row_of(heights: Heights) -> tuple[str, ...]:
     place = heights.place
-    return [f"{number / TENTHS:.1f}" for number in (place.x, place.y, place.ground)] + cells_of(heights.notice, place.ground) + cells_of(heights.standard, place.ground)
+    return (tenths_as_feet(place.x), tenths_as_feet(place.y), tenths_as_feet(place.ground), *cells_of(heights.notice, place.ground), *cells_of(heights.standard, place.ground))
 
 
 def as_number(cell: str) -> str | float | None:
@@ -163,13 +164,17 @@ def as_number(cell: str) -> str | float | None:
 
 def table(sites: Sequence[Site], some: Sequence[Heights], grid: "Grid | None") -> str:
     """A table (CSV): names or lengths along a line if there are some, and latitude and longitude if the grid is known."""
-    out, earth = io.StringIO(), grid.on_earth([site.place.feet for site in sites]) if grid else None
-    writer = csv.writer(out, lineterminator="\n")
-    has_names, has_along = any(site.name for site in sites), any(site.along is not None for site in sites)
-    writer.writerow([*(["name"] if has_names else []), *(["along_ft"] if has_along else []), *COLUMNS, *(["lat", "lon"] if earth else [])])
-    for i, (site, heights) in enumerate(zip(sites, some)):
-        row = [*([site.name] if has_names else []), *([site.along] if has_along else []), *row_of(heights)]
-        writer.writerow(row + ([f"{earth[i][1]:.7f}", f"{earth[i][0]:.7f}"] if earth else []))
+    rows: Iterable[tuple[object, ...]] = map(row_of, some)
+    head: tuple[str, ...] = COLUMNS
+    if grid:
+        places = grid.on_earth([site.place.feet for site in sites])
+        rows, head = ((*row, f"{lat:.7f}", f"{lon:.7f}") for row, (lon, lat) in zip(rows, places)), (*head, "lat", "lon")
+    if any(site.along is not None for site in sites):
+        rows, head = ((site.along, *row) for site, row in zip(sites, rows)), ("along_ft", *head)
+    if any(site.name for site in sites):
+        rows, head = ((site.name, *row) for site, row in zip(sites, rows)), ("name", *head)
+    out = io.StringIO()
+    csv.writer(out, lineterminator="\n").writerows([head, *rows])
     return out.getvalue()
 
 
