@@ -1,4 +1,5 @@
 -- The worklists of an office, each with a heading: sqlite3 office.db < docs/worklists.sql   (SQLite 3.38 or later)
+-- While a desk has the file: oe-list office.db --backup copy.db, and then of copy.db.
 -- A case's row is one text with commas; the view gives names to its fields. View and table are temporary: nothing is added to the file.
 .headers on
 .mode column

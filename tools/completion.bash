@@ -20,4 +20,4 @@ _oe_tool() {
 }
 
 complete -o filenames -o default -F _oe oe
-complete -o filenames -o default -F _oe_tool oe-clean oe-convert oe-draw oe-from-nasr oe-from-points oe-high oe-map oe-say
+complete -o filenames -o default -F _oe_tool oe-clean oe-convert oe-draw oe-from-nasr oe-from-points oe-high oe-letter oe-list oe-map oe-say

@@ -2,14 +2,13 @@
 import argparse
 import os
 import shutil
-import sqlite3
 import subprocess
-from contextlib import closing
 from dataclasses import dataclass
 from pathlib import Path
 
-from office import forms, replies, ways
+from office import copies, forms, replies, stores, ways
 from office.faults import Fault
+from office.journals import Rows
 from office.records import BEFORE, Record, read_bytes, record, records
 from office.replies import Accepted, Refusal, Reply
 
@@ -19,6 +18,7 @@ RELEASED = TOP / "oe"  # in a release that was unpacked
 SQLITE = b"SQLite format 3\0"  # how its files begin
 STORED_CALLER = "_office_file_"  # of records that are made from the rows of an office's file
 AIRFIELD_TABLE, RUNWAY_TABLE, DAY_TABLE, CASE_TABLE = 0, 1, 2, 3
+DAY_KEY = "now"
 SITE_IN_CASE = slice(5, 13)  # X to ON in the row of a case (docs/TABLES.md)
 END_OF_CASE = 15  # abandoned, reversed or -
 
@@ -51,60 +51,52 @@ def command_for(some: list[Record]) -> str:
     return "asof" if any(one.form == forms.AS_OF for one in some) else "desk"
 
 
-def ask(desk: str, command: str, content: bytes) -> list[str]:
-    """The lines of the replies of a desk in memory."""
-    done = subprocess.run([desk, command], input=content, stdout=subprocess.PIPE)
+def ask(desk: str, command: str, content: bytes, *words: str) -> list[str]:
+    """The lines of the replies of a desk in memory, or as more words of its command line say."""
+    done = subprocess.run([desk, command, *words], input=content, capture_output=True)
     if done.returncode:
-        raise Fault(f"{desk} {command} ended with status {done.returncode}")
+        why = done.stderr.decode("utf-8", "replace").strip().replace("\n", "; ")
+        raise Fault(f"{desk} {command} ended with status {done.returncode}" + (f": {why}" if why else ""))
     return done.stdout.decode().splitlines()
 
 
-def table(db: str, number: int) -> list[tuple[str, str]]:
-    """Key and value of each row of one table of an office's file."""
-    path = Path(db)
-    if not path.exists():
-        raise Fault(f"{db}: no such file")
-    try:
-        with closing(sqlite3.connect(path.resolve().as_uri() + "?mode=ro", uri=True)) as opened:
-            return opened.execute("SELECT k, v FROM kept WHERE t = ? ORDER BY k", (number,)).fetchall()
-    except sqlite3.Error as error:
-        raise Fault(f"{db}: {error} ({hint(db, str(error))})") from error
+@dataclass(frozen=True)
+class Stored:
+    """The rows of an office's file at one moment, and the file's name."""
+    path: str
+    rows: Rows
+
+    def table(self, number: int) -> list[tuple[str, str]]:
+        return stores.table(self.rows, number)
+
+    def airfields(self) -> list[Record]:
+        """The airfields and runways as records, the airfields first."""
+        airfields = self.table(AIRFIELD_TABLE)
+        if not airfields:
+            raise Fault(f"{self.path} has no airfields (was {copies.log_of(self.path)} left behind when it was copied?)")
+        texts: list[str] = []
+        for key, value in airfields:
+            form, _, rest = value.partition(",")
+            texts.append(f"{form},{STORED_CALLER},{len(texts) + 1},{key},{rest}")
+        for key, value in self.table(RUNWAY_TABLE):
+            texts.append(f"runway,{STORED_CALLER},{len(texts) + 1},{key.replace(' ', ',')},{value}")
+        return [record(BEFORE, text) for text in texts]
+
+    def day(self) -> str | None:
+        """The desk's day, if it has one."""
+        day = self.rows.get((DAY_TABLE, DAY_KEY), "")
+        return day if forms.is_day(day) else None
+
+    def cases(self) -> list[tuple[str, Record]]:
+        """The structures of the cases that were neither abandoned nor reversed, to be screened, each with its number."""
+        rows = [(key, value.split(",")) for key, value in self.table(CASE_TABLE)]
+        return [(key.lstrip("0"), record(BEFORE, ",".join(["screen", *values[SITE_IN_CASE]])))
+                for key, values in rows if values[END_OF_CASE:END_OF_CASE + 1] == [replies.NONE]]
 
 
-def hint(db: str, error: str) -> str:
-    """What mostly lies behind an error of SQLite."""
-    if "locked" in error:
-        return "a desk has it open: end that desk first, or ask it and give its replies as a second file"
-    if "no such table" in error and "kept" in error:
-        return f"was {db}-wal left behind when it was copied? Or it is no file of `oe desk --db`"
-    return "is it a file of `oe desk --db`?"
-
-
-def stored_airfields(db: str) -> list[Record]:
-    """The airfields and runways of an office's file as records, the airfields first."""
-    rows = table(db, AIRFIELD_TABLE)
-    if not rows:
-        raise Fault(f"{db} has no airfields (was {db}-wal left behind when it was copied?)")
-    texts: list[str] = []
-    for key, value in rows:
-        form, _, rest = value.partition(",")
-        texts.append(f"{form},{STORED_CALLER},{len(texts) + 1},{key},{rest}")
-    for key, value in table(db, RUNWAY_TABLE):
-        texts.append(f"runway,{STORED_CALLER},{len(texts) + 1},{key.replace(' ', ',')},{value}")
-    return [record(BEFORE, text) for text in texts]
-
-
-def stored_day(db: str) -> str | None:
-    """The desk's day in an office's file."""
-    day = dict(table(db, DAY_TABLE)).get("now", "")
-    return day if forms.is_day(day) else None
-
-
-def stored_cases(db: str) -> list[tuple[str, Record]]:
-    """The structures of the cases that were neither abandoned nor reversed, to be screened, each with its number."""
-    rows = [(key, value.split(",")) for key, value in table(db, CASE_TABLE)]
-    return [(key.lstrip("0"), record(BEFORE, ",".join(["screen", *values[SITE_IN_CASE]])))
-            for key, values in rows if values[END_OF_CASE] == replies.NONE]
+def stored(path: str | None) -> Stored | None:
+    """An office's file, if one is named."""
+    return Stored(path, stores.read(path)) if path else None
 
 
 def pair_up(some: list[Record], told: list[str], path: str) -> list[Pair]:
@@ -164,12 +156,17 @@ def check_records(content: bytes, path: str) -> None:
         raise Fault(f"{path} is no file of records: no line of it begins with a record's word; {begin}")
 
 
-def pairs_of(args: argparse.Namespace) -> list[Pair]:
-    """The pairs that the arguments of a tool name."""
+def office_of(args: argparse.Namespace) -> Stored | None:
+    """The office's file that the arguments of a tool name, if they name one."""
+    if args.over and args.replies:
+        raise Fault("--over asks a desk now: leave REPLIES out")
+    return stored(args.over)
+
+
+def pairs_of(args: argparse.Namespace, office: Stored | None) -> list[Pair]:
+    """The pairs that the arguments of a tool name, over the airfields of an office if it has one."""
     content, path = (read_bytes(args.records), args.records) if args.records else (b"", "no file")
     if args.replies:
-        if args.over:
-            raise Fault("--over asks a desk now: leave REPLIES out")
         return pair_up(records(content), read_bytes(args.replies).decode("utf-8", "replace").splitlines(), path)
     check_records(content, path)
-    return asked(content, stored_airfields(args.over) if args.over else [], path, program(args.oe))
+    return asked(content, office.airfields() if office else [], path, program(args.oe))

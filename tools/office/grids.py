@@ -7,7 +7,7 @@ from dataclasses import dataclass
 from functools import cached_property
 
 from office.faults import Fault, FinalFault
-from office.records import show
+from office.records import TENTHS, show
 
 try:
     import pyproj
@@ -126,6 +126,14 @@ class Grid:
             raise OffGrid(f"{where} is {show(max(abs(x), abs(y)) / 10, 0)} ft from the origin, and the grid reaches {show(FARTHEST / 10, 0)}; "
                         f"it is at E {show(east, 0)} N {show(north, 0)} of {self.crs.name}")
         return Place(x, y)
+
+    def degrees(self, x: int, y: int) -> tuple[float, float]:
+        """Latitude and longitude of a point on the grid, in tenths of a foot."""
+        east, north = self.in_zone((x / TENTHS, y / TENTHS))
+        lon, lat = self.transformer.transform(east, north, direction="INVERSE")
+        if not (math.isfinite(lat) and math.isfinite(lon)):
+            raise Fault(f"PROJ does not find E {show(east)} N {show(north)} of {self.crs.name} on the earth")
+        return lat, lon
 
     def check_zone(self, lat: float, lon: float, where: str) -> None:
         zone = self.crs.area_of_use

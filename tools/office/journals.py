@@ -22,6 +22,14 @@ def frames(content: bytes) -> Iterator[tuple[int, bytes]]:
         at = end
 
 
+def end_of(content: bytes) -> int:
+    """The place of the first gate that does not count."""
+    end = 0
+    for at, payload in frames(content):
+        end = at + 1 + SIZE + len(payload)
+    return end
+
+
 def text_at(payload: bytes, at: int) -> tuple[str, int]:
     """A key or a row with its length before it, and the place behind it."""
     end = at + SIZE + int.from_bytes(payload[at:at + SIZE], "big")

@@ -18,6 +18,7 @@ FAR_FROM_PUBLISHED = 10  # feet
 ABOVE_AIRPORT, BELOW_AIRPORT = 1, 500  # feet of an end from its airport's elevation, which is that of the highest point of its runways
 EXCHANGED, FAR_FROM_NUMBER = 120, 40  # degrees of a runway from its number; magnetic north is some 20 off at most
 HALF_TURN, FULL_TURN, DEGREES_OF_NUMBER = 180, 360, 10
+WHOLE_DEGREES = re.compile(r"-?[0-9]+")  # as a spreadsheet leaves them that shows no decimals
 RUNWAY_NUMBERS = re.compile(r"(0?[1-9]|[12][0-9]|3[0-6])[A-Z]?/[0-9]{1,2}[A-Z]?")
 STUDY = re.compile(r"([0-9]{4})-([A-Z]+)-([0-9]+)-([A-Z]+)")
 
@@ -172,7 +173,13 @@ class Writer:
 
     def position(self, row: Row) -> tuple[float, float, Place]:
         lat, lon = gathered(partial(angle_in, row, "lat", Axis.LATITUDE), partial(angle_in, row, "lon", Axis.LONGITUDE))
+        self.note_whole_degrees(row)
         return lat, lon, self.grid.place(lat, lon, row.label)
+
+    def note_whole_degrees(self, row: Row) -> None:
+        whole = [f"{column} {row.get(column)}" for column in ("lat", "lon") if WHOLE_DEGREES.fullmatch(row.get(column))]
+        if whole:
+            self.notes.append(f"CAUTION: {row.label}: {' and '.join(whole)} without decimals: were they cut off? A degree of latitude is some 69 miles")
 
     def put_structure(self, point: Point) -> None:
         """A structure to be screened, or the notice of one: 2026-AWP-101-OE is CALLER 2026.AWP and KEY 101.OE."""

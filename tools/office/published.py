@@ -106,7 +106,7 @@ def keep_grid(args: argparse.Namespace, grid: Grid) -> None:
 
 def write_list(args: argparse.Namespace, some: list[dof.Obstacle], records: list[str]) -> str:
     """Which obstacle exceeds which surface, by the replies of a desk in memory over the office's airfields."""
-    before = desk.stored_airfields(args.over)
+    before = desk.stored(args.over).airfields()
     content = "".join(record + "\n" for record in records).encode()
     pairs = desk.asked(content, before, args.dof, desk.program(args.oe))[len(before):]
     rows = dof.exceeding(zip(some, pairs))

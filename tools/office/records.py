@@ -38,12 +38,16 @@ def read_bytes(path: str) -> bytes:
         raise Fault(f"{path}: {error.strerror}") from error
 
 
-def write_text(path: str, text: str) -> None:
+def write_bytes(path: str, content: bytes) -> None:
     try:
-        with open(path, "w", newline="", encoding="utf-8") as file:
-            file.write(text)
+        with open(path, "wb") as file:
+            file.write(content)
     except OSError as error:
         raise Fault(f"{path}: {error.strerror}") from error
+
+
+def write_text(path: str, text: str) -> None:
+    write_bytes(path, text.encode())
 
 
 def lines(content: bytes) -> list[str]:

@@ -41,12 +41,11 @@ def check_arguments(args: argparse.Namespace) -> None:
         raise Fault("--cases wants --over FILE")
 
 
-def filed(args: argparse.Namespace) -> list[Structure]:
+def filed(office: desk.Stored, program: str) -> list[Structure]:
     """The structures of the office's cases, judged over its airfields as they are now."""
-    cases = desk.stored_cases(args.over)
-    before = desk.stored_airfields(args.over)
+    cases = office.cases()
     content = "".join(record.text + "\n" for _, record in cases).encode()
-    pairs = desk.asked(content, before, args.over, desk.program(args.oe))
+    pairs = desk.asked(content, office.airfields(), os.path.basename(office.path), program)
     found, _ = structures(pairs, {})
     for (number, _), one in zip(cases, found):
         one.name = f"case {number}"
@@ -63,12 +62,15 @@ def check_answered(path: str, pairs: list[desk.Pair]) -> None:
 
 
 def shown(args: argparse.Namespace) -> Shown:
-    pairs = desk.pairs_of(args)
+    office = desk.office_of(args)
+    pairs = desk.pairs_of(args, office)
     if args.records:
         check_answered(args.records, pairs)
     register = register_after(pairs)
     found, refused = structures(pairs, read_names(args.names))
-    return Shown(register.airfields, found + (filed(args) if args.cases else []), refused, register.last_change)
+    if args.cases:
+        found += filed(office, desk.program(args.oe))
+    return Shown(register.airfields, found, refused, register.last_change)
 
 
 def source(args: argparse.Namespace) -> str:

@@ -80,7 +80,8 @@ def differences_of_pad(row: Row, kept: Fields) -> list[str]:
 class Office:
     """The airfields of an office's file."""
     def __init__(self, path: str | None):
-        self.kept = {(one.values["ID"], one.values.get("NAME", "")): one for one in desk.stored_airfields(path)} if path else {}
+        office = desk.stored(path)
+        self.kept = {(one.values["ID"], one.values.get("NAME", "")): one for one in office.airfields()} if office else {}
 
     def form(self, airfield: str, runway: str = "") -> str:
         """The form of its record, or nothing if the office does not have it."""

@@ -12,10 +12,15 @@ MISSING = {
     "pyproj": "pyproj is missing (Debian: python3-pyproj): the positions of oe-from-points are not tested",
     "shapely": "shapely is missing (Debian: python3-shapely): the outline of the horizontal surface is not compared with its own, and oe-map is not tested",
     "osgeo": "GDAL is missing (Debian: python3-gdal): the files of oe-map are not read back by it",
+    "openpyxl": "openpyxl is missing (Debian: python3-openpyxl): the sheets of oe-list are not read back",
+    "reportlab": "reportlab is missing (Debian: python3-reportlab): the letters of oe-letter are not tested",
     "contourpy": "contourpy is missing (Debian: python3-contourpy): the contours of oe-high are not compared with its own",
 }
 FILES = {
     "/usr/share/javascript/leaflet": "Leaflet is missing (Debian: libjs-leaflet): the page of oe-map is not tested",
+    "/usr/share/fonts/truetype/liberation": "Liberation's fonts are missing (Debian: fonts-liberation): the letters of oe-letter are not tested",
+    "pdftotext": "pdftotext is missing (Debian: poppler-utils): the words of oe-letter are not read back",
+    "rsvg-convert": "rsvg-convert is missing (Debian: librsvg2-bin): the pictures of oe-letter are not compared with its own",
     "chromium": "chromium is missing: what the page of oe-map says of a place is not tested",
 }
 MISSING_PROGRAMS = {

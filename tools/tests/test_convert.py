@@ -1,7 +1,8 @@
 """oe-convert: a file of one kind to the other, and the bytes of a journal."""
-import fcntl
+import sqlite3
 import subprocess
 import unittest
+from contextlib import closing
 from pathlib import Path
 
 from office import journals, stores
@@ -39,15 +40,16 @@ class Convert(Trial):
         self.fault("must end in .oej", "oe-convert", "office.db", "other.db")
         self.fault("must end in .oej", "oe-convert", "office.oej", "other.oej")
         self.fault("office.db is there", "oe-convert", "office.oej", "office.db")
-        self.fault("there is no none.oej", "oe-convert", "none.oej", "other.db")
+        self.fault("none.oej: no such file", "oe-convert", "none.oej", "other.db")
         for payload in (b"P\2\0", b"P", b"X\2" + b"\0" * 16, b"P\5" + b"\0" * 16, b"P\2" + (1).to_bytes(8, "big") + b"\xff" + b"\0" * 8):
             self.write("bad.oej", b"\1" + len(payload).to_bytes(8, "big") + payload + b"\0")
             self.fault("bad.oej is damaged", "oe-convert", "bad.oej", "other.db")
         self.write("odd.db", b"no database at all, but some bytes" * 40)
         self.fault("odd.db", "oe-convert", "odd.db", "other.oej")
-        with open(self.path("office.oej"), "rb") as held:
-            fcntl.flock(held, fcntl.LOCK_EX)
-            self.fault("a desk has it open", "oe-convert", "office.oej", "other.db")
+        with closing(sqlite3.connect(self.folder / "blob.db")) as made, made:
+            made.execute("CREATE TABLE kept (t, k, v)")
+            made.execute("INSERT INTO kept VALUES (2, 'format', x'33')")
+        self.fault("blob.db: a row of it is no text", "oe-convert", "blob.db", "other.oej")
 
     @unittest.skipUnless(PROGRAM, "no program is named")
     def test_the_desk_answers_the_same(self) -> None:
@@ -61,3 +63,14 @@ class Convert(Trial):
         self.good("oe-convert", "office.oej", "back.db")
         wanted = told("office.db")
         self.assertEqual((told("office.oej"), told("back.db")), (wanted, wanted))
+
+    @unittest.skipUnless(PROGRAM, "no program is named")
+    def test_while_a_desk_has_it(self) -> None:
+        for given, made in (("office.db", "made.oej"), ("office.oej", "made.db")):
+            with subprocess.Popen([str(PROGRAM), "desk", "--db", self.path(given)], stdin=subprocess.PIPE, stdout=subprocess.PIPE) as open_desk:
+                open_desk.stdin.write(b"day,a,9,2026-01-16\n")
+                open_desk.stdin.flush()
+                self.assertEqual(open_desk.stdout.readline(), b"ok,1,published,day\n")
+                self.assertEqual(self.good("oe-convert", given, made).out, f"{made}: 3 rows\n")
+                open_desk.stdin.close()
+            self.assertEqual(stores.read(self.path(made))[2, "now"], "2026-01-16")

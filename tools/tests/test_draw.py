@@ -315,13 +315,16 @@ abandon,a,7,2
         self.assertNotIn("is it mistyped", self.good("oe-say", "-", "--over", self.office, given=b"day,a,8,2026-02-15\n", desk=PROGRAM).out)
 
     def test_an_office_that_is_open(self) -> None:
+        """What a desk has acknowledged is there while it has the file."""
         with subprocess.Popen([PROGRAM, "desk", "--db", self.office], stdin=subprocess.PIPE, stdout=subprocess.PIPE) as open_desk:
-            open_desk.stdin.write(b"day,a,9,2026-01-16\n")
+            open_desk.stdin.write(b"airport,a,9,NEW,public,100,0,1000\n")
             open_desk.stdin.flush()
             self.assertIn(b"ok,8", open_desk.stdout.readline())
-            self.fault("a desk has it open", "oe-say", "-", "--over", self.office, given=b"review\n", desk=PROGRAM)
+            out = self.good("oe-say", "-", "--over", self.office, given=b"airfield,NEW\n", desk=PROGRAM).out
+            self.assertIn("airport, public, reference point 10.0 ft east 0.0 ft north", out)
+            self.assertIn("NEW", self.check(self.good("oe-draw", "--over", self.office, "--cases", desk=PROGRAM).out))
+            self.assertIn("ground 100.0 ft", self.good("oe-high", "--over", self.office, "--at", "100,0", "--ground", "100", desk=PROGRAM).out)
             open_desk.stdin.close()
-        self.good("oe-say", "-", "--over", self.office, given=b"review\n", desk=PROGRAM)
 
     def test_an_office_without_its_log(self) -> None:
         """office.db copied without office.db-wal, while a desk has both, is an empty database."""

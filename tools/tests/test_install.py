@@ -14,7 +14,7 @@ from tests.trial import PROGRAM, TOOLS
 STDOUT = stored.TOP / "crates" / "oe_main" / "stdout"  # the replies of docs/first.csv
 STANDS_FOR_THE_PROGRAM = f"#!/bin/sh\ncat > /dev/null\ncat <<'END'\n{STDOUT.read_text()}END\n"
 DOCS = Path("share", "doc", "oe")
-BESIDE_THE_PROGRAM = {"oe-say", "oe-from-nasr", "oe-from-points", "oe-clean", "oe-draw", "oe-convert", "oe-map", "oe-high"}
+BESIDE_THE_PROGRAM = {"oe-say", "oe-from-nasr", "oe-from-points", "oe-clean", "oe-draw", "oe-convert", "oe-map", "oe-high", "oe-list", "oe-letter"}
 WANTED_FOR_A_PACKAGE = ("git", "dpkg-buildpackage", "dh", "dh_python3")
 
 
@@ -23,6 +23,11 @@ def run_in(folder: Path, *words: str | Path, **variables: str) -> str:
     if done.returncode:
         raise AssertionError(f"{words} ended with status {done.returncode}:\n{done.stdout}")
     return done.stdout
+
+
+def tools_first(top: Path) -> str:
+    """A path on which the tools come first, so that its `install` is tools/install."""
+    return f"{top / 'tools'}:{os.environ['PATH']}"
 
 
 def make_repository(top: Path) -> None:
@@ -58,7 +63,7 @@ class Installed(unittest.TestCase):
         room = Path(folder.name)
         top = room / "repository"
         make_repository(top)
-        run_in(room, top / "tools" / "release", room)
+        run_in(room, top / "tools" / "release", room, PATH=tools_first(top))
         (archive,) = room.glob("oe-*.tar.gz")
         run_in(room, "tar", "xzf", archive)
         cls.release = room / archive.name.removesuffix(".tar.gz")
@@ -66,7 +71,7 @@ class Installed(unittest.TestCase):
         cls.top = top
         cls.prefixes = (room / "from-repository", room / "from-release")
         for source, prefix in zip((top, cls.release), cls.prefixes):
-            run_in(room, source / "tools" / "install", prefix)
+            run_in(room, source / "tools" / "install", prefix, PATH=tools_first(source))
 
     def test_what_is_installed(self) -> None:
         for prefix in self.prefixes:
@@ -162,7 +167,7 @@ class Package(unittest.TestCase):
         top = cls.room / "repository"
         make_repository(top)
         shutil.copy(str(PROGRAM), top / "crates" / "oe_main" / "out" / "oe_main")
-        run_in(cls.room, top / "tools" / "release", "--deb", cls.room)
+        run_in(cls.room, top / "tools" / "release", "--deb", cls.room, PATH=tools_first(top))
         (cls.package,) = cls.room.glob("oe_*.deb")
         cls.version = run_in(cls.room, top / "tools" / "version").strip()
         run_in(cls.room, "dpkg-deb", "-R", cls.package, "made")
@@ -186,7 +191,7 @@ class Package(unittest.TestCase):
 
     def test_what_it_wants_and_its_service(self) -> None:
         fields = run_in(self.room, "dpkg-deb", "-f", self.package, "Depends", "Recommends")
-        for name in ("libc6 (>= ", "python3:any", "adduser", "python3-pyproj"):
+        for name in ("libc6 (>= ", "python3:any", "adduser", "python3-pyproj", "python3-openpyxl", "python3-reportlab"):
             self.assertIn(name, fields)
         units = list((self.room / "made").rglob("*.service"))
         self.assertEqual([path.read_text() for path in units], [(TOOLS / "debian" / "oe.service").read_text()])

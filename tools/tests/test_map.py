@@ -2,7 +2,6 @@
 import importlib.util
 import json
 import math
-import os
 import random
 import re
 import shutil
@@ -19,7 +18,7 @@ from office.replies import Found
 from office.structures import Finding
 from office.surfaces import Area, Look
 from tests import drawn, mapped, stored
-from tests.trial import PROGRAM, TOOLS, Trial
+from tests.trial import PROGRAM, Trial
 
 HAS_PROJ = all(importlib.util.find_spec(name) for name in ("pyproj", "shapely"))
 HAS_GDAL = importlib.util.find_spec("osgeo") is not None
@@ -165,13 +164,7 @@ class Written(Mapped):
         self.write("records", "airport,office,1,AAA,public,0,0,1000\n")
         self.write("replies", "ok,1,published,airport\n")
         for module, package, ending in (("osgeo", "python3-gdal", "gpkg"), ("shapely", "python3-shapely", "kml"), ("pyproj", "python3-pyproj", "kml")):
-            hidden = self.folder / package
-            hidden.mkdir()
-            (hidden / f"{module}.py").write_text("raise ImportError\n")
-            words = [str(TOOLS / "oe-map"), "records", "replies", "--grid", "office.grid", "-o", f"map.{ending}"]
-            done = subprocess.run(words, cwd=self.folder, env={**os.environ, "PYTHONPATH": str(hidden), "PYTHONDONTWRITEBYTECODE": "1"}, capture_output=True, text=True)
-            self.assertEqual((done.returncode, done.stderr.count("\n")), (1, 1), done.stderr)
-            self.assertIn(f"(on Debian: apt-get install {package})", done.stderr)
+            self.assert_wants(module, package, "oe-map", "records", "replies", "--grid", "office.grid", "-o", f"map.{ending}")
 
 
 @unittest.skipUnless(HAS_PROJ and HAS_LEAFLET, "pyproj, shapely or libjs-leaflet is missing")

@@ -226,6 +226,11 @@ class Points(Trial):
             self.assertIn(words, ended.err)
             self.assertEqual("CAUTION" in ended.err, bool(words), ended.err)
 
+    def test_whole_degrees(self) -> None:
+        for lat, lon, words in (("41", "-73.5", "lat 41 without"), ("40.75", "-73", "lon -73 without"), ("41", "-73", "lat 41 and lon -73 without"), ("41-00-00.0N", "-73.0", "")):
+            ended = self.good("oe-from-points", self.write("points.csv", HEAD + f"structure,,Tower,{lat},{lon},30,,,,antenna,250.5,,,\n"), *AT)
+            self.assertEqual(f"CAUTION: points.csv line 2 (Tower): {words} decimals" in ended.err, bool(words), ended.err)
+
     def test_another_datum_is_said(self) -> None:
         ended = self.good("oe-from-points", self.write("points.csv", HEAD + AIRPORT), *AT, "--datum", "EPSG:4326")
         self.assertIn("CAUTION: the latitudes are of WGS 84", ended.err)

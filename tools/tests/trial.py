@@ -3,6 +3,7 @@ import contextlib
 import io
 import os
 import runpy
+import subprocess
 import sys
 import tempfile
 import unittest
@@ -74,3 +75,13 @@ class Trial(unittest.TestCase):
         self.assertEqual(ended.err.count("\n"), 1, ended.err)
         self.assertIn(wanted, ended.err)
         self.assertEqual(ended.out, "")
+
+    def assert_wants(self, module: str, package: str, tool: str, *words: str) -> None:
+        """Runs a tool where a module of Python is missing: it must end with status 1 and one line that names the package of it."""
+        hidden = self.folder / f"without-{module}"
+        hidden.mkdir(exist_ok=True)
+        (hidden / f"{module}.py").write_text("raise ImportError\n")
+        done = subprocess.run([str(TOOLS / tool), *words], cwd=self.folder, env={**os.environ, "PYTHONPATH": str(hidden), "PYTHONDONTWRITEBYTECODE": "1"},
+                              stdin=subprocess.DEVNULL, capture_output=True, text=True)
+        self.assertEqual((done.returncode, done.stdout, done.stderr.count("\n")), (1, "", 1), done.stderr)
+        self.assertIn(f"(on Debian: apt-get install {package})", done.stderr)
